@@ -1,0 +1,98 @@
+// Signed 64-bit arithmetic within the range of numbers.
+ghost use mathlib.Core.Path.{_≡_};
+ghost use Prim.Native.Nat.{_*_, _≤_};
+ghost use lib.Dec.{leb};
+ghost use lib.IntN.{ℤ, pos, negℤ, natAbs, _+ℤ_, _-ℤ_, _*ℤ_};
+ghost use lib.Signed.{remZ, quotZ};
+ghost use Rattle.edition.specs.Limits.{numberBound};
+ghost use Rattle.number.specs.Range.{InRange, inRange, unbias, top};
+use edition::Edition;
+
+const MOST: i64 = Edition::NUMBER as i64;
+
+const LEAST: i64 = -MOST;
+
+// Whether a number is in range.
+pub fn in_range(z: i64) -> bool
+    ensures { λ r. ⌜ r ≡ inRange z ⌝ }
+{
+    LEAST <= z && z <= MOST
+}
+
+// A number's distance from the least number.
+pub fn biased(z: i64) -> u64
+    requires { ⌜ InRange z ⌝ }
+    ensures { λ r. ⌜ (unbias r ≡ z) × (r ≤ top) ⌝ }
+{
+    (z + MOST) as u64
+}
+
+// The number at a distance from the least.
+pub fn unbiased(w: u64) -> i64
+    requires { ⌜ w ≤ top ⌝ }
+    ensures { λ r. ⌜ (r ≡ unbias w) × InRange r ⌝ }
+{
+    w as i64 - MOST
+}
+
+pub fn sum(a: i64, b: i64) -> i64
+    requires { ⌜ InRange a × InRange b ⌝ }
+    ensures { λ r. ⌜ r ≡ a +ℤ b ⌝ }
+{
+    a + b
+}
+
+pub fn difference(a: i64, b: i64) -> i64
+    requires { ⌜ InRange a × InRange b ⌝ }
+    ensures { λ r. ⌜ r ≡ a -ℤ b ⌝ }
+{
+    a - b
+}
+
+pub fn product(a: i64, b: i64) -> i64
+    requires { ⌜ natAbs a * natAbs b ≤ numberBound ⌝ }
+    ensures { λ r. ⌜ r ≡ a *ℤ b ⌝ }
+{
+    a * b
+}
+
+// The quotient, rounded toward 0.
+pub fn quotient(a: i64, b: i64) -> i64
+    requires { ⌜ InRange a × (b ≡ pos 0 → ⊥) ⌝ }
+    ensures { λ r. ⌜ r ≡ quotZ a b ⌝ }
+{
+    a / b
+}
+
+// The remainder of that quotient.
+pub fn rest(a: i64, b: i64) -> i64
+    requires { ⌜ InRange a × (b ≡ pos 0 → ⊥) ⌝ }
+    ensures { λ r. ⌜ r ≡ remZ a b ⌝ }
+{
+    a % b
+}
+
+pub fn negated(a: i64) -> i64
+    requires { ⌜ InRange a ⌝ }
+    ensures { λ r. ⌜ r ≡ negℤ a ⌝ }
+{
+    -a
+}
+
+// A number without its sign.
+pub fn magnitude(a: i64) -> u64
+    requires { ⌜ InRange a ⌝ }
+    ensures { λ r. ⌜ r ≡ natAbs a ⌝ }
+{
+    if a < 0 { (-a) as u64 } else { a as u64 }
+}
+
+// Whether a product is in range, by its factors' magnitudes: the product itself may pass 64 bits.
+pub fn product_fits(p: u64, q: u64) -> bool
+    ensures { λ r. ⌜ r ≡ leb (p * q) numberBound ⌝ }
+{
+    if q == 0 {
+        return true;
+    }
+    p <= Edition::NUMBER / q
+}
