@@ -1,7 +1,7 @@
 -- The distance from the least number: which number it stands for, and the tests of range.
 use mathlib.Core.Path.{_≡_, refl, sym, ap, _∙_}
 use mathlib.Core.Bool.{true, false}
-use Prim.Native.Nat.{ℕ, suc, _+_, _-_, _*_, _≤_, _<_, _^_}
+use Prim.Native.Nat.{ℕ, zero, suc, _+_, _-_, _*_, _≤_, _<_, _^_}
 use native.Mathlib.Decide.{decLe}
 use native.Mathlib.Omega.{arith}
 use lib.IntN.{ℤ, pos, negsuc, negℤ, natAbs, _+ℤ_, _-ℤ_}
@@ -39,6 +39,16 @@ up-down (pos n) h =
 up-down (negsuc n) h =
     let e : numberBound - suc (numberBound - suc n) ≡ n = omega arith in
     unbias-below (numberBound - suc n) (omega arith) ∙ ap negsuc e
+
+-- a number by its size and sign
+pub unbias-plus : (n : ℕ) → unbias (numberBound + n) ≡ pos n
+unbias-plus n =
+    let e : numberBound + n - numberBound ≡ n = omega arith in
+    unbias-above (numberBound + n) (omega arith) ∙ ap pos e
+
+pub unbias-minus : (n : ℕ) → n ≤ numberBound → unbias (numberBound - n) ≡ negℤ (pos n)
+unbias-minus zero h = unbias-plus zero
+unbias-minus (suc n) h = up-down (negsuc n) h
 
 pub up-top : (z : ℤ) → natAbs z ≤ numberBound → up z ≤ top
 up-top (pos n) h = omega arith

@@ -1,0 +1,5 @@
+-- What the contracts on bytes cite.
+pub mod Parts
+pub mod Words
+pub mod Order
+pub mod First

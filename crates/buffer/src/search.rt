@@ -1,0 +1,89 @@
+// Comparison of byte strings, and the first place of a byte or of a part.
+ghost use mathlib.Core.Path.{_≡_};
+ghost use Prim.Native.Nat.{_+_, _≤_};
+ghost use lib.ListN.{length};
+ghost use Rattle.buffer.specs.Order.{ordering, equalBytes};
+ghost use Rattle.buffer.specs.First.{firstByte, firstPart, foundOf};
+
+// How one byte string stands to another.
+pub enum Order {
+    Less,
+    Equal,
+    Greater,
+}
+
+// Where something was found.
+pub enum Found {
+    At(usize),
+    Nothing,
+}
+
+// The order of `a` to `b`.
+pub fn compare(a: &[u8], b: &[u8]) -> Order
+    ensures { λ r. ⌜ r ≡ ordering (now (a .entry)) (now (b .entry)) ⌝ }
+{
+    let mut k = 0;
+    while k < a.len() {
+        if b.len() <= k {
+            return Order::Greater;
+        }
+        if a[k] < b[k] {
+            return Order::Less;
+        }
+        if b[k] < a[k] {
+            return Order::Greater;
+        }
+        k += 1;
+    }
+    if k < b.len() {
+        return Order::Less;
+    }
+    Order::Equal
+}
+
+// Whether `a` and `b` have the same bytes.
+pub fn equal(a: &[u8], b: &[u8]) -> bool
+    ensures { λ r. ⌜ r ≡ equalBytes (now (a .entry)) (now (b .entry)) ⌝ }
+{
+    if a.len() != b.len() {
+        return false;
+    }
+    let mut k = 0;
+    while k < a.len() {
+        if a[k] != b[k] {
+            return false;
+        }
+        k += 1;
+    }
+    true
+}
+
+// The index of the first `b` of `s`, or the length of `s` where there is none.
+pub fn first_byte(s: &[u8], b: u8) -> usize
+    ensures { λ r. ⌜ r ≡ firstByte b (now (s .entry)) ⌝ }
+{
+    let mut k = 0;
+    while k < s.len() {
+        if s[k] == b {
+            return k;
+        }
+        k += 1;
+    }
+    k
+}
+
+// The first index of `s` at which `t` stands. An empty `t` stands at index 0.
+pub fn find(s: &[u8], t: &[u8]) -> Found
+    ensures { λ r. ⌜ foundOf r ≡ firstPart (now (t .entry)) (now (s .entry)) ⌝ }
+{
+    let mut k = 0;
+    let mut e = t.len();
+    while e <= s.len() {
+        if equal(&s[k..e], t) {
+            return Found::At(k);
+        }
+        k += 1;
+        e += 1;
+    }
+    Found::Nothing
+}

@@ -1,0 +1,6 @@
+-- Laws and theorems on numerals.
+pub mod Runs
+pub mod Values
+pub mod Prefixes
+pub mod Judging
+pub mod Decimals

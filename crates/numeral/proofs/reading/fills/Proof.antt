@@ -1,0 +1,17 @@
+-- `fills`: by the test of the length.
+use borrow.Author.Tests.{eq-eqb, ne-eqb}
+use borrow.Author.Needs.{needs}
+use Rattle.numeral.proofs.reading.fills.Statement.{statement}
+use Rattle.numeral.proofs.reading.fills.Tie as tie
+
+returns : tie.Need-returns
+returns c = simp (eq-eqb _ _ (c .if1 .taken))
+
+add-result : tie.Need-add-result
+add-result c = search needs
+
+returns-2 : tie.Need-returns-2
+returns-2 c = simp (ne-eqb _ _ (c .if1 .left))
+
+pub fills-spec : {M : Type 1} → statement M
+fills-spec = tie.close (tie.spec returns add-result returns-2)

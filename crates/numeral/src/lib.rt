@@ -1,0 +1,12 @@
+// Texts as numbers and numbers as texts.
+mod decimal;
+mod digits;
+mod prefix;
+mod reading;
+
+pub use decimal::DECIMAL;
+pub use decimal::decimal_length;
+pub use decimal::write_decimal;
+pub use reading::Reading;
+pub use reading::Value;
+pub use reading::read_number;
