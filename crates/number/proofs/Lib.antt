@@ -2,3 +2,4 @@
 pub mod Integers
 pub mod Bias
 pub mod Quotients
+pub mod Division

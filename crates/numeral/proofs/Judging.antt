@@ -132,6 +132,10 @@ unfolding prefixNumber
 number-by t (yes e) = simp (eq-eqb (prefixLength t) 0 e) (sym (zero-whole (isNegative t) (wholeDigits t) (fractionDigits t) (no-prefix t e)))
 number-by t (no ne) = simp (ne-eqb (prefixLength t) 0 ne)
 
+-- no digit is 0 too, so the case without a prefix needs no judgement of its own
+pub number-judged : (t : List ℕ) → prefixNumber t ≡ judged (isNegative t) (wholeDigits t) (fractionDigits t)
+number-judged t = number-by t (ℕ-discrete (prefixLength t) 0)
+
 -- what the code judges by is a text's number
 pub prefix-judged : (t : List ℕ) {negative : Bool} {w f : ℕ} → negative ≡ isNegative t → w ≡ capped (digitsValue (wholeDigits t))
     → f ≡ capped (digitsValue (fractionDigits t)) → judgedBy negative w f ≡ prefixNumber t
@@ -139,4 +143,4 @@ prefix-judged t en ew ef =
     rw (en, ew, ef)
     (capped-judged (isNegative t) (digitsValue (wholeDigits t)) (digitsValue (fractionDigits t))
     ∙ sym (judged-is (isNegative t) (wholeDigits t) (fractionDigits t) (fraction-all t))
-    ∙ sym (number-by t (ℕ-discrete (prefixLength t) 0)))
+    ∙ sym (number-judged t))

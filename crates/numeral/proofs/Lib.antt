@@ -4,3 +4,6 @@ pub mod Values
 pub mod Prefixes
 pub mod Judging
 pub mod Decimals
+pub mod Numerals
+pub mod Look
+pub mod RoundTrip

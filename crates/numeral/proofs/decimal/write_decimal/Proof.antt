@@ -44,7 +44,7 @@ write-digits-requires-2 : tie.Need-write-digits-requires-2
 write-digits-requires-2 c κs = (c .before .digit-count2 .ensures, omega (arith, ap length (text-above (c .before .before .before .before .args .w) (c .before .before .if1 .left))))
 
 same-length : tie.Need-same-length
-same-length c = c .before .before .write-digits .kept .0 ∙ length-set (c .before .before .before .before .before .before .before .args .out .now) (c .before .before .before .before .before .before .before .args .at) 45
+same-length c = c .before .before .write-digits .kept .0 ∙ simp length-set
 
 returns : tie.Need-returns
 returns c =

@@ -1,0 +1,32 @@
+// Texts as numbers.
+//
+// Payload: the outcome, the number, 8 bytes, 0 where the outcome is not 0, the length of the numeric prefix, 2 bytes, whether the
+// text looks numeric, and the text.
+use crate::parts;
+use edition::Outcome;
+use numeral::Value;
+
+// Whether a text's number is as the payload says.
+fn valued(v: Value, outcome: u64, number: u64) -> bool {
+    match v {
+        Value::Is(w) => outcome == Outcome::DONE && number == w,
+        Value::OutOfRange => outcome == Outcome::NUMBER_OUT_OF_RANGE && number == 0,
+        Value::NotWhole => outcome == Outcome::NUMBER_NOT_WHOLE && number == 0,
+    }
+}
+
+fn one_or_zero(b: bool) -> u8 {
+    if b { 1 } else { 0 }
+}
+
+pub fn passes(p: &[u8]) -> bool {
+    if p.len() < 12 {
+        return false;
+    }
+    let r = numeral::read_number(&p[12..]);
+    if r.length != parts::short(p, 9) || one_or_zero(r.numeric) != p[11] {
+        return false;
+    }
+    let v = r.value;
+    valued(v, parts::wide(p[0]), parts::word(p, 1))
+}

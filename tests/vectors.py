@@ -1,0 +1,422 @@
+#!/usr/bin/env python3
+"""Writes the cases of the program `vectors`: crates/vectors/data/* and crates/vectors/stdout.
+
+    tests/vectors.py [--reference DIR]
+
+Each run writes the same bytes. What is expected comes from DIR/reference.py (default ../shared/reference, from the repository's root)
+where that has the function, and from Python's own bytes elsewhere.
+
+A group is a function below that gives its payloads, a file data/NAME, a line of stdout, and a module of crates/vectors/src. To add one,
+write the function under @group, in the order of the program's `main`, and the module.
+
+A file is a list of frames: the payload's length, 2 bytes, and the payload. All numbers are unsigned, the low byte first. A number of
+the rules, -2^53 to 2^53, is 8 bytes: what it is above -2^53. Payloads, field by field, with the bytes of each:
+
+    limits      kind 1 (0 a size, 1 an outcome, 2 a constant made of a size), which 1, value 8
+    arithmetic  operator 1 (7 to 11: + - * / %, 12 negation), left 8, right 8, outcome 1, result 8 (0 where the outcome is not 0)
+    reading     outcome 1, number 8 (0 where the outcome is not 0), length of the numeric prefix 2, looks numeric 1, text
+    decimal     number 8, index 2, length of its text 2, room before, room after (the same length)
+    compare     order 1 (0 less, 1 equal, 2 greater), length of the first 2, first, second
+    search      0, byte 1, index 2, text; or 1, found 1, index 2 (0 where not found), length of the part 2, part, text
+    copies      kind 1 (0 copy, 1 copy_within, 2 fill), to 2, from 2, count 2, byte 1, room's length 2, room before, room after, source
+    words       width 1 (8 or 2), index 2, number 8, room before, room after (the same length)
+"""
+import argparse
+import itertools
+import os
+import random
+import struct
+import sys
+
+ROOT = os.path.dirname(os.path.dirname(os.path.abspath(__file__)))
+BIG = 2 ** 53
+GROUPS = []
+ref = None
+
+
+def group(payloads):
+    GROUPS.append(payloads)
+    return payloads
+
+
+def short(n):
+    return struct.pack('<H', n)
+
+
+def word(n):
+    return struct.pack('<Q', n)
+
+
+def biased(z):
+    assert -BIG <= z <= BIG
+    return word(z + BIG)
+
+
+def outcome_of(compute):
+    """The outcome and the number that a computation of the reference gives, as a payload has them."""
+    try:
+        return 0, biased(compute())
+    except ref.Stop as stop:
+        return stop.outcome, word(0)
+
+
+def unique(cases):
+    return list(dict.fromkeys(cases))
+
+
+def signs(z):
+    return [z, -z]
+
+
+def around(z):
+    return [z - 1, z, z + 1]
+
+
+def within(numbers):
+    return unique(z for z in numbers if -BIG <= z <= BIG)
+
+
+def some_number(r):
+    """A number of any magnitude."""
+    return r.choice([1, -1]) * r.randrange(2 ** r.randrange(1, 54))
+
+
+def noise(r, n):
+    return bytes(r.randrange(256) for _ in range(n))
+
+
+# ---------------------------------------------------------------- limits
+
+@group
+def limits():
+    sizes = [ref.FILTER_TEXT, ref.TEXT, ref.RECORD, ref.FIELDS, ref.BIG, ref.USERS, ref.CONSTANTS, ref.ERES, ref.INSTRUCTIONS, ref.DEPTH,
+             ref.NESTING, ref.WORKING, ref.ERE_BYTES, ref.ERE_PLACES, ref.ERE_GROUPS]
+    longest = max(len(ref._text_of(('n', z))) for z in signs(BIG))
+    made = [ref.BIG, 2 * ref.BIG, longest]
+    tables = [sizes, list(range(20)), made]
+    return [bytes([kind, which]) + word(value) for kind, table in enumerate(tables) for which, value in enumerate(table)]
+
+
+# ------------------------------------------------------------ arithmetic
+
+def arithmetic_case(code, a, b):
+    if code == 12:
+        outcome, result = outcome_of(lambda: ref._in_range(-ref._number_of(('n', a)))[1])
+    else:
+        outcome, result = outcome_of(lambda: ref._arithmetic(code, ('n', a), ('n', b))[1])
+    return bytes([code]) + biased(a) + biased(b) + bytes([outcome]) + result
+
+
+def divisors(n, primes):
+    found = [1]
+    for p in primes:
+        found = unique(found + [d * p for d in found if n % (d * p) == 0])
+    return found
+
+
+def bound_sums(r):
+    """Sums and differences on the bounds and beside them."""
+    for _ in range(60):
+        a = some_number(r)
+        for near in around(BIG) + around(-BIG):
+            yield 7, a, near - a
+            yield 8, a, a - near
+            yield 8, near + a, a
+
+
+def bound_products(r):
+    """Products on the bounds and beside them, and quotients back."""
+    pairs = [(2 ** k, 2 ** (53 - k)) for k in range(54)]
+    for n, primes in ((BIG - 1, (6361, 69431, 20394401)), (BIG + 1, (3, 107, 28059810762433))):
+        pairs += [(d, n // d) for d in divisors(n, primes)]
+    for _ in range(60):
+        a = abs(some_number(r)) + 1
+        pairs += [(a, BIG // a), (a, BIG // a + 1), (BIG // a, a)]
+    pairs += [(2 ** k, 2 ** (64 - k)) for k in range(11, 54)]
+    pairs += [(2 ** 32 + 1, 2 ** 32 - 1), (2 ** 53 - 1, 2 ** 53 - 1), (2 ** 40 + 1, 2 ** 24), (2 ** 53, 2 ** 53)]
+    for p, q in pairs:
+        for a, b in itertools.product(signs(p), signs(q)):
+            yield 9, a, b
+            yield 10, a * b, b
+
+
+def quotients(r):
+    """Exact quotients, and ones that are off by a little, with every sign."""
+    for _ in range(120):
+        b = abs(some_number(r)) + 1
+        q = r.randrange(BIG // b + 1)
+        for off in unique([0, 1, b - 1, r.randrange(b)]):
+            for a, d in itertools.product(signs(q * b + off), signs(b)):
+                yield 10, a, d
+                yield 11, a, d
+
+
+@group
+def arithmetic():
+    r = random.Random('arithmetic')
+    magnitudes = [0, 1, 2, 3, 7, 10, 2 ** 11, 94906265, 94906266, 2 ** 31, 2 ** 32, 2 ** 33, 2 ** 52, 2 ** 53 - 2, 2 ** 53 - 1, 2 ** 53]
+    core = unique(z for m in magnitudes for z in signs(m))
+    cases = list(itertools.product((7, 8, 9, 10, 11), core, core))
+    cases += [(code, a, 0) for code in (10, 11) for a in within(z for k in range(54) for n in around(2 ** k) for z in signs(n))]
+    cases += [(12, a, 0) for a in within(core + [z for k in range(54) for n in around(2 ** k) for z in signs(n)])]
+    cases += itertools.chain(bound_sums(r), bound_products(r), quotients(r))
+    cases += [(code, some_number(r), some_number(r)) for code in (7, 8, 9, 10, 11) for _ in range(200)]
+    inside = [(code, a, b) for code, a, b in cases if abs(a) <= BIG and abs(b) <= BIG]
+    return [arithmetic_case(*case) for case in unique(inside)]
+
+
+# --------------------------------------------------------------- reading
+
+def reading_case(text):
+    outcome, number = outcome_of(lambda: ref._number_of(('t', text)))
+    prefix = ref._numeric_prefix(text.lstrip(b' \t'))
+    length = prefix[0] if prefix else 0
+    return bytes([outcome]) + number + short(length) + bytes([ref._looks_numeric(('f', text))]) + text
+
+
+def number_texts():
+    """Forms of numbers, whole and broken, without blanks."""
+    yield from (b'', b'+', b'-', b'.', b'+.', b'-.', b'..', b'5', b'5.', b'.5', b'5.0', b'0.0', b'.0', b'-.0', b'+.0', b'-0', b'+0', b'0', b'00')
+    yield from (b'5.5', b'-5.5', b'5..', b'.5.', b'5.0.0', b'--5', b'+-5', b'-+5', b'++5', b'5-', b'5+5', b'5-5', b'1e3', b'1E3', b'0x10', b'1_0')
+    yield from (b'1,5', b'0.10', b'.00', b'.01', b'-.1', b'+.1', b'10.000', b'e5', b'x', b'inf', b'nan', b'Infinity', b'5e', b'5.e1', b'.e1', b'5f')
+    sizes = [BIG // 10, BIG * 10, 10 ** 15, 10 ** 16 - 1, 10 ** 16, 10 ** 17 - 1, 10 ** 17, 2 ** 63, 2 ** 64 - 1, 2 ** 64, 2 ** 64 + 5]
+    for n in around(BIG) + sizes:
+        for sign, zeros, fraction in itertools.product((b'', b'-', b'+'), (0, 1, 20), (b'', b'.', b'.0', b'.1', b'.000', b'.0001', b'e1')):
+            yield sign + b'0' * zeros + b'%d' % n + fraction
+    # Fraction parts as long as whole ones, and nonzero digits that stand late.
+    for digits in (b'9007199254740991', b'9007199254740992', b'9007199254740993', b'18446744073709551616', b'0' * 40):
+        for whole in (b'', b'0', b'-7', b'9007199254740992', b'9007199254740993'):
+            yield whole + b'.' + digits
+            yield whole + b'.' + digits + b'0'
+            yield whole + b'.000' + digits + b'x'
+    for zeros in (1, 15, 16, 17, 18, 19, 20, 21, 60, 200, 400):
+        for tail in (b'', b'1', b'x', b'1x', b'.1'):
+            yield b'3.' + b'0' * zeros + tail
+            yield b'-' + b'0' * zeros + tail
+            yield b'9007199254740993.' + b'0' * zeros + tail
+
+
+def long_texts(r):
+    """Texts about the size of a text value, and far over it."""
+    for n in (510, 511, 512, 513, 514, 1024, 5000):
+        for whole in (b'0' * n, b' ' * n, b'\t' * n, b'9' * n, b'a' * n, b'.' * n, b'-' * n, b'\x00' * n):
+            yield whole
+        for head, fill, tail in ((b'', b'0', b'7'), (b'-', b'0', b'9007199254740992'), (b'+', b'0', b'9007199254740993'), (b'1.', b'0', b'1'),
+                                 (b'1.', b'0', b''), (b'', b' ', b'12'), (b'12', b' ', b''), (b'12', b'\t', b'x'), (b'12', b' ', b'\n'),
+                                 (b' 12', b'0', b' '), (b'.', b'0', b'5 ')):
+            yield head + fill * (n - len(head) - len(tail)) + tail
+        yield noise(r, n)
+
+
+def framed_texts():
+    """Forms with blanks about them, and bytes that look like blanks and are none."""
+    forms = (b'', b'7', b'-7', b'+.', b'7.', b'.7', b'7.0', b'-7.5', b'9007199254740993', b'7x', b'.', b'-')
+    fronts = (b'', b' ', b'\t', b' \t ', b'\n', b'\r', b'\x0b', b'\x0c', b'\x00', b'\xa0', b' \n', b'\x1f')
+    for form, front, back in itertools.product(forms, fronts, fronts):
+        yield front + form + back
+    for b in range(256):
+        yield from (bytes([b]), bytes([b, 53]), bytes([53, b]), bytes([45, b, 53]), bytes([46, b]), bytes([53, 46, b]), bytes([32, b, 32]))
+    yield from (b'- 7', b'+ 7', b'7 .', b'7 7', b' 7 7 ', b'7. 5', b'1 e', b'- ', b' -', b' . ')
+
+
+def soups(r):
+    for n in range(1, 25):
+        for _ in range(60):
+            yield bytes(r.choice(b'0123456789+-. \tex') for _ in range(n))
+        for _ in range(8):
+            yield bytes(r.choice(b'0059.- ') for _ in range(n))
+        for _ in range(8):
+            yield noise(r, n)
+    for _ in range(400):
+        z = some_number(r)
+        yield r.choice([b'', b' ', b'\t ']) + b'%d' % z + r.choice([b'', b' ', b'.', b'.0', b'.00 ', b'.5', b'a'])
+
+
+@group
+def reading():
+    r = random.Random('reading')
+    return [reading_case(text) for text in unique(itertools.chain(number_texts(), framed_texts(), long_texts(r), soups(r)))]
+
+
+# --------------------------------------------------------------- decimal
+
+def decimal_case(r, z, before, after):
+    text = ref._text_of(('n', z))
+    room = [r.choice([48, 45, 57, 0, 255, r.randrange(256)]) for _ in range(before + len(text) + after)]
+    done = room[:before] + list(text) + room[before + len(text):]
+    return biased(z) + short(before) + short(len(text)) + bytes(room) + bytes(done)
+
+
+@group
+def decimal():
+    r = random.Random('decimal')
+    powers = [10 ** k for k in range(17)] + [2 ** k for k in range(54)] + [k * 10 ** 14 for k in range(1, 91)]
+    numbers = within([0] + [z for p in powers for n in around(p) for z in signs(n)] + list(range(-130, 131)))
+    numbers += [some_number(r) for _ in range(300)]
+    places = ((0, 0), (0, 5), (5, 0), (3, 9), (40, 40))
+    cases = [decimal_case(r, z, 2, 3) for z in unique(numbers)]
+    cases += [decimal_case(r, z, *place) for z in within(signs(BIG) + signs(BIG - 1) + signs(7) + [0, 10, -10, 99, 12345]) for place in places]
+    cases += [decimal_case(r, -BIG, 4079, 0), decimal_case(r, BIG, 0, 4080), decimal_case(r, 0, 4095, 0)]
+    return unique(cases)
+
+
+# --------------------------------------------------------------- compare
+
+def compare_case(a, b):
+    less, equal, greater = (ref._compare(code, ('t', a), ('t', b))[1] for code in (15, 17, 19))
+    assert less + equal + greater == 1
+    return bytes([equal + 2 * greater]) + short(len(a)) + a + b
+
+
+@group
+def compare():
+    r = random.Random('compare')
+    texts = [b'', b'\x00', b'\x00\x00', b'a', b'b', b'ab', b'aba', b'abb', b'\x7f', b'\x80', b'\xff', b'\xff\xff', b'a\x80', b'a\x7f', b'a\x00',
+             b'10', b'9', b' 9', b'A', b'Z', b'\x01', b'\xfe', b'ab\xff', b'b\x00']
+    pairs = list(itertools.product(texts, texts))
+    for n in (1, 2, 7, 8, 9, 15, 16, 17, 31, 33, 100, 511, 512, 513):
+        a = noise(r, n)
+        for at in unique([0, n // 2, n - 1]):
+            b = a[:at] + bytes([(a[at] + r.choice([1, 127, 128, 255])) % 256]) + a[at + 1:]
+            pairs += [(a, b), (b, a)]
+        pairs += [(a, a), (a, a[:-1]), (a[:-1], a), (a, a + b'\x00'), (a + b'\x00', a), (a, b''), (b'', a)]
+    for _ in range(800):
+        a = bytes(r.choice(b'ab\x80') for _ in range(r.randrange(12)))
+        b = a[:r.randrange(len(a) + 1)] + bytes(r.choice(b'ab\x80') for _ in range(r.randrange(4)))
+        pairs += [(a, b)]
+    return [compare_case(a, b) for a, b in unique(pairs)]
+
+
+# ---------------------------------------------------------------- search
+
+def byte_case(b, text):
+    at = text.find(bytes([b]))
+    return bytes([0, b]) + short(len(text) if at < 0 else at) + text
+
+
+def part_case(part, text):
+    at = text.find(part)
+    return bytes([1, at >= 0]) + short(max(at, 0)) + short(len(part)) + part + text
+
+
+@group
+def search():
+    r = random.Random('search')
+    every = bytes(range(256))
+    cases = [byte_case(b, every) for b in every] + [byte_case(b, every[::-1]) for b in every[::5]] + [byte_case(b, b'') for b in (0, 65, 255)]
+    parts = (b'', b'a', b'aa', b'aab', b'ab', b'aba', b'abab', b'\x00', b'\xff', b'\x80\xff', b'aaaaab', b'baaaaa')
+    texts = (b'', b'a', b'aa', b'aaa', b'aaaa', b'aaaab', b'aab', b'ab', b'ba', b'aba', b'abaab', b'aabaaab', b'abacabab', b'ababab', b'xababab',
+             b'aaaaaab', b'baaaaab', b'\x00a', b'a\x00', b'\xff', b'\xff\x80\xff', b'\x80\xff', b'aaaaaaaaaaaaaaab', b'aaaabaaaaab', b'abaabaabab')
+    cases += [part_case(part, text) for part in parts for text in texts]
+    for _ in range(700):
+        text = bytes(r.choice(b'ab') for _ in range(r.randrange(20)))
+        cases += [part_case(bytes(r.choice(b'ab') for _ in range(r.randrange(6))), text), byte_case(r.choice(b'abc'), text)]
+    for n in (1, 2, 16, 100, 511, 512, 513):
+        text = noise(r, n)
+        for k in unique([1, 2, n // 2, n - 1, n]):
+            cases += [part_case(text[:k], text), part_case(text[n - k:], text), part_case(text[1:1 + k], text), part_case(text + b'x', text)]
+        cases += [byte_case(text[-1], text), part_case(b'a' * n + b'b', b'a' * (n + 3) + b'b'), part_case(b'a' * n + b'c', b'a' * (n + 3) + b'b')]
+    return unique(cases)
+
+
+# ---------------------------------------------------------------- copies
+
+def room_case(kind, to, start, count, byte, before, after, source=b''):
+    assert len(before) == len(after)
+    return bytes([kind]) + short(to) + short(start) + short(count) + bytes([byte]) + short(len(before)) + before + after + source
+
+
+def copy_case(r, size, to, count):
+    room, source = noise(r, size), noise(r, count)
+    return room_case(0, to, 0, count, 0, room, room[:to] + source + room[to + count:], source)
+
+
+def within_case(r, size, start, to, count):
+    room = noise(r, size)
+    return room_case(1, to, start, count, 0, room, room[:to] + room[start:start + count] + room[to + count:])
+
+
+def fill_case(r, size, to, count, byte):
+    room = noise(r, size)
+    return room_case(2, to, 0, count, byte, room, room[:to] + bytes([byte]) * count + room[to + count:])
+
+
+@group
+def copies():
+    r = random.Random('copies')
+    cases = []
+    for size in range(6):
+        for count in range(size + 1):
+            for to in range(size - count + 1):
+                cases += [copy_case(r, size, to, count), fill_case(r, size, to, count, r.randrange(256))]
+                cases += [within_case(r, size, start, to, count) for start in range(size - count + 1)]
+    for size in (9, 16, 33, 64, 100):
+        for count in sorted({0, 1, size // 2, size - 1, size}):
+            last = size - count
+            places = unique([0, min(1, last), last // 2, max(last - 1, 0), last])
+            cases += [copy_case(r, size, to, count) for to in places]
+            cases += [fill_case(r, size, to, count, r.choice([0, 255, 97])) for to in places]
+            cases += [within_case(r, size, start, to, count) for start in places for to in places]
+    for size in (511, 512, 513, 4096):
+        cases += [copy_case(r, size, 0, size), copy_case(r, size, size - 3, 3), fill_case(r, size, 0, size, 255), fill_case(r, size, 3, size - 7, 0)]
+        cases += [within_case(r, size, 0, 1, size - 1), within_case(r, size, 1, 0, size - 1), within_case(r, size, 0, 0, size)]
+    for _ in range(800):
+        size = r.randrange(1, 40)
+        count = r.randrange(size + 1)
+        to, start = (r.randrange(size - count + 1) for _ in range(2))
+        cases += [within_case(r, size, start, to, count)]
+        cases += [copy_case(r, size, to, count) if r.random() < 0.5 else fill_case(r, size, to, count, r.randrange(256))]
+    return unique(cases)
+
+
+# ----------------------------------------------------------------- words
+
+def words_case(r, width, at, number, size):
+    room = noise(r, size)
+    return bytes([width]) + short(at) + word(number) + room + room[:at] + number.to_bytes(width, 'little') + room[at + width:]
+
+
+@group
+def words():
+    r = random.Random('words')
+    cases = []
+    for width in (8, 2):
+        top = 256 ** width
+        numbers = [0, top - 1, top // 2, int.from_bytes(bytes(range(1, width + 1)), 'little'), int.from_bytes(b'\x80' * width, 'little')]
+        numbers += [n for k in range(8 * width) for n in around(2 ** k) if n < top] + [255 * 256 ** k for k in range(width)]
+        numbers += [r.randrange(top) for _ in range(100)]
+        for number in unique(numbers):
+            cases += [words_case(r, width, 0, number, width), words_case(r, width, 3, number, width + 7)]
+        for size in (width, width + 1, width + 2, 64, 4096):
+            cases += [words_case(r, width, at, r.randrange(top), size) for at in sorted({0, min(1, size - width), (size - width) // 2, size - width})]
+    return unique(cases)
+
+
+# ----------------------------------------------------------------- files
+
+def main():
+    global ref
+    parser = argparse.ArgumentParser(description=__doc__.split('\n')[0])
+    parser.add_argument('--reference', default=os.path.join(ROOT, '..', 'shared', 'reference'), help='the folder of reference.py')
+    folder = parser.parse_args().reference
+    sys.path.insert(0, folder)
+    sys.dont_write_bytecode = True
+    if hasattr(sys, 'set_int_max_str_digits'):
+        sys.set_int_max_str_digits(0)  # the long texts have thousands of digits
+    import reference
+    ref = reference
+    crate = os.path.join(ROOT, 'crates', 'vectors')
+    os.makedirs(os.path.join(crate, 'data'), exist_ok=True)
+    lines = []
+    for payloads in GROUPS:
+        name, cases = payloads.__name__, payloads()
+        with open(os.path.join(crate, 'data', name), 'wb') as f:
+            f.writelines(short(len(p)) + p for p in cases)
+        lines.append('%s: %d of %d\n' % (name, len(cases), len(cases)))
+    with open(os.path.join(crate, 'stdout'), 'w') as f:
+        f.writelines(lines)
+    sys.stdout.writelines(lines)
+
+
+if __name__ == '__main__':
+    main()
