@@ -1,6 +1,5 @@
 // Comparison of byte strings, and the first place of a byte or of a part.
 ghost use mathlib.Core.Path.{_≡_};
-ghost use Prim.Native.Nat.{_+_, _≤_};
 ghost use lib.ListN.{length};
 ghost use Rattle.buffer.specs.Order.{ordering, equalBytes};
 ghost use Rattle.buffer.specs.First.{firstByte, firstPart, foundOf};

@@ -1,7 +1,7 @@
 -- The distance from the least number: which number it stands for, and the tests of range.
 use mathlib.Core.Path.{_≡_, refl, sym, ap, _∙_}
 use mathlib.Core.Bool.{true, false}
-use Prim.Native.Nat.{ℕ, zero, suc, _+_, _-_, _*_, _≤_, _<_, _^_}
+use Prim.Native.Nat.{ℕ, zero, suc, _+_, _-_, _≤_, _<_, _^_}
 use native.Mathlib.Decide.{decLe}
 use native.Mathlib.Omega.{arith}
 use lib.IntN.{ℤ, pos, negsuc, negℤ, natAbs, _+ℤ_, _-ℤ_}
@@ -39,6 +39,10 @@ up-down (pos n) h =
 up-down (negsuc n) h =
     let e : numberBound - suc (numberBound - suc n) ≡ n = omega arith in
     unbias-below (numberBound - suc n) (omega arith) ∙ ap negsuc e
+
+pub down-up : (w : ℕ) → up (unbias w) ≡ w
+down-up w =
+    elim (decLe numberBound w) [ yes p ↦ omega (arith, ap up (unbias-above w p)) | no p ↦ omega (arith, ap up (unbias-below w (omega arith))) ]
 
 -- a number by its size and sign
 pub unbias-plus : (n : ℕ) → unbias (numberBound + n) ≡ pos n
@@ -89,3 +93,7 @@ module _ {x : ℤ} {w : ℕ} (ok : mag x < 2 ^ 63) (e : x ≡ unbias w) where
 
   pub nonzero-passed : (w ≡ numberBound → ⊥) → toZ w64 (ofZ w64 x) ≡ pos 0 → ⊥
   nonzero-passed ne h = zero-not w ne (ap natAbs (sym (passed ok e) ∙ h))
+
+-- each number has one distance
+pub unbias-same : (v w : ℕ) → unbias v ≡ unbias w → v ≡ w
+unbias-same v w e = sym (down-up v) ∙ ap up e ∙ down-up w

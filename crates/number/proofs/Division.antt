@@ -1,12 +1,12 @@
 -- What `/` and `%` answer, without an operation of the machine: the one quotient and remainder that `Division` allows.
 use mathlib.Core.Path.{_≡_, refl, sym, ap, ap₂, _∙_}
 use mathlib.Core.Logic.{_⊎_, inl, inr, ⊎-elim}
-use mathlib.Core.Bool.{Bool, true, false, true≢false, false≢true}
+use mathlib.Core.Bool.{true, false, true≢false, false≢true}
 use Prim.Native.Nat.{ℕ, zero, suc, _+_, _-_, _*_, _/_, _%_, _≤_, _<_}
 use native.Mathlib.Nat.{mod-lt, div-add-mod, mul-zero, mul-comm, le-mul-of-pos-right}
 use native.Mathlib.Omega.{arith}
 use lib.Arith.{digits-div, digits-mod}
-use lib.IntN.{ℤ, pos, negsuc, negℤ, natAbs, subℕ, _+ℤ_, _*ℤ_, negℤ-negℤ, negℤ-+ℤ, pos-ne-negsuc}
+use lib.IntN.{ℤ, pos, negsuc, negℤ, natAbs, _+ℤ_, _*ℤ_, negℤ-negℤ, negℤ-+ℤ, pos-ne-negsuc}
 use lib.Signed.{quotZ, remZ}
 use borrow.Author.Tests.{le-leb}
 use Rattle.edition.specs.Limits.{numberBound}
@@ -28,9 +28,6 @@ mul-neg (negsuc b) (pos (suc n)) = sym (negℤ-negℤ (pos (suc b * suc n)))
 mul-neg (negsuc b) (negsuc n) = refl
 
 -- ---- the machine's quotient and remainder are a division
-
-abbrev size : ℤ → ℤ → ℕ
-size a b = natAbs b * (natAbs a / natAbs b) + natAbs a % natAbs b
 
 nonzero : (b : ℤ) → (b ≡ pos 0 → ⊥) → 0 < natAbs b
 nonzero (pos zero) h = absurd (h refl)

@@ -1,6 +1,6 @@
 -- What each case of an answer says: document 01's number and value.
 use mathlib.Core.Path.{_≡_}
-use Prim.Native.Nat.{ℕ, _≤_}
+use Prim.Native.Nat.{_≤_}
 use Rattle.edition.specs.Outcomes.{numberOutOfRange, numberNotWhole, divisorZero}
 use Rattle.number.specs.Range.{Answer, number, stop, unbias, top}
 use Rattle.number.specs.declared.arithmetic.Computed.{Computed}

@@ -7,7 +7,7 @@ use lib.IntN.{ℤ, pos, negsuc, negℤ, natAbs, _+ℤ_, _-ℤ_, _*ℤ_}
 use lib.Signed.{quotZ, remZ}
 use lib.Dec.{eqb}
 use Rattle.edition.specs.Outcomes.{numberNotWhole, divisorZero}
-use Rattle.number.specs.Range.{Answer, number, stop, ranged}
+use Rattle.number.specs.Range.{Answer, stop, ranged}
 
 unfoldable pub sumOf : ℤ → ℤ → Answer
 sumOf a b = ranged (a +ℤ b)

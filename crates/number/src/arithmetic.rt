@@ -1,5 +1,4 @@
 // The operators on numbers, by document 01.
-ghost use mathlib.Core.Path.{_≡_};
 ghost use Prim.Native.Nat.{_≤_, _^_};
 ghost use lib.IntN.{natAbs};
 ghost use Rattle.number.specs.Range.{unbias, top, ranged};

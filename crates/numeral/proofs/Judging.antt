@@ -1,14 +1,14 @@
 -- The judgement by values that were cut off is the judgement of the digits.
-use mathlib.Core.Path.{_≡_, refl, sym, ap, ap₂, _∙_}
+use mathlib.Core.Path.{_≡_, refl, sym, ap, _∙_}
 use mathlib.Core.Bool.{Bool, true, false, cond}
 use mathlib.Core.List.{List, [], _∷_}
-use Prim.Native.Nat.{ℕ, zero, suc, _+_, _-_, _*_, _≤_, _<_, min}
+use Prim.Native.Nat.{ℕ, suc, _+_, _≤_, _<_, min}
 use native.Mathlib.Decide.{decLe, ℕ-discrete}
 use native.Mathlib.Omega.{arith}
 use lib.IntN.{pos}
 use lib.ListN.{length, take, drop}
 use lib.Dec.{eqb, ltb}
-use borrow.Author.Tests.{lt-ltb, le-ltb, eq-eqb, ne-eqb, eqb-true, eqb-false}
+use borrow.Author.Tests.{lt-ltb, le-ltb, eq-eqb, ne-eqb, eqb-true}
 use Rattle.edition.specs.Limits.{numberBound}
 use Rattle.edition.specs.Outcomes.{numberOutOfRange, numberNotWhole}
 use Rattle.number.specs.Range.{number, stop}
@@ -16,7 +16,7 @@ use Rattle.numeral.specs.Form.{All, none, more, isDigit, leading, isNega
 use Rattle.numeral.specs.Judgement.{appended, valueAfter, digitsValue, nonzeroDigit, withSign, judged, prefixNumber}
 use Rattle.numeral.specs.Mirror.{capped, judgedBy}
 use Rattle.numeral.proofs.Runs.{digit-range}
-use Rattle.numeral.proofs.Prefixes.{fraction-none, fraction-some, prefix-pointed, prefix-unpointed}
+use Rattle.numeral.proofs.Prefixes.{fraction-none, prefix-pointed, prefix-unpointed}
 
 -- ---- runs are of their kind
 

@@ -2,7 +2,7 @@
 use mathlib.Core.Path.{_≡_, refl, sym, ap, ap₂, subst, _∙_}
 use mathlib.Core.Bool.{Bool, true, false, cond, not, false≢true, true≢false}
 use mathlib.Core.List.{List, [], _∷_, _++_, append-assoc}
-use Prim.Native.Nat.{ℕ, zero, suc, _+_, _-_, _≤_, _<_}
+use Prim.Native.Nat.{ℕ, zero, suc, _+_, _<_}
 use native.Mathlib.Decide.{decLe}
 use native.Mathlib.Omega.{arith}
 use lib.ListN.{length, getD, take, drop, length-append, length-drop, take-append-drop}
@@ -10,7 +10,6 @@ use lib.Seq.{take-all, drop-at, getD-take, getD-append-add, length-take-le}
 use lib.Dec.{eqb}
 use borrow.Author.Tests.{eq-eqb, ne-eqb, eqb-true, eqb-false, not-true}
 use Rattle.numeral.specs.Form.{All, none, more, Maybe, absent, present, Fraction, unpointed, pointed, Numeral, Looks, isBlank, isDigit, isSign, leading, prefixLength, afterBlanks, blankAfter, looksNumeric}
-use Rattle.numeral.proofs.Runs.{leading-le}
 use Rattle.numeral.proofs.Prefixes.{prefix-inside}
 use Rattle.numeral.proofs.Judging.{run-all}
 use Rattle.numeral.proofs.Numerals.{leading-append, digit-no-blank, prefix-numeral, prefix-longest, numeral-some}

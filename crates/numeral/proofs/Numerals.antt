@@ -1,18 +1,18 @@
 -- The longest prefix: what `prefixLength` takes is a numeral, and no longer prefix is one.
 use mathlib.Core.Path.{_≡_, refl, sym, ap, ap₂, subst, _∙_}
-use mathlib.Core.Bool.{Bool, true, false, cond, false≢true, true≢false}
+use mathlib.Core.Bool.{Bool, true, false, cond, false≢true}
 use mathlib.Core.List.{List, [], _∷_, _++_, append-assoc, append-nil}
-use Prim.Native.Nat.{ℕ, zero, suc, _+_, _-_, _≤_, _<_}
-use native.Mathlib.Decide.{decLe, ℕ-discrete}
+use Prim.Native.Nat.{ℕ, _+_, _≤_, _<_}
+use native.Mathlib.Decide.{ℕ-discrete}
 use native.Mathlib.Numerals.{add-one}
 use native.Mathlib.Omega.{arith}
-use lib.ListN.{length, getD, take, drop, length-append, length-take, length-drop, take-append-drop, List·getD-eq-default}
-use lib.Seq.{getD-at, take-add, take-suc, take-at, drop-at, getD-append-add, length-take-le, drop-drop, drop-cons, getD-drop}
+use lib.ListN.{length, getD, take, drop, length-append, take-append-drop, List·getD-eq-default}
+use lib.Seq.{getD-at, take-add, take-suc, take-at, drop-at, length-take-le}
 use lib.Dec.{eqb}
 use borrow.Author.Tests.{eq-eqb, ne-eqb, eqb-true, eqb-false}
 use Rattle.numeral.specs.Form.{All, none, more, Maybe, absent, present, Fraction, unpointed, pointed, Numeral, isBlank, isDigit, isSign, leading, digitsFrom, signLength, wholeDigits, pointAt, hasPoint, fractionDigits, prefixLength}
 use Rattle.numeral.proofs.Runs.{leading-le, digit-range}
-use Rattle.numeral.proofs.Prefixes.{inside, length-digits, sign-inside, point-inside, after-point, fraction-none, fraction-some, prefix-unpointed, prefix-pointed}
+use Rattle.numeral.proofs.Prefixes.{inside, length-digits, fraction-some, prefix-unpointed, prefix-pointed}
 use Rattle.numeral.proofs.Judging.{digits-all}
 
 -- ---- runs in longer texts

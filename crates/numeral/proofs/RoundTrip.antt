@@ -1,16 +1,15 @@
 -- A number's text: its number is the number, it looks numeric, has no needless zero and at most 17 bytes.
-use mathlib.Core.Path.{_≡_, refl, sym, ap, ap₂, subst, _∙_}
-use mathlib.Core.Bool.{Bool, true, false, cond}
+use mathlib.Core.Path.{_≡_, refl, sym, ap, _∙_}
+use mathlib.Core.Bool.{Bool, true, false}
 use mathlib.Core.List.{List, [], _∷_, _++_, append-nil}
-use Prim.Native.Nat.{ℕ, zero, suc, _+_, _-_, _*_, _≤_, _<_}
+use Prim.Native.Nat.{ℕ, suc, _+_, _≤_, _<_}
 use native.Mathlib.Omega.{arith}
-use lib.IntN.{ℤ, pos, negsuc, negℤ, natAbs}
+use lib.IntN.{ℤ, pos, negsuc}
 use lib.ListN.{length, getD, drop, length-append, List·getD-append}
-use lib.Dec.{eqb}
 use borrow.Author.Tests.{le-leb, ne-eqb, le-ltb}
 use Rattle.edition.specs.Limits.{numberBound}
 use Rattle.number.specs.Range.{InRange, number}
-use Rattle.numeral.specs.Form.{All, none, more, Maybe, absent, present, Numeral, Looks, isBlank, isDigit, isSign, leading, wholeDigits, fractionDigits, hasPoint, pointAt, prefixLength, afterBlanks, looksNumeric, isNegative}
+use Rattle.numeral.specs.Form.{All, none, more, Maybe, absent, present, Numeral, Looks, isBlank, isDigit, isSign, leading, wholeDigits, afterBlanks, looksNumeric, isNegative}
 use Rattle.numeral.specs.Judgement.{digitsValue, valueAfter, nonzeroDigit, withSign, judged, prefixNumber, numberOf}
 use Rattle.numeral.specs.Decimal.{decimalDigits, decimalText, Spells, digit, longer}
 use Rattle.numeral.proofs.Runs.{digit-range}

@@ -1,7 +1,6 @@
 // Runs of bytes of one kind at the front of a text.
 ghost use mathlib.Core.Path.{_≡_};
 ghost use Prim.Native.Nat.{_+_, _≤_};
-ghost use lib.ListN.{length};
 ghost use Rattle.edition.specs.Limits.{numberBound};
 ghost use Rattle.numeral.specs.Form.{isBlank, isDigit, leading};
 ghost use Rattle.numeral.specs.Judgement.{appended};

@@ -2,48 +2,35 @@
 //
 // Payload, 26 bytes: the operator by its code in document 01 (7 to 11: + - * / %, 12: negation, which looks at the left operand
 // alone), the left and the right operand, 8 bytes each, the outcome, and the result, 8 bytes, 0 where the outcome is not 0.
-use crate::parts;
 use edition::Outcome;
 use number::Computed;
 
-// An outcome by its number, and a result.
-struct Answer {
-    outcome: u64,
-    result: u64,
-}
-
-fn stopped(outcome: u64) -> Answer {
-    Answer { outcome, result: 0 }
-}
-
-fn answer_of(c: Computed) -> Answer {
+// Whether what an operator gives has the outcome and the result that are expected.
+fn gives(c: Computed, outcome: u64, result: u64) -> bool {
     match c {
-        Computed::Number(result) => Answer {
-            outcome: Outcome::DONE,
-            result,
-        },
-        Computed::OutOfRange => stopped(Outcome::NUMBER_OUT_OF_RANGE),
-        Computed::NotWhole => stopped(Outcome::NUMBER_NOT_WHOLE),
-        Computed::ZeroDivisor => stopped(Outcome::DIVISOR_ZERO),
+        Computed::Number(w) => outcome == Outcome::DONE && result == w,
+        Computed::OutOfRange => outcome == Outcome::NUMBER_OUT_OF_RANGE && result == 0,
+        Computed::NotWhole => outcome == Outcome::NUMBER_NOT_WHOLE && result == 0,
+        Computed::ZeroDivisor => outcome == Outcome::DIVISOR_ZERO && result == 0,
     }
 }
 
-// The answer of an operator; an outcome that no payload has, where an operand is no number or there is no such operator.
-fn computed(code: u8, a: u64, b: u64) -> Answer {
+// The same of the operator with a code, where the operands are numbers and there is such an operator.
+fn computes(code: u8, a: u64, b: u64, outcome: u64, result: u64) -> bool {
     if number::TOP < a {
-        return stopped(u64::MAX);
+        return false;
     }
     if number::TOP < b {
-        return stopped(u64::MAX);
+        return false;
     }
     match code {
-        7 => answer_of(number::add(a, b)),
-        8 => answer_of(number::subtract(a, b)),
-        9 => answer_of(number::multiply(a, b)),
-        10 => answer_of(number::divide(a, b)),
-        11 => answer_of(number::remainder(a, b)),
-        12 => answer_of(number::negate(a)),
-        _ => stopped(u64::MAX),
+        7 => gives(number::add(a, b), outcome, result),
+        8 => gives(number::subtract(a, b), outcome, result),
+        9 => gives(number::multiply(a, b), outcome, result),
+        10 => gives(number::divide(a, b), outcome, result),
+        11 => gives(number::remainder(a, b), outcome, result),
+        12 => gives(number::negate(a), outcome, result),
+        _ => false,
     }
 }
 
@@ -51,6 +38,12 @@ pub fn passes(p: &[u8]) -> bool {
     if p.len() != 26 {
         return false;
     }
-    let got = computed(p[0], parts::word(p, 1), parts::word(p, 9));
-    got.outcome == parts::wide(p[17]) && got.result == parts::word(p, 18)
+    let outcome = cases::wide(p[17]);
+    computes(
+        p[0],
+        cases::word(p, 1),
+        cases::word(p, 9),
+        outcome,
+        cases::word(p, 18),
+    )
 }

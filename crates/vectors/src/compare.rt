@@ -1,7 +1,6 @@
 // Comparison of byte strings.
 //
 // Payload: how the first stands to the second (0 less, 1 equal, 2 greater), the first's length, 2 bytes, the first, the second.
-use crate::parts;
 use buffer::Order;
 
 fn order(o: Order) -> u8 {
@@ -12,16 +11,19 @@ fn order(o: Order) -> u8 {
     }
 }
 
+// Whether `compare` and `equal` say what is expected.
+fn stands(a: &[u8], b: &[u8], expected: u8) -> bool {
+    order(buffer::compare(a, b)) == expected && buffer::equal(a, b) == (expected == 1)
+}
+
 pub fn passes(p: &[u8]) -> bool {
     if p.len() < 3 {
         return false;
     }
-    let n = parts::short(p, 1);
+    let n = cases::short(p, 1);
     if p.len() - 3 < n {
         return false;
     }
     let middle = 3 + n;
-    let a = &p[3..middle];
-    let b = &p[middle..];
-    order(buffer::compare(a, b)) == p[0] && buffer::equal(a, b) == (p[0] == 1)
+    stands(&p[3..middle], &p[middle..], p[0])
 }

@@ -2,11 +2,10 @@
 //
 // Payload: the number, 8 bytes, the index to write at, 2 bytes, the text's length, 2 bytes, the room before and the room after,
 // which have the same length.
-use crate::parts;
-use crate::parts::ROOM;
+use cases::ROOM;
 
-// Writes the number into the room, and compares: the lengths, and the whole room.
-fn writes(room: &mut [u8], at: usize, w: u64, length: usize, after: &[u8]) -> bool {
+// Writes a number into the room, if it fits. Whether its text has the length that is expected.
+fn writes(room: &mut [u8], at: usize, w: u64, length: usize) -> bool {
     if number::TOP < w {
         return false;
     }
@@ -17,30 +16,35 @@ fn writes(room: &mut [u8], at: usize, w: u64, length: usize, after: &[u8]) -> bo
     if room.len() - n < at {
         return false;
     }
-    let written = numeral::write_decimal(room, at, w);
-    n == length && written == length && check::same(room, after)
+    n == length && numeral::write_decimal(room, at, w) == length
+}
+
+// Runs the payload's case on a room that is as before.
+fn changes(p: &[u8], room: &mut [u8]) -> bool {
+    writes(
+        room,
+        cases::short(p, 8),
+        cases::word(p, 0),
+        cases::short(p, 10),
+    )
+}
+
+// Runs the payload's case, and compares the whole room.
+fn runs(p: &[u8], before: &[u8], after: &[u8]) -> bool {
+    let n = before.len();
+    if ROOM < n {
+        return false;
+    }
+    let mut space = io::buffer();
+    let room = &mut space[0..n];
+    cases::load(room, before);
+    changes(p, room) && check::same(room, after)
 }
 
 pub fn passes(p: &[u8]) -> bool {
     if p.len() < 12 {
         return false;
     }
-    let n = (p.len() - 12) / 2;
-    let middle = 12 + n;
-    if ROOM < n {
-        return false;
-    }
-    if p.len() - middle != n {
-        return false;
-    }
-    let mut space = io::buffer();
-    let room = &mut space[0..n];
-    parts::load(room, &p[12..middle]);
-    writes(
-        room,
-        parts::short(p, 8),
-        parts::word(p, 0),
-        parts::short(p, 10),
-        &p[middle..],
-    )
+    let middle = 12 + (p.len() - 12) / 2;
+    runs(p, &p[12..middle], &p[middle..])
 }

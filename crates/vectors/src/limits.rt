@@ -2,7 +2,6 @@
 //
 // Payload, 10 bytes: the kind (0 a size, 1 an outcome, 2 a constant that another crate makes of a size), which of them, and its
 // value, 8 bytes.
-use crate::parts;
 use edition::Edition;
 use edition::Outcome;
 
@@ -62,5 +61,5 @@ pub fn passes(p: &[u8]) -> bool {
         return false;
     }
     let got = value(p[0], p[1]);
-    got != NONE && got == parts::word(p, 2)
+    got != NONE && got == cases::word(p, 2)
 }

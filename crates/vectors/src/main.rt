@@ -7,16 +7,15 @@ mod arithmetic;
 mod compare;
 mod copies;
 mod decimal;
-mod frames;
 mod groups;
 mod limits;
-mod parts;
 mod reading;
 mod search;
+mod walk;
 mod words;
 
-use frames::run;
 use groups::Group;
+use walk::run;
 
 fn main() {
     run(Group::Limits, b"limits");

@@ -2,8 +2,8 @@
 //
 // Payload: the outcome, the number, 8 bytes, 0 where the outcome is not 0, the length of the numeric prefix, 2 bytes, whether the
 // text looks numeric, and the text.
-use crate::parts;
 use edition::Outcome;
+use numeral::Reading;
 use numeral::Value;
 
 // Whether a text's number is as the payload says.
@@ -19,14 +19,21 @@ fn one_or_zero(b: bool) -> u8 {
     if b { 1 } else { 0 }
 }
 
+// Whether what was read is as the payload says.
+fn agrees(p: &[u8], r: Reading) -> bool {
+    if r.length != cases::short(p, 9) {
+        return false;
+    }
+    if one_or_zero(r.numeric) != cases::byte(p, 11) {
+        return false;
+    }
+    let v = r.value;
+    valued(v, cases::wide(cases::byte(p, 0)), cases::word(p, 1))
+}
+
 pub fn passes(p: &[u8]) -> bool {
     if p.len() < 12 {
         return false;
     }
-    let r = numeral::read_number(&p[12..]);
-    if r.length != parts::short(p, 9) || one_or_zero(r.numeric) != p[11] {
-        return false;
-    }
-    let v = r.value;
-    valued(v, parts::wide(p[0]), parts::word(p, 1))
+    agrees(p, numeral::read_number(&p[12..]))
 }

@@ -2,7 +2,6 @@
 //
 // Payload: 0 for a byte, that byte, the index, 2 bytes, the length where there is none, and the text; or 1 for a part, whether it
 // is found, its index, 2 bytes, 0 where it is not, the part's length, 2 bytes, the part and the text.
-use crate::parts;
 use buffer::Found;
 
 fn found(f: Found, is_found: u8, at: usize) -> bool {
@@ -16,14 +15,14 @@ fn finds_byte(p: &[u8]) -> bool {
     if p.len() < 4 {
         return false;
     }
-    buffer::first_byte(&p[4..], p[1]) == parts::short(p, 2)
+    buffer::first_byte(&p[4..], p[1]) == cases::short(p, 2)
 }
 
 fn finds_part(p: &[u8]) -> bool {
     if p.len() < 6 {
         return false;
     }
-    let n = parts::short(p, 4);
+    let n = cases::short(p, 4);
     if p.len() - 6 < n {
         return false;
     }
@@ -31,7 +30,7 @@ fn finds_part(p: &[u8]) -> bool {
     found(
         buffer::find(&p[middle..], &p[6..middle]),
         p[1],
-        parts::short(p, 2),
+        cases::short(p, 2),
     )
 }
 

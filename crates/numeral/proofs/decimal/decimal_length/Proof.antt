@@ -1,5 +1,5 @@
 -- `decimal_length`: by the sign.
-use mathlib.Core.Path.{_≡_, sym, ap, _∙_}
+use mathlib.Core.Path.{ap}
 use native.Mathlib.Omega.{arith}
 use lib.ListN.{length}
 use Rattle.edition.specs.Limits.{numberBound}

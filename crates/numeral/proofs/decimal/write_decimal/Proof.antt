@@ -5,10 +5,9 @@ use Prim.Native.Nat.{ℕ, _+_, _-_, _≤_}
 use native.Mathlib.Omega.{arith}
 use lib.ListN.{length, set, length-set}
 use Rattle.edition.specs.Limits.{numberBound}
-use Rattle.number.specs.Range.{unbias}
 use Rattle.buffer.specs.Parts.{put}
 use Rattle.buffer.proofs.Parts.{put-one, put-append}
-use Rattle.numeral.specs.Decimal.{decimalDigits, decimalText}
+use Rattle.numeral.specs.Decimal.{decimalDigits}
 use Rattle.numeral.proofs.Decimals.{text-below, text-above, length-bound}
 use borrow.Author.Needs.{needs}
 use Rattle.numeral.proofs.decimal.write_decimal.Statement.{statement}

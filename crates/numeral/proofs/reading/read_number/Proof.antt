@@ -1,13 +1,12 @@
 -- `read_number`: the text behind its leading blanks.
 use borrow.Author.Needs.{needs}
-use mathlib.Core.Path.{_≡_, sym, ap, _∙_}
+use mathlib.Core.Path.{ap, _∙_}
 use mathlib.Core.List.{List}
 use Prim.Native.Nat.{ℕ}
 use native.Mathlib.Omega.{arith}
 use lib.ListN.{drop}
-use borrow.Rule.Slice.PartMut.{midOf}
 use Rattle.buffer.proofs.Lent.{tail-lent}
-use Rattle.numeral.specs.Form.{isBlank, leading, afterBlanks, prefixLength, blankAfter, looksNumeric}
+use Rattle.numeral.specs.Form.{isBlank, afterBlanks, prefixLength, blankAfter, looksNumeric}
 use Rattle.numeral.specs.Judgement.{prefixNumber, numberOf}
 use Rattle.numeral.proofs.Runs.{leading-le}
 use Rattle.numeral.proofs.reading.read_number.Statement.{statement}

@@ -1,0 +1,3 @@
+-- The laws on payloads and tallies.
+pub mod Bytes
+pub mod Counting

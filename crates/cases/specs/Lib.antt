@@ -1,0 +1,4 @@
+-- What the contracts on test cases cite.
+pub mod Payload
+pub mod Frames
+pub mod Tally
