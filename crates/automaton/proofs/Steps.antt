@@ -1,0 +1,167 @@
+-- The laws of a step.
+use mathlib.Core.Path.{_≡_, refl, sym, ap, subst, _∙_}
+use mathlib.Core.Bool.{Bool, true, false, true≢false, cond, _&&_, _||_}
+use mathlib.Core.List.{List}
+use Prim.Native.Nat.{ℕ, zero, suc, _+_, _-_, _*_, _/_, _%_, _^_, _≤_, _<_}
+use mathlib.Core.Logic.{_⊎_, inl, inr, ⊎-elim}
+use native.Mathlib.Nat.{le-refl, add-zero, add-suc, add-assoc, le-of-suc-le-suc, eq-or-lt-of-le, mod-lt}
+use native.Mathlib.Omega.{arith}
+use native.Mathlib.Numerals.{add-one}
+use lib.ListN.{getD}
+use lib.Count.{trailingZeros}
+use Rattle.automaton.specs.Table.{bit, mem, row, takesAt, join, noPlace}
+use Rattle.automaton.specs.Walk.{stepWord, put, step}
+use Rattle.automaton.proofs.Trailing.{rest-div, rest-bit, tz-low, tz-high, mem-word}
+use Rattle.automaton.proofs.Digits.{bit-zero, mem-none, mem-cond, or-cases, or-left, or-right, and-both, and-of}
+
+-- ---- a word x of a set, of which the digits below d are done and rest is left
+module _ (t : List ℕ) (b x w : ℕ) (start : List ℕ) where
+  -- digits that are not set, or whose places do not take b, add nothing
+  pub skip : (m n : ℕ) → ((j : ℕ) → j < n → (bit x (m + j) && takesAt t (64 * w + (m + j)) b) ≡ false)
+      → stepWord t b x w start (m + n) ≡ stepWord t b x w start m
+  unfolding stepWord
+  skip m zero h = ap (stepWord t b x w start) (add-zero m)
+  skip m (suc n) h =
+      ap (stepWord t b x w start) (add-suc m n) ∙ one (bit x (m + n)) (takesAt t (64 * w + (m + n)) b) (h n (le-refl (suc n))) ∙ skip m n (λ j g. h j (omega arith))
+    where
+      out : List ℕ
+      out = stepWord t b x w start (m + n)
+
+      one : (c d : Bool) → (c && d) ≡ false → cond c (cond d (join out (row t (64 * w + (m + n) + 2))) out) out ≡ out
+      one true true e = absurd (true≢false e)
+      one true false e = refl
+      one false d e = refl
+
+  passed : (d k : ℕ) → ((j : ℕ) → j < k → bit (x / 2 ^ d) j ≡ false) → stepWord t b x w start (d + k) ≡ stepWord t b x w start d
+  passed d k low = skip d k (λ j g. rw (← rest-bit x d j, low j g))
+
+  module _ (d rest : ℕ) (out : List ℕ) (hd : d ≤ 64) (hr : rest ≡ x / 2 ^ d) (ho : out ≡ stepWord t b x w start d) where
+    pub word-more : (r : List ℕ) → d + trailingZeros 64 rest < 64 → r ≡ put t out b (64 * w + d + trailingZeros 64 rest)
+        → r ≡ stepWord t b x w start (d + trailingZeros 64 rest + 1)
+    unfolding stepWord
+    word-more r h e =
+        let k = trailingZeros 64 rest in
+        let o : out ≡ stepWord t b x w start (d + k) = ho ∙ sym (passed d k (λ j g. rw (← hr) (tz-low 64 rest j g))) in
+        let on : bit x (d + k) ≡ true = sym (rest-bit x d k) ∙ ap (λ (y : ℕ). bit y k) (sym hr) ∙ tz-high 64 rest (omega arith) in
+        rw (add-one, on, ← add-assoc, ← o) e
+
+    pub word-end : rest ≡ 0 → out ≡ stepWord t b x w start 64
+    word-end z =
+        let same : d + (64 - d) ≡ 64 = omega arith in
+        ho ∙ sym (passed d (64 - d) (λ j g. rw (← hr, z) (bit-zero j))) ∙ ap (stepWord t b x w start) same
+
+pub rest-more : (x d k rest : ℕ) → rest ≡ x / 2 ^ d → rest / 2 ^ k / 2 ≡ x / 2 ^ (d + k + 1)
+rest-more x d k rest h = rw h (ap (λ (y : ℕ). y / 2) (rest-div x d k) ∙ rest-div x (d + k) 1)
+
+-- ---- members
+
+-- q comes next after a place below digit n of the word that takes b
+abbrev Word : List ℕ → ℕ → ℕ → ℕ → ℕ → ℕ → Type 0
+Word t b x w n q = (k : ℕ) × (k < n) × (bit x k ≡ true) × (takesAt t (64 * w + k) b ≡ true) × (mem (row t (64 * w + k + 2)) q ≡ true)
+
+module _ (t : List ℕ) (b x w : ℕ) (start : List ℕ) (q : ℕ) (hq : q < 192) where
+  widen : {n : ℕ} → Word t b x w n q → Word t b x w (suc n) q
+  widen s = (s .0, omega (arith, s .1), s .2, s .3, s .4)
+
+  more : (n : ℕ) → mem (stepWord t b x w start (suc n)) q ≡ (mem (stepWord t b x w start n) q || (bit x n && (takesAt t (64 * w + n) b && mem (row t (64 * w + n + 2)) q)))
+  unfolding stepWord
+  more n = pick (bit x n)
+    where
+      out : List ℕ
+      out = stepWord t b x w start n
+
+      or-none : (a : Bool) → a ≡ (a || false)
+      or-none true = refl
+      or-none false = refl
+
+      pick : (c : Bool) → mem (cond c (put t out b (64 * w + n)) out) q ≡ (mem out q || (c && (takesAt t (64 * w + n) b && mem (row t (64 * w + n + 2)) q)))
+      pick true = mem-cond (takesAt t (64 * w + n) b) out (row t (64 * w + n + 2)) q hq
+      pick false = or-none (mem out q)
+
+  pub word-in : (n : ℕ) → mem (stepWord t b x w start n) q ≡ true → (mem start q ≡ true) ⊎ (Word t b x w n q)
+  unfolding stepWord
+  word-in zero h = inl h
+  word-in (suc n) h = ⊎-elim (λ k. ⊎-elim inl (λ s. inr (widen s)) (word-in n k)) new (or-cases _ _ (sym (more n) ∙ h))
+    where
+      new : (bit x n && (takesAt t (64 * w + n) b && mem (row t (64 * w + n + 2)) q)) ≡ true → (mem start q ≡ true) ⊎ (Word t b x w (suc n) q)
+      new k = let l = and-both _ _ k in let m = and-both _ _ (l .1) in inr (n, le-refl (suc n), l .0, m .0, m .1)
+
+  pub word-keeps : (n : ℕ) → mem start q ≡ true → mem (stepWord t b x w start n) q ≡ true
+  unfolding stepWord
+  word-keeps zero h = h
+  word-keeps (suc n) h = more n ∙ or-left _ _ (word-keeps n h)
+
+  pub word-out : (n : ℕ) → Word t b x w n q → mem (stepWord t b x w start n) q ≡ true
+  word-out zero s = absurd (omega (arith, s .1))
+  word-out (suc n) s =
+      more n
+      ∙ ⊎-elim
+      (λ e. or-right (mem (stepWord t b x w start n) q) _
+      (and-of (bit x n) _ (rw e at (s .2)) (and-of (takesAt t (64 * w + n) b) _ (rw e at (s .3)) (rw e at (s .4)))))
+      (λ h. or-left _ _ (word-out n (s .0, h, s .2, s .3, s .4))) (eq-or-lt-of-le (le-of-suc-le-suc (s .1)))
+
+-- q comes next after a place of live that takes b
+abbrev pub Stepped : List ℕ → List ℕ → ℕ → ℕ → Type 0
+Stepped t live b q = (p : ℕ) × (p < 128) × (mem live p ≡ true) × (takesAt t p b ≡ true) × (mem (row t (p + 2)) q ≡ true)
+
+module _ (t live : List ℕ) (b q : ℕ) (hq : q < 192) where
+  half : (w : ℕ) → w < 2 → Word t b (getD live w 0) w 64 q → Stepped t live b q
+  half w h s = (64 * w + s .0, omega (arith, s .1), mem-word live w (s .0) (s .1) ∙ s .2, s .3, s .4)
+
+  pub step-in : mem (step t live b) q ≡ true → Stepped t live b q
+  step-in h =
+      ⊎-elim
+      (λ l. ⊎-elim (λ z. absurd (true≢false (sym z ∙ mem-none q))) (half 0 (omega arith)) (word-in t b (getD live 0 0) 0 noPlace q hq 64 l))
+      (half 1 (omega arith))
+      (word-in t b (getD live 1 0) 1 (stepWord t b (getD live 0 0) 0 noPlace 64) q hq 64 h)
+
+  pub step-out : Stepped t live b q → mem (step t live b) q ≡ true
+  step-out s = by (s .0 / 64) refl
+    where
+      p : ℕ
+      p = s .0
+
+      word : (w : ℕ) → s .0 / 64 ≡ w → Word t b (getD live w 0) w 64 q
+      word w e =
+          let k = s .0 % 64 in
+          let l : k < 64 = mod-lt (s .0) (omega arith) in
+          let z : s .0 ≡ 64 * w + k = omega arith in
+          (k, l, sym (mem-word live w k l) ∙ subst (λ (y : ℕ). mem live y ≡ true) z (s .2), subst (λ (y : ℕ). takesAt t y b ≡ true) z (s .3), subst (λ (y : ℕ). mem (row t (y + 2)) q ≡ true) z (s .4))
+
+      by : (w : ℕ) → s .0 / 64 ≡ w → mem (step t live b) q ≡ true
+      by zero e =
+          word-keeps t b (getD live 1 0) 1 (stepWord t b (getD live 0 0) 0 noPlace 64) q hq 64
+          (word-out t b (getD live 0 0) 0 noPlace q hq 64 (word 0 e))
+      by (suc zero) e = word-out t b (getD live 1 0) 1 (stepWord t b (getD live 0 0) 0 noPlace 64) q hq 64 (word 1 e)
+      by (suc (suc w)) e = absurd (omega (arith, s .1))
+
+-- ---- steps that lead nowhere
+
+pub word-none : (t : List ℕ) (b x w : ℕ) (start : List ℕ) (n : ℕ) → ((j : ℕ) → j < n → (bit x j && takesAt t (64 * w + j) b) ≡ false)
+    → stepWord t b x w start n ≡ start
+unfolding stepWord
+word-none t b x w start zero h = refl
+word-none t b x w start (suc n) h = one (bit x n) (takesAt t (64 * w + n) b) (h n (le-refl (suc n))) ∙ word-none t b x w start n (λ j g. h j (omega arith))
+  where
+    out : List ℕ
+    out = stepWord t b x w start n
+
+    one : (c d : Bool) → (c && d) ≡ false → cond c (cond d (join out (row t (64 * w + n + 2))) out) out ≡ out
+    one true true e = absurd (true≢false e)
+    one true false e = refl
+    one false d e = refl
+
+-- no place of live takes b
+pub step-none : (t live : List ℕ) (b : ℕ) → ((p : ℕ) → p < 128 → (mem live p && takesAt t p b) ≡ false) → step t live b ≡ noPlace
+step-none t live b h =
+    word-none t b (getD live 1 0) 1 (stepWord t b (getD live 0 0) 0 noPlace 64) 64 (off 1 (omega arith))
+    ∙ word-none t b (getD live 0 0) 0 noPlace 64 (off 0 (omega arith))
+  where
+    off : (w : ℕ) → w < 2 → (j : ℕ) → j < 64 → (bit (getD live w 0) j && takesAt t (64 * w + j) b) ≡ false
+    off w l j g = ap (λ (x : Bool). x && takesAt t (64 * w + j) b) (sym (mem-word live w j g)) ∙ h (64 * w + j) (omega arith)
+
+-- no place is live
+pub step-dead : (t live : List ℕ) (b : ℕ) → getD live 0 0 ≡ 0 → getD live 1 0 ≡ 0 → step t live b ≡ noPlace
+step-dead t live b h k =
+    word-none t b (getD live 1 0) 1 (stepWord t b (getD live 0 0) 0 noPlace 64) 64 (λ j g. rw (k, bit-zero j))
+    ∙ word-none t b (getD live 0 0) 0 noPlace 64 (λ j g. rw (h, bit-zero j))

@@ -1,0 +1,82 @@
+// The table's words, sets of places, and a step of the walk.
+ghost use mathlib.Core.Path.{_≡_};
+ghost use Prim.Native.Nat.{_+_, _<_};
+ghost use lib.ListN.{length};
+ghost use Rattle.automaton.specs.Table.{tableWords, placeCount, mem, row, join, takesAt};
+ghost use Rattle.automaton.specs.Walk.{stepWord, put as putOf, step as stepOf};
+use edition::Edition;
+
+// Places of an ERE.
+pub const PLACES: usize = Edition::ERE_PLACES;
+// Words of all rows: row 0 where a match starts at the text's start, row 1 where elsewhere, row p + 2 after the place p.
+pub const ROWS: usize = 3 * (PLACES + 2);
+// Words of all classes, which stand behind the rows: of the place p from ROWS + 4 * p on.
+pub const CLASSES: usize = 4 * PLACES;
+// Behind the classes: the bytes that a match of at least a byte can begin with, in four words.
+pub const BEGIN: usize = ROWS + CLASSES;
+// And a word that is not 0 if a match may be empty.
+pub const EMPTY: usize = BEGIN + 4;
+// Words of a table.
+pub const TABLE: usize = ROWS + CLASSES + 5;
+
+// Whether q is in the set.
+pub fn has(s: [u64; 3], q: usize) -> bool
+    requires { ⌜ q < 192 ⌝ }
+    ensures { λ r. ⌜ r ≡ mem s q ⌝ }
+{
+    (s[q / 64] >> (q % 64)) % 2 == 1
+}
+
+// Whether the place p takes the byte b.
+pub fn takes(t: &[u64], p: usize, b: u8) -> bool
+    requires { ⌜ (length (now t) ≡ tableWords) × (p < placeCount) ⌝ }
+    ensures { λ r. ⌜ r ≡ takesAt (now (t .entry)) p b ⌝ }
+{
+    (t[ROWS + 4 * p + (b / 64) as usize] >> (b % 64)) % 2 == 1
+}
+
+// The set s with row r of the table.
+pub fn with_row(s: [u64; 3], t: &[u64], r: usize) -> [u64; 3]
+    requires { ⌜ (length (now t) ≡ tableWords) × (r < placeCount + 2) ⌝ }
+    ensures { λ x. ⌜ x ≡ join s (row (now (t .entry)) r) ⌝ }
+{
+    [s[0] | t[3 * r], s[1] | t[3 * r + 1], s[2] | t[3 * r + 2]]
+}
+
+// out with the row after the place p, where p takes b.
+pub fn put(t: &[u64], out: [u64; 3], b: u8, p: usize) -> [u64; 3]
+    requires { ⌜ (length (now t) ≡ tableWords) × (p < placeCount) ⌝ }
+    ensures { λ r. ⌜ r ≡ putOf (now (t .entry)) out b p ⌝ }
+{
+    if takes(t, p, b) {
+        return with_row(out, t, p + 2);
+    }
+    out
+}
+
+// The places of word w of a set, which is x, by its set bits.
+pub fn step_word(t: &[u64], b: u8, start: [u64; 3], w: usize, x: u64) -> [u64; 3]
+    requires { ⌜ (length (now t) ≡ tableWords) × (w < 2) ⌝ }
+    ensures { λ r. ⌜ r ≡ stepWord (now (t .entry)) b x w start 64 ⌝ }
+{
+    let mut out = start;
+    let mut rest = x;
+    let mut d: usize = 0;
+    while rest != 0 {
+        let k = u64::trailing_zeros(rest) as usize;
+        let next = put(t, out, b, 64 * w + d + k);
+        out = next;
+        rest = (rest >> k) >> 1;
+        d = d + k + 1;
+    }
+    out
+}
+
+// What may come next after the places of live that take b.
+pub fn step(t: &[u64], live: [u64; 3], b: u8) -> [u64; 3]
+    requires { ⌜ length (now t) ≡ tableWords ⌝ }
+    ensures { λ r. ⌜ r ≡ stepOf (now (t .entry)) live b ⌝ }
+{
+    let out = step_word(t, b, [0u64; 3], 0, live[0]);
+    step_word(t, b, out, 1, live[1])
+}
