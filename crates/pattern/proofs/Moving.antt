@@ -47,7 +47,7 @@ module _ {A B : Type 0} (f : A → B) (ok : B → ℕ → Bool) (text : List ℕ
   pub map-best : (e : Ere A) (from least : ℕ) → bestFrom ok text (mapEre f e) from least ≡ bestFrom (λ a. ok (f a)) text e from least
   map-best e from least = same-answer ok (λ a. ok (f a)) text (mapEre f e) e (leads-mapped e) from least
 
-repeated-move : {R S : ℕ → ℕ → Type 0} → ((i j : ℕ) → R i j → S i j) → {i j : ℕ} → Repeated R i j → Repeated S i j
+pub repeated-move : {R S : ℕ → ℕ → Type 0} → ((i j : ℕ) → R i j → S i j) → {i j : ℕ} → Repeated R i j → Repeated S i j
 repeated-move h done = done
 repeated-move h (more x r) = more (h _ _ x) (repeated-move h r)
 

@@ -1,0 +1,8 @@
+-- Laws on words, on classes, and on reading a bracket.
+pub mod Tests
+pub mod Digits
+pub mod Laws
+pub mod Reading
+pub mod Turns
+pub mod Steps
+pub mod Answers

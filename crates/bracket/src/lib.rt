@@ -1,0 +1,4 @@
+// Brackets of EREs: read from bytes, as four words of bits.
+pub mod brackets;
+pub mod classes;
+pub mod members;

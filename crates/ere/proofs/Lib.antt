@@ -1,0 +1,13 @@
+-- Laws on reading EREs.
+pub mod Leaving
+pub mod Steps
+pub mod Grows
+pub mod RowParts
+pub mod Built
+pub mod Turning
+pub mod Items
+pub mod Moving
+pub mod Atomic
+pub mod Grouping
+pub mod Whole
+pub mod Serving

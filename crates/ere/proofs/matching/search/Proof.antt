@@ -1,0 +1,67 @@
+-- `search`: by what `compile` and `find_from` answer.
+use mathlib.Core.Path.{_≡_, sym, ap, subst, _∙_}
+use mathlib.Core.Bool.{Bool, true, false}
+use Prim.Native.Nat.{ℕ}
+use borrow.Author.Tests.{not-true, not-false}
+use Rattle.automaton.specs.Find.{matchOf, Finds}
+use Rattle.automaton.specs.declared.search.Found.{Found}
+use Rattle.automaton.specs.declared.search.Found.the-variants.{At, Nowhere}
+use Rattle.ere.specs.Answer.{matched, Compiles}
+use Rattle.ere.proofs.Serving.{searched-bad, searched-long, searched-found}
+use Rattle.ere.specs.Answer.{Compiles}
+use borrow.Author.Needs.{needs}
+use Rattle.ere.proofs.matching.search.Statement.{statement}
+use Rattle.ere.proofs.matching.search.Tie as tie
+
+-- `search`: by what `compile` and `find_from` answer.
+
+-- `search`: by what `compile` and `find_from` answer.
+
+slice-aggregate-compile : tie.Need-slice-aggregate-compile
+slice-aggregate-compile c = search needs
+
+compile-requires : tie.Need-compile-requires
+compile-requires c κs = search needs
+
+returns : tie.Need-returns
+returns c = searched-bad 1 (c .before .before .before .before .before .before .args .ere .now) (c .before .before .before .before .before .before .args .text .now) _ (subst (Compiles 1 (c .before .before .before .before .before .before .args .ere .now) _) (not-true _ (c .if1 .taken)) (c .before .before .compile .ensures))
+
+returns-2 : tie.Need-returns-2
+returns-2 c = searched-long 1 (c .before .before .before .before .before .before .before .args .ere .now) (c .before .before .before .before .before .before .before .args .text .now) _ (subst (Compiles 1 (c .before .before .before .before .before .before .before .args .ere .now) _) (not-false _ (c .before .if1 .left)) (c .before .before .before .compile .ensures)) (c .if2 .taken)
+
+slice-aggregate-find-from : tie.Need-slice-aggregate-find-from
+slice-aggregate-find-from c = search needs
+
+find-from-requires : tie.Need-find-from-requires
+find-from-requires c κs = search needs
+
+enum-known-start : tie.Need-enum-known-start
+enum-known-start c = search needs
+
+enum-told : tie.Need-enum-told
+enum-told c = search needs
+
+returns-3 : tie.Need-returns-3
+returns-3 c =
+    ap (λ (x : Found). matched (matchOf x)) (sym (c .before .start .given .1))
+    ∙ searched-found 1 (c .before .before .before .before .before .before .before .before .before .before .before .before .args .ere .now) (c .before .before .before .before .before .before .before .before .before .before .before .before .args .text .now) _ (subst (Compiles 1 (c .before .before .before .before .before .before .before .before .before .before .before .before .args .ere .now) _) (not-false _ (c .before .before .before .before .before .before .if1 .left)) (c .before .before .before .before .before .before .before .before .compile .ensures)) (c .before .before .before .before .before .if2 .left) (λ i h. c .before .before .before .before .before .before .before .before .before .before .shared-slice-known2 .given i .fits) (c .before .before .before .find-from .result) (c .before .before .before .find-from .ensures)
+
+returns-4 : tie.Need-returns-4
+returns-4 c =
+    ap (λ (x : Found). matched (matchOf x)) (sym (c .enum-told .given .1))
+    ∙ searched-found 1 (c .before .before .before .before .before .before .before .before .before .before .before .args .ere .now) (c .before .before .before .before .before .before .before .before .before .before .before .args .text .now) _ (subst (Compiles 1 (c .before .before .before .before .before .before .before .before .before .before .before .args .ere .now) _) (not-false _ (c .before .before .before .before .before .if1 .left)) (c .before .before .before .before .before .before .before .compile .ensures)) (c .before .before .before .before .if2 .left) (λ i h. c .before .before .before .before .before .before .before .before .before .shared-slice-known2 .given i .fits) (c .before .before .find-from .result) (c .before .before .find-from .ensures)
+
+pub search-spec : {M : Type 1} → statement M
+search-spec =
+    tie.close
+    (tie.spec
+    slice-aggregate-compile
+    compile-requires
+    returns
+    returns-2
+    slice-aggregate-find-from
+    find-from-requires
+    enum-known-start
+    enum-told
+    returns-3
+    returns-4)

@@ -1,0 +1,59 @@
+// EREs as tables, and the match of an ERE in a text.
+ghost use mathlib.Core.Path.{_≡_};
+ghost use lib.ListN.{length};
+ghost use Rattle.automaton.specs.Table.{tableWords};
+ghost use Rattle.ere.specs.Answer.{searchOf, Compiles};
+use crate::reader;
+use automaton::Found;
+use edition::Edition;
+
+// What a search answers: a start from 0 and a length, or why there is none.
+pub enum Matched {
+    At(usize, usize),
+    Nothing,
+    BadEre,
+    LongText,
+}
+
+// Reads an ERE into a table, for `automaton::find_from`; whether it is one.
+pub fn compile(ere: &[u8], edition: Edition, t: &mut [u64]) -> bool
+    requires { ⌜ length (now t) ≡ tableWords ⌝ }
+    ensures { λ r. ⌜ Compiles (edition .number) (now (ere .entry)) (now (t .exit)) r ⌝ }
+{
+    let end = ere.len();
+    if Edition::ERE_BYTES < end {
+        return false;
+    }
+    let g = reader::read_group(ere, Edition::ERE_GROUPS, 0, 0, 0, t);
+    if !g.ok {
+        return false;
+    }
+    if g.at < end {
+        return false;
+    }
+    let e = g.entry;
+    let first = e.first;
+    let later = e.later;
+    automaton::put_row(t, 0, first);
+    automaton::put_row(t, 1, later);
+    automaton::seal(t);
+    true
+}
+
+// The leftmost, longest match of the ERE in the text, by edition 1.
+pub fn search(ere: &[u8], text: &[u8]) -> Matched
+    ensures { λ r. ⌜ r ≡ searchOf 1 (now (ere .entry)) (now (text .entry)) ⌝ }
+{
+    let mut t = [0u64; automaton::TABLE];
+    let edition = Edition { number: 1 };
+    if !compile(ere, edition, &mut t) {
+        return Matched::BadEre;
+    }
+    if Edition::TEXT < text.len() {
+        return Matched::LongText;
+    }
+    match automaton::find_from(&t, text, 0, 0) {
+        Found::At(start, length) => Matched::At(start, length),
+        Found::Nowhere => Matched::Nothing,
+    }
+}
