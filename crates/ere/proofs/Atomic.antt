@@ -1,8 +1,8 @@
 -- Atoms that are no groups, by their first byte.
-use mathlib.Core.Path.{_≡_, refl, sym, ap, _∙_}
-use mathlib.Core.Bool.{Bool, true, false, true≢false}
-use mathlib.Core.List.{List, []}
-use mathlib.Core.Option.{Option, some, none}
+use mathlib.Core.Path.{_≡_, sym, _∙_}
+use mathlib.Core.Bool.{true, false, true≢false}
+use mathlib.Core.List.{List}
+use mathlib.Core.Option.{Option, none}
 use Prim.Native.Nat.{ℕ, _+_, _≤_, _<_}
 use native.Mathlib.Omega.{arith}
 use lib.ListN.{length, drop}
@@ -12,7 +12,7 @@ use Rattle.grammar.specs.Bytes.{isPlain}
 use Rattle.grammar.specs.Read.{Got, got, readEscape, onlyByte, readBracket, readAtom}
 use Rattle.bracket.specs.Words.{inClass}
 use Rattle.bracket.specs.declared.brackets.Bracket.{Bracket}
-use Rattle.ere.specs.Atom.{AtomRead, AtomReads}
+use Rattle.ere.specs.Atom.{AtomReads}
 
 module _ {l : List ℕ} {o : Option (Got Class)} (at k : ℕ) (w : List ℕ) where
   pub reads-none : o ≡ none → AtomReads (record { ok = false; next = k; words = w }) l at o

@@ -1,10 +1,9 @@
 -- The ways of `grouped`, by the group's answer and the byte behind it.
-use mathlib.Core.Path.{_≡_, refl, ap, _∙_}
+use mathlib.Core.Path.{_≡_, refl}
 use mathlib.Core.Bool.{Bool, true, false, cond, _&&_}
 use mathlib.Core.List.{List}
 use Prim.Native.Nat.{ℕ, _+_}
 use lib.ListN.{getD}
-use lib.Dec.{eqb}
 use borrow.Author.Tests.{eq-eqb, ne-eqb}
 use Rattle.ere.specs.State.{refusedOf, pushedOf, pushedTable, repeatedOf, repeatedTable, closedPiece, groupedOf, groupedTable}
 use Rattle.ere.specs.declared.rows.Piece.{Piece}

@@ -1,14 +1,14 @@
 -- What is read has at least the places that were read before.
-use mathlib.Core.Path.{_≡_, refl, sym, ap, _∙_}
+use mathlib.Core.Path.{_≡_, refl}
 use mathlib.Core.Bool.{Bool, true, false, cond}
 use mathlib.Core.List.{List, [], _∷_}
 use mathlib.Core.Option.{Option, some, none}
-use Prim.Native.Nat.{ℕ, zero, suc, _+_, _≤_, _<_}
+use Prim.Native.Nat.{ℕ, zero, suc, _+_, _≤_}
 use native.Mathlib.Omega.{arith}
 use lib.ListN.{length}
 use lib.Dec.{eqb}
 use Rattle.pattern.specs.Tree.{Class, Ere, place, bol, eol, star, plus, opt, places}
-use Rattle.grammar.specs.Read.{Got, got, begins, tail, andThen, orElse, Tree, Rest, finished, repeated, afterAtom, afterGroup, afterBar, readGroup, readAtom, readRest}
+use Rattle.grammar.specs.Read.{Got, begins, tail, andThen, orElse, Tree, Rest, finished, repeated, afterAtom, afterGroup, afterBar, readGroup, readAtom, readRest}
 use Rattle.ere.specs.Reading.{restFrom}
 use Rattle.ere.specs.Standing.{sizeOf}
 

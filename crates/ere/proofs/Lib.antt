@@ -2,7 +2,6 @@
 pub mod Leaving
 pub mod Steps
 pub mod Grows
-pub mod RowParts
 pub mod Built
 pub mod Turning
 pub mod Items

@@ -1,26 +1,26 @@
 -- Each kind of turn, as a move from one state to the next.
-use mathlib.Core.Path.{_≡_, refl, sym, ap, ap₂, subst, _∙_}
+use mathlib.Core.Path.{_≡_, refl, sym, ap, subst, _∙_}
 use mathlib.Core.Bool.{Bool, true, false, true≢false, cond, _&&_}
-use mathlib.Core.Logic.{_⊎_, inl, inr, ⊎-elim}
+use mathlib.Core.Logic.{inl, inr}
 use mathlib.Core.List.{List, [], _∷_}
 use mathlib.Core.Option.{Option, some, none}
-use Prim.Native.Nat.{ℕ, zero, suc, _+_, _-_, _≤_, _<_}
+use Prim.Native.Nat.{ℕ, suc, _+_, _-_, _≤_, _<_}
 use native.Mathlib.Nat.{le-refl}
 use native.Mathlib.Omega.{arith}
 use lib.ListN.{length, getD, drop}
 use lib.Dec.{eqb, leb}
-use borrow.Author.Tests.{eqb-true, eq-eqb, leb-true, leb-false}
+use borrow.Author.Tests.{leb-true, leb-false}
 use Rattle.edition.specs.Limits.{erePlaces}
 use Rattle.buffer.proofs.Parts.{drop-next}
 use Rattle.pattern.specs.Tree.{Class, Ere, place, bol, eol, places}
 use Rattle.grammar.specs.Read.{Got, got, begins, tail, andThen, Tree, afterGroup, readGroup, repeated, afterAtom, readAtom, finished, orElse}
 use Rattle.automaton.specs.Table.{tableWords}
-use Rattle.automaton.specs.Build.{linkRows, withClass}
+use Rattle.automaton.specs.Build.{withClass, stops}
 use Rattle.bracket.specs.declared.brackets.Bracket.{Bracket}
-use Rattle.automaton.proofs.Rows.{length-linked, length-row}
-use Rattle.ere.specs.Rows.{stops}
+use Rattle.automaton.proofs.Rows.{length-row}
+use Rattle.automaton.proofs.Writes.{length-class}
 use Rattle.ere.specs.Reading.{restFrom}
-use Rattle.ere.specs.State.{refusedOf, endedOf, barOf, pushedOf, pushedTable, pieceOf, repeatedOf, repeatedTable, loopTable, bolEntry, eolEntry, anchorPiece, anchorOf, anchorTable, closedPiece, groupedOf, groupedTable, leafTable, leafPiece, atomTable, joinEntry, startOf, finishOf, refusedPiece}
+use Rattle.ere.specs.State.{refusedOf, endedOf, barOf, pushedOf, pushedTable, pieceOf, repeatedOf, repeatedTable, bolEntry, eolEntry, anchorPiece, anchorOf, anchorTable, closedPiece, groupedOf, groupedTable, leafTable, leafPiece, atomTable, joinEntry, startOf, finishOf, refusedPiece}
 use Rattle.ere.specs.Built.{Built}
 use Rattle.ere.specs.Standing.{sizeOf, AltsOk, SeqOk, Base, Refuses, unread, many, Standing, Closed, at-end, at-paren, Outcome, Safe, SameBelow, Moves, baseOf, Under, GroupReads, Begins}
 use Rattle.ere.specs.Atom.{AtomRead}
@@ -29,7 +29,7 @@ use Rattle.ere.specs.declared.rows.Piece.{Piece}
 use Rattle.ere.specs.declared.rows.State.{State}
 use Rattle.ere.proofs.Steps.{rest-bol, rest-eol, rest-group, rest-atom, rest-end, rest-close}
 use Rattle.ere.proofs.Grows.{size-or, Grows, from-grows, more-grows, repeated-grows, atom-grows}
-use Rattle.ere.proofs.Built.{built-bol, built-eol, built-leaf, length-class}
+use Rattle.ere.proofs.Built.{built-bol, built-eol, built-leaf}
 use Rattle.ere.proofs.Turning.{alts-more, below-leaf, below-refl, below-trans, below-less, below-linked, standing-below, outcome-ended, outcome-refused, outcome-going, bar-refused, bar-standing, push-standing, begins-at, tail-at, inside, repeatTree, repeat-rest, repeat-places, repeat-built, repeat-hi, repeat-count, repeat-ends, below-repeated, length-repeated}
 
 -- a goal that reads nothing, or more places than there may be
@@ -257,7 +257,7 @@ module _ {l : List ℕ} (n : ℕ) (s : State) (safe : Safe l s) (h : s .at < len
     moves-atom =
         let u = leafTable (s .hi) (r .words) t in
         let small : s .hi < erePlaces = omega (arith, safe .fewer) in
-        let lu : length u ≡ tableWords = length-row (withClass t (s .hi) (r .words)) (s .hi + 2) stops ∙ length-class t (s .hi) (r .words) full small ∙ full in
+        let lu : length u ≡ tableWords = length-row (withClass t (s .hi) (r .words)) (s .hi + 2) stops ∙ length-class t (s .hi) (r .words) ∙ full in
         let ends = repeat-ends l leaf (q .inside) in
         let e : Ere Class = place (q .class) in
         let eh = repeat-hi behind leaf e in

@@ -1,28 +1,23 @@
 -- A table that serves an ERE: what is found with it is what the definition finds.
-use mathlib.Core.Path.{_≡_, refl, sym, ap, subst, _∙_}
+use mathlib.Core.Path.{_≡_, refl, sym, ap, _∙_}
 use mathlib.Core.Bool.{Bool, true, false, cond}
-use mathlib.Core.Logic.{_⊎_, inl, inr, _↔_}
-use mathlib.Core.List.{List, [], _∷_}
-use mathlib.Core.Option.{Option, some, none}
-use Prim.Native.Nat.{ℕ, zero, suc, _+_, _≤_, _<_, zero-le}
-use native.Mathlib.Omega.{arith}
+use mathlib.Core.Logic.{inl, inr}
+use mathlib.Core.List.{List}
+use Prim.Native.Nat.{ℕ, _≤_, _<_, zero-le}
 use lib.ListN.{length, getD, drop}
-use lib.Dec.{leb}
 use borrow.Author.Tests.{le-leb, lt-leb}
 use Rattle.edition.specs.Limits.{textBytes, erePlaces}
 use Rattle.pattern.specs.Tree.{Class, takes, Ere}
-use Rattle.pattern.specs.Meaning.{Leads, Repeated, Match, found, nowhere}
+use Rattle.pattern.specs.Meaning.{Leads}
 use Rattle.pattern.specs.Search.{bestFrom, bestOf}
 use Rattle.pattern.proofs.Moving.{repeated-move, same-answer}
-use Rattle.grammar.specs.Read.{readEre}
 use Rattle.automaton.specs.Table.{takesAt}
 use Rattle.automaton.specs.Find.{matchOf, Finds}
 use Rattle.automaton.specs.declared.search.Found.{Found}
 use Rattle.automaton.proofs.Answers.{answer}
 use Rattle.ere.specs.Built.{Agrees, at-place, at-bol, at-eol, in-cat, in-alt, in-star, in-plus, in-opt}
 use Rattle.ere.specs.Answer.{matched, judged, searchOf, Serves, Compiles, Bytes}
-use Rattle.ere.specs.declared.matching.Matched.{Matched}
-use Rattle.ere.specs.declared.matching.Matched.the-variants.{At, Nothing, BadEre, LongText}
+use Rattle.ere.specs.declared.matching.Matched.the-variants.{BadEre, LongText}
 
 module _ (t text : List ℕ) (bytes : Bytes text) (lo hi : ℕ) where
   -- the numbered tree leads where the tree leads

@@ -1,39 +1,37 @@
 -- One turn of reading a group: what stands before it stands after it, or the definition refuses.
-use mathlib.Core.Path.{_≡_, refl, sym, ap, ap₂, subst, _∙_}
+use mathlib.Core.Path.{_≡_, refl, sym, ap, subst, _∙_}
 use mathlib.Core.Bool.{Bool, true, false, true≢false, cond, _||_}
-use mathlib.Core.Logic.{_⊎_, inl, inr, ⊎-elim, _↔_}
+use mathlib.Core.Logic.{inl}
 use mathlib.Core.List.{List, [], _∷_}
 use mathlib.Core.Option.{Option, some, none}
-use Prim.Native.Nat.{ℕ, zero, suc, _+_, _-_, _*_, _≤_, _<_}
-use native.Mathlib.Nat.{le-refl, sub-self}
+use Prim.Native.Nat.{ℕ, _+_, _-_, _≤_, _<_}
+use native.Mathlib.Nat.{le-refl}
 use native.Mathlib.Decide.{decLe}
 use native.Mathlib.Omega.{arith}
 use lib.ListN.{length, getD, drop, drop-of-length-le, List·getD-eq-default}
 use lib.Dec.{eqb}
-use borrow.Author.Tests.{eqb-true, eq-eqb, ne-eqb}
+use borrow.Author.Tests.{eqb-true, ne-eqb}
 use Rattle.edition.specs.Limits.{erePlaces}
 use Rattle.buffer.proofs.Parts.{drop-next}
-use Rattle.pattern.specs.Tree.{Class, Ere, bol, eol, star, plus, opt, places}
+use Rattle.pattern.specs.Tree.{Class, Ere, star, plus, opt, places}
 use Rattle.grammar.specs.Bytes.{oneOf}
-use Rattle.grammar.specs.Read.{Got, got, begins, tail, andThen, orElse, Tree, afterBar, finished, repeated}
-use Rattle.automaton.specs.Table.{tableWords, row, takesAt}
-use Rattle.automaton.specs.Find.{afterPlace, nextIn}
-use Rattle.automaton.specs.Nexts.{Next}
-use Rattle.automaton.specs.Build.{linkRows, withRow, withClass}
+use Rattle.grammar.specs.Read.{begins, tail, andThen, orElse, afterBar, repeated}
+use Rattle.automaton.specs.Table.{tableWords}
+use Rattle.automaton.specs.Find.{afterPlace}
+use Rattle.automaton.specs.Build.{linkRows, withClass, stops, orStop}
 use Rattle.automaton.proofs.Rows.{linked-out, row-other, length-linked}
 use Rattle.automaton.proofs.Parts.{Kept}
-use Rattle.ere.specs.Rows.{stops, orStop}
 use Rattle.ere.specs.Reading.{restFrom}
 use Rattle.ere.specs.State.{entry, joinEntry, linkEntry, stopEntry, noAlts, noSeq, refusedOf, endedOf, barOf, pushedOf, pushedTable, pieceOf, repeatedOf, loopTable, repeatedTable, leafTable}
-use Rattle.ere.specs.Built.{SameClasses, Built}
-use Rattle.ere.specs.Standing.{sizeOf, Base, Refuses, unread, many, AltsOk, SeqOk, Standing, Closed, Outcome, SameBelow}
+use Rattle.ere.specs.Built.{Built}
+use Rattle.ere.specs.Standing.{sizeOf, Base, Refuses, unread, AltsOk, SeqOk, Standing, Closed, Outcome, SameBelow}
 use Rattle.ere.specs.declared.rows.Entry.{Entry}
 use Rattle.ere.specs.declared.rows.Piece.{Piece}
 use Rattle.ere.specs.declared.rows.State.{State}
-use Rattle.ere.proofs.RowParts.{kept}
+use Rattle.automaton.proofs.Writes.{class-other, class-row, row-class, linked-class}
 use Rattle.ere.proofs.Steps.{rest-bar}
 use Rattle.ere.proofs.Grows.{size-then, size-or}
-use Rattle.ere.proofs.Built.{linked-classes, row-classes, class-other, class-row, built-kept, built-cat, built-star, built-plus, built-opt, built-alt, built-none, built-first}
+use Rattle.ere.proofs.Built.{built-kept, built-cat, built-star, built-plus, built-opt, built-alt, built-none, built-first}
 
 -- ---- tables that differ further up only
 
@@ -48,13 +46,13 @@ below-less l p = record { rows = λ r h. p .rows r (omega arith); classes = λ n
 
 pub below-linked : (t : List ℕ) (lo n : ℕ) (y : List ℕ) → lo + n ≤ erePlaces → SameBelow lo t (linkRows t (lo + 2) n y)
 below-linked t lo n y h =
-    record { rows = λ r k. linked-out t (lo + 2) y n r (inl (omega arith)); classes = λ p b k m. linked-classes t (lo + 2) n y (omega arith) p b }
+    record { rows = λ r k. linked-out t (lo + 2) y n r (inl (omega arith)); classes = λ p b k m. linked-class t (lo + 2) y n p b (omega arith) }
 
 pub below-leaf : (t : List ℕ) (p : ℕ) (c : List ℕ) → length t ≡ tableWords → p < erePlaces → SameBelow p t (leafTable p c t)
 below-leaf t p c full h =
     record {
-      rows = λ r k. row-other (withClass t p c) (p + 2) stops r (λ e. omega arith) ∙ class-row t p c full h r (omega arith);
-      classes = λ q b k m. row-classes (withClass t p c) (p + 2) stops (omega arith) q b ∙ class-other t p c full h q b (λ e. omega arith) m;
+      rows = λ r k. row-other (withClass t p c) (p + 2) stops r (λ e. omega arith) ∙ class-row t p c r (omega arith);
+      classes = λ q b k m. row-class (withClass t p c) (p + 2) stops q b (omega arith) ∙ class-other t p c q b (λ e. omega arith) m;
     }
 
 kept-below : {t u : List ℕ} (lo hi : ℕ) → SameBelow hi t u → Kept (afterPlace t) (afterPlace u) lo hi

@@ -1,24 +1,20 @@
 -- From what was read up to a group's end to the whole ERE.
-use mathlib.Core.Path.{_≡_, refl, sym, ap, subst, _∙_}
+use mathlib.Core.Path.{_≡_, refl, sym, ap, _∙_}
 use mathlib.Core.Bool.{Bool, true, false, true≢false, cond}
 use mathlib.Core.List.{List, [], _∷_}
-use mathlib.Core.Option.{Option, some, none}
-use Prim.Native.Nat.{ℕ, zero, suc, _+_, _≤_, _<_}
+use mathlib.Core.Option.{some, none}
+use Prim.Native.Nat.{ℕ, suc, _+_, _≤_, _<_}
 use native.Mathlib.Omega.{arith}
 use lib.ListN.{length, getD, drop}
-use lib.Dec.{leb}
 use borrow.Author.Tests.{le-leb, lt-leb}
 use Rattle.edition.specs.Limits.{erePlaces, ereBytes, ereGroups}
 use Rattle.pattern.specs.Tree.{Class, Ere, places}
-use Rattle.grammar.specs.Read.{Got, got, Tree, readRest, whole, readEre}
+use Rattle.grammar.specs.Read.{got, readRest, whole, readEre}
 use Rattle.automaton.specs.Table.{tableWords}
-use Rattle.automaton.specs.Find.{Tabled}
 use Rattle.automaton.proofs.Tables.{finished, finished-class, tabled}
 use Rattle.ere.specs.Reading.{restFrom}
-use Rattle.ere.specs.Built.{Built}
 use Rattle.ere.specs.Standing.{Refuses, unread, many, baseOf, GroupReads}
 use Rattle.ere.specs.Answer.{Serves, Compiles}
-use Rattle.ere.specs.declared.rows.Entry.{Entry}
 use Rattle.ere.specs.declared.rows.Piece.{Piece}
 use Rattle.ere.proofs.Built.{agrees-move}
 use Rattle.ere.proofs.Moving.{opened}

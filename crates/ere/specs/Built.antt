@@ -1,22 +1,11 @@
 -- What the reader of EREs builds in a table: a part of an ERE, by its rows and its classes.
 use mathlib.Core.Path.{_≡_}
-use mathlib.Core.Bool.{Bool, true, cond}
 use mathlib.Core.List.{List}
-use Prim.Native.Nat.{ℕ, _/_, _%_, _≤_, _<_}
-use lib.ListN.{getD}
+use Prim.Native.Nat.{ℕ, _≤_, _<_}
 use Rattle.pattern.specs.Tree.{Class, takes, Ere, place, bol, eol, cat, alt, star, plus, opt}
-use Rattle.automaton.specs.Nexts.{Nexts}
-use Rattle.automaton.specs.Table.{bit, takesAt}
-use Rattle.automaton.specs.Find.{nextIn, afterPlace}
-use Rattle.automaton.proofs.Parts.{Part}
+use Rattle.automaton.specs.Table.{takesAt}
+use Rattle.automaton.proofs.RowParts.{RowPart}
 use Rattle.ere.specs.declared.rows.Entry.{Entry}
-
--- what may come next before a part: first where the text starts, later elsewhere
-abbrev pub Before : List ℕ → List ℕ → Nexts
-Before first later s f r = nextIn (cond s first later) f r ≡ true
-
-abbrev pub RowPart : List ℕ → ℕ → ℕ → List ℕ → List ℕ → Ere ℕ → Type 0
-RowPart t lo hi first later e = Part (afterPlace t) lo hi (Before first later) e
 
 -- the numbered tree is the tree of classes: at each place, whose number is from lo up to hi, the table has the class
 pub data Agrees (t : List ℕ) (lo hi : ℕ) : Ere ℕ → Ere Class → Type 0 where

@@ -8,7 +8,7 @@ use Prim.Native.Nat.{ℕ, _+_, _≤_, _<_}
 use lib.ListN.{length, drop}
 use Rattle.edition.specs.Limits.{erePlaces}
 use Rattle.pattern.specs.Tree.{Class, Ere, places}
-use Rattle.grammar.specs.Read.{Got, got, begins, Tree}
+use Rattle.grammar.specs.Read.{Got, got, Tree}
 use Rattle.automaton.specs.Table.{row, takesAt}
 use Rattle.ere.specs.Reading.{restFrom}
 use Rattle.ere.specs.State.{noAlts, noSeq}

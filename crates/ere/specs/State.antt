@@ -1,13 +1,12 @@
 -- What the reader keeps while it reads a group, and what each part of it does.
-use mathlib.Core.Bool.{Bool, true, false, cond, _&&_}
-use mathlib.Core.List.{List, [], _∷_}
+use mathlib.Core.Bool.{true, false, cond, _&&_}
+use mathlib.Core.List.{List}
 use Prim.Native.Nat.{ℕ, _+_, _-_}
 use lib.ListN.{getD}
 use lib.Dec.{eqb, leb}
 use Rattle.edition.specs.Limits.{erePlaces}
-use Rattle.automaton.specs.Table.{join}
-use Rattle.automaton.specs.Build.{link, linkRows, withRow, withClass}
-use Rattle.ere.specs.Rows.{single, stops, noRow, orStop, stopsAtEnd}
+use Rattle.automaton.specs.Table.{noPlace, join}
+use Rattle.automaton.specs.Build.{link, orStop, stops, endStop, single, linkRows, withRow, withClass}
 use Rattle.ere.specs.declared.rows.Entry.{Entry}
 use Rattle.ere.specs.declared.rows.Piece.{Piece}
 use Rattle.ere.specs.declared.rows.State.{State}
@@ -26,7 +25,7 @@ stopEntry a = entry (orStop (a .first)) (orStop (a .later))
 
 -- no alternative; no piece; a place; the anchors
 abbrev pub noAlts : Entry
-noAlts = entry noRow noRow
+noAlts = entry noPlace noPlace
 
 abbrev pub noSeq : Entry
 noSeq = entry stops stops
@@ -35,10 +34,10 @@ abbrev pub placeEntry : ℕ → Entry
 placeEntry p = entry (single p) (single p)
 
 abbrev pub bolEntry : Entry
-bolEntry = entry stops noRow
+bolEntry = entry stops noPlace
 
 abbrev pub eolEntry : Entry
-eolEntry = entry stopsAtEnd stopsAtEnd
+eolEntry = entry endStop endStop
 
 -- the state with which a group is begun, and one in which it is refused
 abbrev pub startOf : ℕ → ℕ → ℕ → State

@@ -1,5 +1,5 @@
 // Atoms that are no groups: a byte, a dot, an escape, a bracket.
-ghost use Prim.Native.Nat.{_+_, _<_, _≤_};
+ghost use Prim.Native.Nat.{_+_, _<_};
 ghost use lib.ListN.{length, getD, drop};
 ghost use Rattle.grammar.specs.Read.{readAtom, readEscape, onlyByte};
 ghost use Rattle.ere.specs.Atom.{AtomReads};

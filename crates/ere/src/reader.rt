@@ -1,13 +1,10 @@
 // The reader of EREs: it calls itself for groups alone; items are a loop.
 ghost use mathlib.Core.Path.{_≡_};
-ghost use mathlib.Core.Bool.{true, cond};
-ghost use Prim.Native.Nat.{zero, suc, _+_, _*_, _-_, _≤_};
-ghost use lib.ListN.{length, drop};
-ghost use mathlib.Core.Option.{none};
+ghost use Prim.Native.Nat.{_+_, _-_, _≤_};
+ghost use lib.ListN.{length};
 ghost use Rattle.edition.specs.Limits.{erePlaces, ereBytes};
 ghost use Rattle.automaton.specs.Table.{tableWords};
-ghost use Rattle.ere.specs.Reading.{restFrom};
-ghost use Rattle.ere.specs.Standing.{Safe, Moves, GroupReads, SameBelow, Outcome};
+ghost use Rattle.ere.specs.Standing.{Safe, Moves, GroupReads};
 use crate::rows::Entry;
 use crate::rows::Piece;
 use crate::rows::State;

@@ -1,12 +1,6 @@
 // Rows that the reader of EREs makes, and what it keeps while it reads.
 ghost use mathlib.Core.Path.{_≡_};
-ghost use Prim.Native.Nat.{_≤_, _<_};
-ghost use lib.ListN.{length, getD};
-ghost use Rattle.edition.specs.Limits.{erePlaces};
-ghost use Rattle.automaton.specs.Table.{join};
-ghost use Rattle.ere.specs.Rows.{single as Rows·single};
 ghost use Rattle.ere.specs.State.{joinEntry, stopEntry};
-use edition::Edition;
 
 // What may come next before a part of an ERE: where the text starts, and elsewhere.
 pub struct Entry {
@@ -36,12 +30,6 @@ pub struct State {
     pub seq: Entry,
 }
 
-fn joined_rows(a: [u64; 3], b: [u64; 3]) -> [u64; 3]
-    ensures { λ r. ⌜ r ≡ join a b ⌝ }
-{
-    [a[0] | b[0], a[1] | b[1], a[2] | b[2]]
-}
-
 // What may come next before either of two parts.
 pub fn joined(a: Entry, b: Entry) -> Entry
     ensures { λ r. ⌜ r ≡ joinEntry a b ⌝ }
@@ -50,8 +38,8 @@ pub fn joined(a: Entry, b: Entry) -> Entry
     let bf = b.first;
     let al = a.later;
     let bl = b.later;
-    let first = joined_rows(af, bf);
-    let later = joined_rows(al, bl);
+    let first = automaton::union(af, bf);
+    let later = automaton::union(al, bl);
     Entry { first, later }
 }
 
@@ -61,19 +49,7 @@ pub fn or_stop(a: Entry) -> Entry
 {
     let f = a.first;
     let l = a.later;
-    Entry {
-        first: [f[0], f[1], 3],
-        later: [l[0], l[1], 3],
-    }
-}
-
-// The set of one place.
-pub fn single(p: usize) -> [u64; 3]
-    requires { ⌜ p < erePlaces ⌝ }
-    ensures { λ r. ⌜ r ≡ Rows·single p ⌝ }
-{
-    if p < 64 {
-        return [1 << p, 0, 0];
-    }
-    [0, 1 << (p - 64), 0]
+    let first = automaton::or_stop(f);
+    let later = automaton::or_stop(l);
+    Entry { first, later }
 }

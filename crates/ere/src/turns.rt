@@ -1,6 +1,5 @@
 // The turns of reading a group that need no reading of a group inside it.
 ghost use mathlib.Core.Path.{_≡_};
-ghost use mathlib.Core.List.{_∷_, []};
 ghost use Prim.Native.Nat.{ℕ, _+_, _≤_, _<_};
 ghost use lib.ListN.{length, getD};
 ghost use Rattle.edition.specs.Limits.{erePlaces, ereBytes};
@@ -225,7 +224,7 @@ fn leaf(words: [u64; 4], next: usize, p: usize, count: usize, t: &mut [u64]) -> 
 {
     automaton::put_class(t, p, words);
     automaton::put_row(t, p + 2, [0, 0, 3]);
-    let first = rows::single(p);
+    let first = automaton::single(p);
     let later = first;
     let entry = Entry { first, later };
     Piece {

@@ -1,9 +1,9 @@
 -- `read_atom`: by the first byte.
-use mathlib.Core.Path.{_≡_, refl, sym, ap, _∙_}
+use mathlib.Core.Path.{sym, ap, _∙_}
 use mathlib.Core.List.{List}
-use Prim.Native.Nat.{ℕ, _+_}
+use Prim.Native.Nat.{ℕ}
 use native.Mathlib.Omega.{arith}
-use lib.ListN.{getD, drop}
+use lib.ListN.{getD}
 use Rattle.pattern.specs.Tree.{only, anyByte}
 use Rattle.bracket.specs.Words.{inClass}
 use Rattle.bracket.proofs.Answers.{in-only, in-any}

@@ -1,8 +1,8 @@
 -- `read_escaped`: the byte that the escape spells.
-use mathlib.Core.Path.{_≡_, sym, ap, subst, _∙_}
+use mathlib.Core.Path.{sym, ap, _∙_}
 use mathlib.Core.List.{List}
 use Prim.Native.Nat.{ℕ}
-use Rattle.pattern.specs.Tree.{only, takes}
+use Rattle.pattern.specs.Tree.{only}
 use Rattle.grammar.specs.Read.{onlyByte}
 use Rattle.bracket.specs.Words.{inClass}
 use Rattle.bracket.proofs.Answers.{in-only}

@@ -1,8 +1,8 @@
 -- `compile`: too long, not read, not read to the end, or a table that serves.
-use mathlib.Core.Path.{_≡_, refl, sym, ap, ap₂, subst, _∙_}
+use mathlib.Core.Path.{_≡_, sym, ap, subst, _∙_}
 use mathlib.Core.Bool.{true}
 use mathlib.Core.List.{List}
-use Prim.Native.Nat.{ℕ, zero-le}
+use Prim.Native.Nat.{ℕ}
 use native.Mathlib.Omega.{arith}
 use lib.ListN.{length}
 use borrow.Author.Tests.{not-true, not-false}
@@ -11,7 +11,6 @@ use Rattle.automaton.specs.Build.{withRow, sealed}
 use Rattle.automaton.proofs.Tables.{finished}
 use Rattle.ere.specs.Answer.{Compiles}
 use Rattle.ere.proofs.Whole.{ere-long, group-bad, group-open, group-whole, group-serves, compiles-none, compiles-some}
-use Rattle.automaton.proofs.Rows.{length-row}
 use borrow.Author.Needs.{needs}
 use Rattle.ere.proofs.matching.compile.Statement.{statement}
 use Rattle.ere.proofs.matching.compile.Tie as tie

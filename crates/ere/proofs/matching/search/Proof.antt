@@ -1,11 +1,8 @@
 -- `search`: by what `compile` and `find_from` answer.
-use mathlib.Core.Path.{_≡_, sym, ap, subst, _∙_}
-use mathlib.Core.Bool.{Bool, true, false}
-use Prim.Native.Nat.{ℕ}
+use mathlib.Core.Path.{sym, ap, subst, _∙_}
 use borrow.Author.Tests.{not-true, not-false}
-use Rattle.automaton.specs.Find.{matchOf, Finds}
+use Rattle.automaton.specs.Find.{matchOf}
 use Rattle.automaton.specs.declared.search.Found.{Found}
-use Rattle.automaton.specs.declared.search.Found.the-variants.{At, Nowhere}
 use Rattle.ere.specs.Answer.{matched, Compiles}
 use Rattle.ere.proofs.Serving.{searched-bad, searched-long, searched-found}
 use Rattle.ere.specs.Answer.{Compiles}

@@ -1,26 +1,15 @@
 -- A group and its turns: each kind of turn is a move, and the loop keeps what stands.
-use mathlib.Core.Path.{_≡_, refl, sym, ap, subst, _∙_}
-use mathlib.Core.Bool.{Bool, true, false, cond}
-use mathlib.Core.Logic.{_⊎_, inl, inr}
-use mathlib.Core.List.{List}
-use mathlib.Core.Option.{none}
-use Prim.Native.Nat.{ℕ, zero, suc, _+_, _*_, _-_, _≤_, _<_}
-use native.Mathlib.Nat.{le-refl}
+use mathlib.Core.Path.{_≡_, refl, sym, subst}
+use mathlib.Core.Bool.{cond}
+use Prim.Native.Nat.{ℕ, _<_, suc, _+_, _*_, _-_}
 use native.Mathlib.Omega.{arith}
-use lib.ListN.{length, getD, drop}
-use borrow.Author.Tests.{not-true, not-false, eqb-true}
+use lib.ListN.{length}
+use borrow.Author.Tests.{not-true, not-false}
 use borrow.Author.Needs.{needs}
-use Rattle.edition.specs.Limits.{erePlaces, ereBytes}
 use Rattle.automaton.specs.Table.{tableWords}
-use Rattle.ere.specs.Reading.{restFrom}
-use Rattle.ere.specs.State.{startOf, finishOf}
-use Rattle.ere.specs.Standing.{Moves, Under, GroupReads, Begins}
-use Rattle.ere.specs.declared.rows.Piece.{Piece}
-use Rattle.ere.specs.declared.rows.State.{State}
-use Rattle.ere.proofs.Turning.{below-refl, below-trans, below-less}
+use Rattle.ere.specs.Standing.{Moves, Under, GroupReads}
 use Rattle.ere.proofs.Moving.{moves-ended, moves-bol, moves-eol, moves-grouped, group-finished}
 use Rattle.ere.proofs.Items.{closed-end, closed-paren, moves-choice, moves-deep, moved, under-start, under-turn, turn-less}
-use Prim.Native.Nat.{ℕ, _<_}
 use borrow.Fn.Kinds.{In}
 use borrow.Fn.PlainCycle.{Measures, is, falls, and}
 use Rattle.ere.proofs.reader.item.Reads as item

@@ -1,5 +1,5 @@
 -- `anchor`: by the count of places.
-use mathlib.Core.Path.{refl, sym}
+use mathlib.Core.Path.{refl}
 use borrow.Author.Tests.{le-leb, lt-leb}
 use borrow.Author.Needs.{needs}
 use Rattle.ere.proofs.turns.anchor.Statement.{statement}

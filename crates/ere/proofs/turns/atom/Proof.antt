@@ -1,16 +1,13 @@
-use mathlib.Core.Path.{_≡_, refl, sym, ap, ap₂, subst, _∙_}
-use mathlib.Core.Bool.{true, false}
+use mathlib.Core.Path.{_≡_, sym, ap, ap₂, subst, _∙_}
 use mathlib.Core.List.{List}
-use Prim.Native.Nat.{ℕ, _+_, _≤_, _<_}
+use Prim.Native.Nat.{ℕ}
 use native.Mathlib.Omega.{arith}
-use lib.ListN.{length, getD}
+use lib.ListN.{getD}
 use borrow.Author.Tests.{not-true, not-false}
-use Rattle.edition.specs.Limits.{erePlaces, ereBytes}
-use Rattle.ere.specs.State.{pushedOf, pushedTable, repeatedOf, repeatedTable, leafTable, leafPiece, atomTable, refusedOf}
+use Rattle.ere.specs.State.{pushedOf, pushedTable, repeatedOf, repeatedTable, leafPiece, atomTable}
 use Rattle.ere.specs.Standing.{Moves}
 use Rattle.ere.specs.declared.rows.Piece.{Piece}
 use Rattle.ere.specs.declared.rows.State.{State}
-use Rattle.ere.proofs.Turning.{repeat-hi, repeat-count, repeat-ends}
 use Rattle.ere.proofs.Moving.{moves-full, moves-bad, moves-atom}
 use borrow.Author.Needs.{needs}
 use Rattle.ere.proofs.turns.atom.Statement.{statement}

@@ -1,9 +1,8 @@
 -- `choice`: by whether the sequence has a piece.
-use mathlib.Core.Path.{_≡_, sym, ap, _∙_}
+use mathlib.Core.Path.{sym, ap, _∙_}
 use mathlib.Core.Bool.{Bool, cond}
 use borrow.Author.Tests.{not-true, not-false}
 use Rattle.ere.specs.State.{refusedOf, barOf}
-use Rattle.ere.specs.declared.rows.State.{State}
 use borrow.Author.Needs.{needs}
 use Rattle.ere.proofs.turns.choice.Statement.{statement}
 use Rattle.ere.proofs.turns.choice.Tie as tie

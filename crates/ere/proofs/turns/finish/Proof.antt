@@ -1,9 +1,8 @@
 -- `finish`: by whether a piece was read last.
-use mathlib.Core.Path.{_≡_, sym, ap, ap₂, _∙_}
+use mathlib.Core.Path.{sym, ap, ap₂, _∙_}
 use mathlib.Core.Bool.{Bool, true, cond, _&&_}
 use borrow.Author.Tests.{not-true, not-false}
-use Rattle.ere.specs.State.{pieceOf, joinEntry, refusedPiece, finishOf}
-use Rattle.ere.specs.declared.rows.Entry.{Entry}
+use Rattle.ere.specs.State.{pieceOf, joinEntry, refusedPiece}
 use Rattle.ere.specs.declared.rows.Piece.{Piece}
 use Rattle.ere.specs.declared.rows.State.{State}
 use borrow.Author.Needs.{needs}

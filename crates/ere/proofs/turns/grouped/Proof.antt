@@ -1,14 +1,9 @@
 use Rattle.ere.proofs.Grouping.{grouped-bad, grouped-open, grouped-closed}
-use mathlib.Core.Path.{_≡_, refl, sym, ap, ap₂, subst, _∙_}
-use mathlib.Core.Bool.{Bool, true, false}
-use mathlib.Core.List.{List}
-use Prim.Native.Nat.{ℕ, _+_, _≤_, _<_}
+use mathlib.Core.Path.{sym, ap, ap₂, _∙_}
+use Prim.Native.Nat.{ℕ}
 use native.Mathlib.Omega.{arith}
-use lib.ListN.{length, getD}
-use borrow.Author.Tests.{eq-eqb, ne-eqb, not-true, not-false}
-use Rattle.edition.specs.Limits.{ereBytes}
+use borrow.Author.Tests.{eq-eqb, not-true, not-false}
 use Rattle.ere.specs.State.{pushedOf, pushedTable, repeatedOf, repeatedTable, closedPiece}
-use Rattle.ere.specs.declared.rows.Piece.{Piece}
 use Rattle.ere.proofs.Turning.{inside}
 use borrow.Author.Needs.{needs}
 use Rattle.ere.proofs.turns.grouped.Statement.{statement}

@@ -1,9 +1,8 @@
 -- `leaf`: its class and its row.
-use mathlib.Core.Path.{_≡_, ap, _∙_}
+use mathlib.Core.Path.{ap, _∙_}
 use mathlib.Core.List.{List}
 use Prim.Native.Nat.{ℕ, _+_}
-use Rattle.automaton.specs.Build.{withRow}
-use Rattle.ere.specs.Rows.{stops}
+use Rattle.automaton.specs.Build.{withRow, stops}
 use Rattle.ere.specs.State.{pieceOf, entry}
 use borrow.Author.Needs.{needs}
 use Rattle.ere.proofs.turns.leaf.Statement.{statement}

@@ -1,9 +1,8 @@
 -- `repeated`: by the byte.
-use mathlib.Core.Path.{_≡_, refl, ap, _∙_}
-use mathlib.Core.Bool.{true}
+use mathlib.Core.Path.{refl, ap, _∙_}
 use Prim.Native.Nat.{_+_}
 use borrow.Author.Tests.{eq-eqb, ne-eqb}
-use Prim.Native.Nat.{ℕ, _-_}
+use Prim.Native.Nat.{_-_}
 use Rattle.automaton.specs.Build.{linkRows}
 use Rattle.ere.specs.State.{pieceOf}
 use Rattle.ere.specs.declared.rows.Entry.{Entry}
