@@ -20,6 +20,7 @@ the rules, -2^53 to 2^53, is 8 bytes: what it is above -2^53. Payloads, field by
     search      0, byte 1, index 2, text; or 1, found 1, index 2 (0 where not found), length of the part 2, part, text
     copies      kind 1 (0 copy, 1 copy_within, 2 fill), to 2, from 2, count 2, byte 1, room's length 2, room before, room after, source
     words       width 1 (8 or 2), index 2, number 8, room before, room after (the same length)
+    match       outcome 1, found 1, start from 0 2, length 2 (both 0 where not found), length of the ERE 2, ERE, text
 """
 import argparse
 import itertools
@@ -390,6 +391,176 @@ def words():
         for size in (width, width + 1, width + 2, 64, 4096):
             cases += [words_case(r, width, at, r.randrange(top), size) for at in sorted({0, min(1, size - width), (size - width) // 2, size - width})]
     return unique(cases)
+
+
+# ----------------------------------------------------------------- match
+
+LONG_TEXT = b'a' * 513
+
+
+def match_case(ere, text):
+    outcome, start, length = ref.match(ere, text)
+    found = start > 0
+    return bytes([outcome, found]) + short(start - 1 if found else 0) + short(length if found else 0) + short(len(ere)) + ere + text
+
+
+def refused_eres():
+    """EREs that are refused, a kind in a line, with some beside them that are not."""
+    return [b''] + rb'''
+        | a| |a a||b () (a|) (|a) a() (()a) ()* (a||b) a|() (|) ^| |$
+        ( ) (a a) ((a) (a)) (a|b a|b) )( a(b(c) (a(b)c (a] [a) (a))(b (a|b)|(
+        * + ? *a +a ?a a|* a|+b (*) (*a) (+a) (?) (a|?b) |* \* [*] (\+)
+        a** a*+ a+? a?? (a)*+ [a]++ .?* a*** (a*)** (a*)* ((a+)?)* a*(b)+* a+|b??
+        ^* $+ ^? a$* (^*) ^+a a|$? (^)* ($)? (^|$)+ ^a* \^* [$]+
+        { } a{ a} a{2} a{1,2} {a} \{ \} [{}] a|{ ({) a\{2\}
+        \ a\ [\ [\] [a\] (\) \d \- \1 \0 \x41 [\-] [\d] [a\-z] \\\
+        [ [a [^ [] [^] []a [^]a [a- [a-b [^a [- [-- [a[ a[ ([)] [a|b ] a]
+        [b-a] [z-a] [~-!] [a-\n] [^b-a] [--+] []--] [a-] [a-a] [xb-a] [\]-a]
+        [a-b-c] [a-c-e] [+----] [a-c-] [a-c--] [^a-b-c] [--a-z] [-a-c-e] [a-b- [a-b-] [a-bc-d]
+        [[:alpha:]] [[.a.]] [[=a=]] [a[:] [[:] [[=] [[.] [^[:] [!-[:] [a-[.] [[ [[: [][:]
+        [:a] [:alpha:] [[] [[a] [\[:] [\[.] [[-a] [[-:] [.[] [=] [a[] [[\:]
+    '''.split()
+
+
+def anchored_eres():
+    """EREs with anchors in groups, in repetitions, and behind or before other bytes."""
+    return rb'''
+        ^ $ ^$ $^ ^^ $$ ^a a$ ^a$ a^ $a a^b a$b ^^a$$ ^. .$ ^.$ ^b* b*$
+        (^) ($) (^)* (^)+ (^)? ($)* ($)+ (^)*a a(^)* a($)* a($)*b a(^)?b (^$)* (^$)+ (^|$)
+        (^a)* (^a)+ (^a)+b (^a)*b (a$)* (a$)+ (a$)?b (a|^)* (a|^b)* (^a|b)* (^|a)+b (b|$)+ (^b*)*
+        a*^b (a|^)b (^|b)a$ (a$|b)* ^(a|b)*$ (^|$)a a(^|$) ($|a)+ ((^a)|b)+ (^(^a)) ((^)a($)) x*^
+        (a(^b)?)+ (a($b)?)+ ^a|b$ ^a|^b (^a|^b)b (a|b$)+ ($a)*b (b^)*a [^]^] (^|a)(^|b) (a|$)(b|$)
+    '''.split()
+
+
+def chosen_eres():
+    """EREs whose longest match is not the first that a reader thinks of, and EREs with an empty match."""
+    return rb'''
+        ab|abc abc|ab a|ab|abc (a|ab)(c|bcd) (a|ab)(bc|c)? (ab|a)(bc)? (a|b|ab)* (a|ab|b)*c (aa|a)*b b|bc|bca
+        a* a? (a|b)* (a*)* (a*)+ (a?)* (a*|b)* (a|b*)+ (a*b*)* x* (x*) x? x*y* (x|y)* a*b?
+        a*b* b*a .* .*b .? (.b)* (a.)+ a.*b [^a]* (a+b+)+ ((a|b)(a|b))* (a(b(a)?)?)? (a+)(a+) a+a+b
+        bc|x c|d|x (b|c)+ a\nb [a\n]+ a.b (a|b)?(a|b)?b ((a*)b)* (b*(a))+ a|b* (ab*|b)*a x(a|b)+
+    '''.split()
+
+
+def bracket_eres():
+    """Brackets whose bytes take care."""
+    yield from rb'''
+        []a] [^]a] [a-] [-a] [+--] [^\n] [^-a] [^a-] [--a] [---] [+--c] []-a] [^]-a] [a^] [^^]
+        [\^a] [.] [*] [a-c] [^a-c] [a-cx-z] [\]] [\n-\r] [!-~] [\\] [/] [\/] [$] [()|] [\a-\b]
+        []] []-] [-] [^-] [--] [a-c-] [!--] [%--] [[-a] [?-@] [\[-\]] [aa] [a-za-z] [b-da-c]
+    '''.split()
+    yield from (b'[\x00-\xff]', b'[^\x00-\xff]', b'[\x80-\xff]', b'[\x00]', b'[^\xff]', b'[\x7f-\x80]', b'[\xbf-\xc0]', b'[@-\x7f]', b'[\xc0-\xff]',
+                b'[^@-\xbf]', b'[\x80-\x7f]', b'[\xff-\x00]')
+
+
+def byte_cases():
+    """Each byte as the text, as the ERE, and behind a backslash; and brackets on bytes."""
+    for b in range(256):
+        text, meant = bytes([b]), bytes([ref.ERE_ESCAPES.get(b, b)])
+        yield from ((b'.', text), (b'[^a]', text), (text, text), (b'\\' + text, meant), (b'[\\' + text + b']', meant))
+    every = bytes(range(256))
+    for ere in bracket_eres():
+        yield from ((ere, every), (ere + b'+', every[::-1]))
+        yield from ((ere, bytes([b])) for b in b'\x00\n+,-[\\]^abcd\xff')
+
+
+def sized_eres():
+    """EREs with as many places, groups and bytes as there may be, and with one more."""
+    for n in (127, 128, 129):
+        yield from (b'a' * n, b'.' * n, b'\\.' * n, b'a?' * n, b'a*' * n, b'(a)' * n, b'^' * n, b'$' * n, b'(' + b'a' * n + b')*')
+        yield from (b'^' + b'a' * (n - 1), b'a' * (n - 1) + b'$', b'(^)?' * (n - 1) + b'a', b'a|' * (n - 1) + b'a', b'b?' * (n - 1) + b'a+')
+        yield from (b'(' + b'a|' * (n - 1) + b'b)*', b'(a|b)' * (n // 2) + b'c?' * (n % 2), b'[ab]' * (n - 3) + b'aaa', b'a' * 64 + b'b?' * (n - 64))
+    for n in (15, 16, 17):
+        up, down = b'(' * n, b')' * n
+        yield from (up, up + b'a' + down, up + b'a' + b')*' * n, up + b'a' + down[1:], up + b'a' + down + b')', up + b'^' + b')?' * n + b'a')
+        yield from (b'(a' * n + down, b'(a|' * n + b'b' + down, b'((a)' * n + down, b'(a|' * n + b'^' + down, up[1:] + b'(a)(b)' + down[1:])
+        yield b'(a)b' + up + b'a' + b')+' * n
+    for n in (511, 512, 513):
+        yield from (b'a' * n, b'(' * n, b'[' + b'a' * (n - 2) + b']', b'[^' + b'a' * (n - 3) + b']', b'[' + b'a' * (n - 1))
+        yield from (b'(a)*' * 127 + b'[b]*b'[:n - 508], b'[ab]' * 127 + b'[ab]c'[:n - 508])
+        yield from (b'[ab]' * 126 + b'[' + b'b' * (n - 506) + b']', b'a|[b-' + b'c' * (n - 6) + b']')
+
+
+def sized_cases():
+    for ere in sized_eres():
+        yield from ((ere, text) for text in (b'', b'bab', b'a' * 127, b'b' + b'a' * 128))
+    longest = (b'a' * 512, LONG_TEXT, b'x' * 511 + b'a', b'ab' * 256, b'x' * 513, noise(random.Random('long'), 512))
+    for ere in rb'a* b ^ $ a$ .* [^a] x*$ (a|b)*c a*a*a*b (a*)*$ (ab)+$ (a|ab|b)* .a$'.split() + [b'a' * 128]:
+        yield from ((ere, text) for text in longest)
+    for ere in (b'', b'(', b'a**', b'[b-a]', b'\\d', b'a' * 129, b'(' * 17 + b'a' + b')' * 17):
+        yield ere, LONG_TEXT
+
+
+def some_ere(r, d):
+    """An ERE of few different bytes."""
+    k = r.randrange(10) if d else r.randrange(3)
+    if k < 3:
+        return r.choice([b'a', b'b', b'a', b'b', b'c', b'.', b'^', b'$', b'[^a]', b'[ab]', b'[b-c]', b'\\.', b'a*', b'b+', b'c?'])
+    if k < 6:
+        return some_ere(r, d - 1) + some_ere(r, d - 1)
+    if k < 8:
+        return b'(' + some_ere(r, d - 1) + b'|' + some_ere(r, d - 1) + b')' + r.choice([b'', b'*', b'+', b'?'])
+    return b'(' + some_ere(r, d - 1) + b')' + r.choice([b'*', b'+', b'?'])
+
+
+def damaged(r, ere):
+    """An ERE with a sign put in, or in place of a byte, or with a byte left out."""
+    at = r.randrange(len(ere) + 1)
+    return ere[:at] + r.choice([b'', b'(', b')', b'|', b'*', b'+', b'?', b'[', b']', b'-', b'\\', b'{', b'^', b'$']) + ere[at + r.randrange(2):]
+
+
+def some_bracket(r):
+    parts = (b'a', b'b', b'c', b'a-c', b'-', b'-', b']', b'[', b'^', b'\\]', b'\\n', b'0-9', b'+--', b'c-a', b':', b'.', b'\\\\', b'b-', b'-b')
+    return b'[' + r.choice([b'', b'^']) + b''.join(r.choice(parts) for _ in range(r.randrange(1, 5))) + r.choice([b']', b']', b']*', b']+b', b''])
+
+
+def sample(r, tree):
+    """A text of a tree's language, but for its anchors. Trees are as the reference has them."""
+    kind = tree[0]
+    if kind == 'set':
+        return bytes([r.choice(sorted(tree[1]))]) if tree[1] else b''
+    if kind in ('bol', 'eol'):
+        return b''
+    if kind == 'alt':
+        return sample(r, r.choice(tree[1]))
+    if kind == 'cat':
+        return b''.join(sample(r, part) for part in tree[1])
+    times = {'star': r.randrange(3), 'plus': r.randrange(1, 3), 'opt': r.randrange(2)}[kind]
+    return b''.join(sample(r, tree[1]) for _ in range(times))
+
+
+def some_text(r, ere):
+    """A text with one of the ERE's language in it, or any of few different bytes."""
+    tree = ref._ere_node(ere)
+    edge = [bytes(r.choice(b'abc') for _ in range(r.randrange(4))) for _ in range(2)]
+    if tree is None or r.random() < 0.4:
+        return edge[0] + bytes(r.choice(b'abc.\n]-') for _ in range(r.randrange(6))) + edge[1]
+    return r.choice([edge[0], b'']) + sample(r, tree)[:60] + r.choice([edge[1], b''])
+
+
+def random_cases(r):
+    for _ in range(1000):
+        ere = some_ere(r, r.randrange(2, 6))
+        yield ere, some_text(r, ere)
+    for _ in range(300):
+        ere = damaged(r, some_ere(r, r.randrange(1, 5)))
+        yield ere, some_text(r, ere)
+    for _ in range(300):
+        ere = some_bracket(r)
+        yield ere, some_text(r, ere)
+    for _ in range(150):
+        yield bytes(r.choice(b'ab.()|*+?^$[]-\\') for _ in range(r.randrange(1, 9))), bytes(r.choice(b'ab-') for _ in range(r.randrange(5)))
+
+
+@group
+def match():
+    r = random.Random('match')
+    texts = (b'', b'a', b'ba', b'aab', b'bba', b'abab', b'xabx', b'a\nb', b'bcaabcd')
+    cases = [(ere, text) for ere in refused_eres() for text in (b'', b'ab', b':[a-b\\*')]
+    cases += [(ere, text) for ere in anchored_eres() + chosen_eres() for text in texts]
+    cases += itertools.chain(byte_cases(), sized_cases(), random_cases(r))
+    return [match_case(ere, text) for ere, text in unique(cases)]
 
 
 # ----------------------------------------------------------------- files

@@ -4,6 +4,7 @@ use crate::compare;
 use crate::copies;
 use crate::decimal;
 use crate::limits;
+use crate::matching;
 use crate::reading;
 use crate::search;
 use crate::words;
@@ -17,6 +18,7 @@ pub enum Group {
     Search,
     Copies,
     Words,
+    Match,
 }
 
 // Whether the case in a frame's payload passes. A payload that is not of the group's layout does not.
@@ -30,5 +32,6 @@ pub fn passes(group: Group, p: &[u8]) -> bool {
         Group::Search => search::passes(p),
         Group::Copies => copies::passes(p),
         Group::Words => words::passes(p),
+        Group::Match => matching::passes(p),
     }
 }

@@ -9,6 +9,7 @@ mod copies;
 mod decimal;
 mod groups;
 mod limits;
+mod matching;
 mod reading;
 mod search;
 mod walk;
@@ -26,4 +27,5 @@ fn main() {
     run(Group::Search, b"search");
     run(Group::Copies, b"copies");
     run(Group::Words, b"words");
+    run(Group::Match, b"match");
 }
