@@ -1,0 +1,39 @@
+-- A match that is found ends within the bytes of a text value.
+use mathlib.Core.Path.{_≡_, refl, subst}
+use mathlib.Core.Bool.{Bool, true, false, cond}
+use mathlib.Core.List.{List}
+use mathlib.Core.Option.{Option, some, none}
+use Prim.Native.Nat.{ℕ, _+_, _≤_}
+use native.Mathlib.Omega.{arith}
+use lib.ListN.{length}
+use lib.Dec.{leb}
+use borrow.Author.Tests.{leb-true}
+use Rattle.edition.specs.Limits.{textBytes}
+use Rattle.pattern.specs.Tree.{Class, takes, Ere}
+use Rattle.pattern.specs.Meaning.{Match, found, nowhere, Best}
+use Rattle.pattern.specs.Search.{bestOf}
+use Rattle.pattern.proofs.Answers.{best}
+use Rattle.grammar.specs.Read.{readEre}
+use Rattle.ere.specs.Answer.{matched, judged, searchOf}
+use Rattle.ere.specs.declared.matching.Matched.{Matched}
+use Rattle.ere.specs.declared.matching.Matched.the-variants.{At, LongText}
+use Rattle.capi.specs.Match.{Within}
+
+module _ (text : List ℕ) (e : Ere Class) where
+  best-within : (r : Match) → Best takes text e r → length text ≤ textBytes → Within (matched r)
+  best-within (found s n) b h = omega (arith, b .0 .0, h)
+  best-within nowhere b h = tt
+
+  short-within : (c : Bool) → leb (length text) textBytes ≡ c → Within (cond c (matched (bestOf takes text e)) LongText)
+  short-within true h = best-within (bestOf takes text e) (best takes text e) (leb-true (length text) textBytes h)
+  short-within false h = tt
+
+judged-within : (text : List ℕ) (e : Option (Ere Class)) → Within (judged text e)
+judged-within text none = tt
+judged-within text (some e) = short-within text e (leb (length text) textBytes) refl
+
+pub search-within : (edition : ℕ) (ere text : List ℕ) → Within (searchOf edition ere text)
+search-within edition ere text = judged-within text (readEre edition ere)
+
+pub within-at : {m : Matched} {s n : ℕ} → m ≡ At s n → Within m → s + n ≤ textBytes
+within-at h w = subst Within h w

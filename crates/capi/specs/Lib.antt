@@ -1,0 +1,2 @@
+-- What the C functions answer and store.
+pub mod Match

@@ -1,0 +1,38 @@
+/*
+ * The C functions of the crate `capi`: link the archive that `rt staticlib capi` writes, target/staticlib/libcapi.a (x86-64).
+ *
+ * Each function returns an outcome and stores the rest through its pointers to single numbers. It takes any bytes, keeps nothing between calls, and
+ * uses no memory but what it is given and the stack. What is proved of a function stands beside it in crates/capi/src/, by the definitions of
+ * crates/capi/specs/; the proof takes for granted what this page asks of the caller:
+ *
+ * - a pointer with a length after it points to that many bytes (words, where it points to words); with the length 0 it may be null;
+ * - a pointer to a single number isn't null, and points to memory that may be written;
+ * - what a function stores to overlaps nothing else that the function is given.
+ */
+#ifndef FLOWAWK_H
+#define FLOWAWK_H
+
+#include <stddef.h>
+#include <stdint.h>
+
+#ifdef __cplusplus
+extern "C" {
+#endif
+
+/*
+ * The match of an ERE in a text: of all spans of the text that are in the ERE's language, anchors judged against the whole text, the one with the
+ * smallest start, then the greatest length.
+ *
+ * Outcome 5 if the bytes of `ere` are no ERE, or pass one of its sizes (512 bytes, 128 places, 16 nested groups); else 14 if the text has over 512
+ * bytes; else 0, whether there is a match or none.
+ *
+ * *rstart and *rlength are stored on every call. With a match they are its start, counted from 1, and its length, which may be 0; with outcome 0
+ * and no match, and with outcomes 5 and 14, they are 0 and -1.
+ */
+uint64_t flowawk_match(const uint8_t *ere, size_t ere_length, const uint8_t *text, size_t text_length, uint64_t *rstart, int64_t *rlength);
+
+#ifdef __cplusplus
+}
+#endif
+
+#endif

@@ -1,0 +1,113 @@
+#!/usr/bin/env python3
+"""Prints the greatest stack use of a function of an archive, and fails if it is over a bound.
+
+    tests/frames.py [--archive FILE] [--entry NAME] [--most BYTES]
+
+Reads `objdump -dr` of FILE (default: what `rt staticlib capi` writes). A function's frame is its return address, what it pushes and what it takes off
+the stack pointer. The 128 bytes below the stack pointer, which a function may use unasked while it calls nothing, are added once, at the end.
+Calls are followed from NAME (default flowawk_match); functions that call each other in a circle count once for each level of an ERE's groups, one
+more than the edition's `ERE_GROUPS`. Only the ERE reader may be such a circle. Functions outside the archive (memset and its like) are named, and not
+counted. BYTES is 16,384 unless given. Calls through a pointer, and other changes of the stack pointer than those known here, are errors.
+"""
+import argparse
+import os
+import re
+import subprocess
+import sys
+
+ROOT = os.path.dirname(os.path.dirname(os.path.abspath(__file__)))
+HEAD = re.compile(r'^[0-9a-f]+ <(.*)>:$')
+LINE = re.compile(r'^ *[0-9a-f]+:\t(\S+) *(.*)$')
+RELOCATION = re.compile(r'^\s+[0-9a-f]+: R_X86_64_(?:PLT32|PC32)\s+(?:\.text\.)?(.+?)[-+]0x[0-9a-f]+$')
+PLACE = re.compile(r'^[0-9a-f]+ <([^+>]*)>$')
+RED_ZONE = 128
+
+
+def levels():
+    with open(os.path.join(ROOT, 'crates', 'edition', 'src', 'lib.rt'), encoding='utf-8') as f:
+        return int(re.search(r'ERE_GROUPS: usize = (\d+);', f.read()).group(1)) + 1
+
+
+def taken(op, words):
+    """The bytes that an instruction takes off the stack pointer."""
+    if op == 'push':
+        return 8
+    if not words.endswith('%rsp') or op in ('cmp', 'test') or (op == 'mov' and words != '%rbp,%rsp' and '(' in words):
+        return 0
+    number = re.match(r'^\$(-?0x[0-9a-f]+),%rsp$', words)
+    value = int(number.group(1), 16) if number else 0
+    value -= 1 << 64 if value >= 1 << 63 else 0
+    if op == 'sub' and number:
+        return value
+    if op == 'add' and number:
+        return max(0, -value)
+    if op == 'and' and number:
+        return -value - 1
+    sys.exit('frames.py: %s %s is not known here' % (op, words))
+
+
+def functions(archive):
+    """For each function its frame and the functions that it calls."""
+    text = subprocess.run(['objdump', '-dr', '--no-show-raw-insn', archive], check=True, capture_output=True, text=True).stdout
+    frames, calls, name, jump = {}, {}, None, False
+    for line in text.splitlines():
+        head, code, relocation = HEAD.match(line), LINE.match(line), RELOCATION.match(line)
+        if head:
+            name = head.group(1)
+            frames[name], calls[name] = 8, set()
+        elif code:
+            op, words = code.groups()
+            if op == 'call' and words.startswith('*'):
+                sys.exit('frames.py: %s calls through a pointer' % name)
+            frames[name] += taken(op, words)
+            jump = op == 'call' or op.startswith('j')
+            place = PLACE.match(words)
+            if op == 'call' and place:
+                calls[name].add(place.group(1))
+        elif relocation and jump:
+            calls[name].add(relocation.group(1))
+    return frames, calls
+
+
+def reached(calls, start):
+    seen, todo = set(), [start]
+    while todo:
+        for callee in calls.get(todo.pop(), ()):
+            if callee not in seen:
+                seen.add(callee)
+                todo.append(callee)
+    return seen
+
+
+def deepest(name, frames, calls, times):
+    """The greatest sum of frames on a way of calls from a function, and the way: circles, each with its bytes."""
+    circle = [f for f in reached(calls, name) if name in reached(calls, f)]
+    if circle and not all(f.startswith('ere::reader::') for f in circle):
+        sys.exit('frames.py: a circle outside the ERE reader: %s' % ', '.join(sorted(circle)))
+    members = circle or [name]
+    own = sum(frames[f] for f in members) * (times if circle else 1)
+    below = [deepest(f, frames, calls, times) for f in sorted({f for m in members for f in calls[m]} - set(members)) if f in frames]
+    rest, way = max(below, default=(0, []))
+    label = ' + '.join(sorted(members)) + (' (%d levels)' % times if circle else '')
+    return own + rest, [(label, own)] + way
+
+
+def main():
+    parser = argparse.ArgumentParser()
+    parser.add_argument('--archive', default=os.path.join(ROOT, 'target', 'staticlib', 'libcapi.a'))
+    parser.add_argument('--entry', default='flowawk_match')
+    parser.add_argument('--most', type=int, default=16384)
+    options = parser.parse_args()
+    frames, calls = functions(options.archive)
+    if options.entry not in frames:
+        sys.exit('frames.py: no function %s' % options.entry)
+    total, way = deepest(options.entry, frames, calls, levels())
+    total += RED_ZONE
+    for label, own in way + [('below the stack pointer', RED_ZONE)]:
+        print('%6d  %s' % (own, label))
+    outside = sorted(f for f in reached(calls, options.entry) if f not in frames)
+    print('%6d  in all, at most %d; outside the archive: %s' % (total, options.most, ', '.join(outside) or 'none'))
+    sys.exit(1 if total > options.most else 0)
+
+
+main()
