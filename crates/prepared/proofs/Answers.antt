@@ -1,0 +1,32 @@
+-- What the two functions answer, from what `compile` and `find_from` do.
+use mathlib.Core.Path.{_≡_, refl, sym, ap, subst, _∙_}
+use mathlib.Core.Bool.{true, false}
+use mathlib.Core.List.{List}
+use mathlib.Core.Option.{none}
+use Prim.Native.Nat.{ℕ, _+_, _≤_, zero-le}
+use native.Mathlib.Omega.{arith}
+use lib.ListN.{length}
+use Rattle.pattern.specs.Tree.{Class, takes, Ere}
+use Rattle.pattern.specs.Search.{bestOf}
+use Rattle.grammar.specs.Read.{readEre}
+use Rattle.automaton.specs.Table.{tableWords}
+use Rattle.automaton.specs.Find.{matchOf, Inside, Finds}
+use Rattle.automaton.specs.declared.search.Found.{Found}
+use Rattle.automaton.specs.declared.search.Found.the-variants.{At, Nowhere}
+use Rattle.ere.specs.Answer.{Serves, Compiles, Bytes}
+use Rattle.ere.proofs.Serving.{serves-answer}
+use Rattle.prepared.specs.Answer.{Prepares, lengthOf}
+
+pub prepares-none : (ere t : List ℕ) → (length t ≡ tableWords → readEre 1 ere ≡ none) → Prepares ere t 0
+prepares-none ere t f = record { refused = λ z. f; read = λ z. absurd (omega (arith, z)) }
+
+pub prepares-some : (ere t : List ℕ) → Compiles 1 ere t true → Prepares ere t 1
+prepares-some ere t c = record { refused = λ z. absurd (omega (arith, z)); read = λ z. c .read refl }
+
+module _ (t text : List ℕ) (r : Found) (f : Finds t text 0 0 r) where
+  pub length-found : (e : Ere Class) → Serves t e → Bytes text → lengthOf (matchOf r) ≡ lengthOf (bestOf takes text e)
+  unfolding bestOf
+  length-found e s bytes = ap lengthOf (serves-answer t text 0 0 r e text s f bytes zero-le refl)
+
+  pub found-inside : (s n : ℕ) → r ≡ At s n → n ≤ length text
+  found-inside s n e = let h = subst (Inside 0 (length text)) e (f .inside) in omega (arith, h .1)

@@ -1,0 +1,2 @@
+-- Laws on the C functions over a compiled ERE.
+pub mod Answers

@@ -1,0 +1,2 @@
+-- What the C functions over a compiled ERE answer.
+pub mod Answer
