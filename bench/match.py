@@ -5,7 +5,8 @@
 
 Builds the archive by `rt staticlib prepared` and the program of bench/match.c over it; makes N flow lines of 70 bytes (default 2,000; fields, for the ERE
 on a field) and searches each T times (default 300) with each ERE, compiled once. The awks run match() over the same lines in an array; the time of the
-same loops with length() in its place is taken off. Writes a table: nanoseconds for a line, and how many times as long as ours the others take.
+same loops with length() in its place is taken off. Writes a table: nanoseconds for a line, and how many times as long as ours the others take;
+then the time of testing a byte against a bracket in two ways.
 Debian packages: gcc, libc6-dev, mawk, gawk. An awk that isn't there is left out.
 """
 import argparse
@@ -37,12 +38,29 @@ def field(r):
     return r.choice(['port%02d' % r.randrange(24), 'tcp', 'rate=scaled', 'port', 'port123'])
 
 
-def build(directory):
-    subprocess.run(['rt', 'staticlib', 'prepared'], cwd=ROOT, check=True, stdout=subprocess.DEVNULL)
-    program = os.path.join(directory, 'match')
-    subprocess.run(['cc', '-std=gnu99', '-O2', '-Wall', '-Wextra', '-Werror', os.path.join(ROOT, 'bench', 'match.c'),
-                    os.path.join(ROOT, 'target', 'staticlib', 'libprepared.a'), '-o', program], check=True)
+def build(directory, name, *archives):
+    """A program of this folder."""
+    program = os.path.join(directory, name)
+    subprocess.run(['cc', '-std=gnu99', '-O2', '-Wall', '-Wextra', '-Werror', os.path.join(ROOT, 'bench', name + '.c'), *archives, '-o', program],
+                   check=True)
     return program
+
+
+def prepared():
+    subprocess.run(['rt', 'staticlib', 'prepared'], cwd=ROOT, check=True, stdout=subprocess.DEVNULL)
+    return os.path.join(ROOT, 'target', 'staticlib', 'libprepared.a')
+
+
+def write_lines(path, of_field, count):
+    r = random.Random(1)
+    with open(path, 'w') as f:
+        f.write(''.join((field(r) if of_field else flow_line(r)) + '\n' for _ in range(count)))
+
+
+def numbers(program, path, *words):
+    with open(path) as f:
+        out = subprocess.run([program, *words], stdin=f, check=True, capture_output=True, text=True).stdout
+    return [float(word) for word in out.split()]
 
 
 def awk_seconds(awk, path, turns, what):
@@ -68,19 +86,16 @@ def main():
     awks = [awk for awk in AWKS if shutil.which(awk)]
     print('| ERE | ours, ns | regexec | ' + ' | '.join(awks) + ' |\n|---|--:|' + '--:|' * (1 + len(awks)))
     with tempfile.TemporaryDirectory() as directory:
-        program = build(directory)
+        path = os.path.join(directory, 'lines')
+        program = build(directory, 'match', prepared())
         for ere, of_field in ERES:
-            r = random.Random(1)
-            lines = [field(r) if of_field else flow_line(r) for _ in range(options.lines)]
-            path = os.path.join(directory, 'lines')
-            with open(path, 'w') as f:
-                f.write('\n'.join(lines) + '\n')
-            with open(path) as f:
-                out = subprocess.run([program, ere, str(options.turns)], stdin=f, check=True, capture_output=True, text=True).stdout.split()
-            ours, regexec, matches = float(out[0]), float(out[1]), int(out[2])
-            others = [awk_time(awk, path, len(lines), options.turns, ere, matches) for awk in awks]
+            write_lines(path, of_field, options.lines)
+            ours, regexec, matches = numbers(program, path, ere, str(options.turns))
+            others = [awk_time(awk, path, options.lines, options.turns, ere, int(matches)) for awk in awks]
             shown = ere.replace('|', '\\|')
             print('| `%s` | %.0f | ' % (shown, ours) + ' | '.join('%.0f (x %.1f)' % (t, t / ours) for t in [regexec] + others) + ' |')
+        write_lines(path, False, options.lines)
+        print('\nA byte against `[A-Za-z0-9_]`: %.2f ns by its ranges, %.2f ns by one bit.' % tuple(numbers(build(directory, 'bracket'), path, str(options.turns))))
 
 
 main()
