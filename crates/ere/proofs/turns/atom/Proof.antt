@@ -21,7 +21,7 @@ refused-requires c κs = search needs
 returns : tie.Need-returns
 returns c =
     λ n. subst (λ (r : State). Moves (c .before .before .before .before .args .ere .now) n (c .before .before .before .before .args .t .now) (c .before .before .before .before .args .t .now) (c .before .before .before .before .args .s) r) (sym (c .refused .ensures))
-    (moves-full n (c .before .before .before .before .args .s) (c .before .before .before .before .pre .3) (c .before .before .before .before .pre .2) (c .before .before .before .before .pre .4) (c .before .if1 .taken))
+    (moves-full n (c .before .before .before .before .args .s) (c .before .before .before .before .pre .3) (c .before .before .before .before .pre .2) (c .before .before .before .before .pre .4) (omega (arith, c .before .if1 .taken)))
 
 read-atom-requires : tie.Need-read-atom-requires
 read-atom-requires c κs = search needs
