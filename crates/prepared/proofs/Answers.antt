@@ -17,11 +17,17 @@ use Rattle.ere.specs.Answer.{Serves, Compiles, Bytes}
 use Rattle.ere.proofs.Serving.{serves-answer}
 use Rattle.prepared.specs.Answer.{Prepares, lengthOf}
 
-pub prepares-none : (ere t : List ℕ) → (length t ≡ tableWords → readEre 1 ere ≡ none) → Prepares ere t 0
-prepares-none ere t f = record { refused = λ z. f; read = λ z. absurd (omega (arith, z)) }
+pub prepares-unsized : (ere t : List ℕ) → (length t ≡ tableWords → ⊥) → Prepares ere t t 0
+prepares-unsized ere t n =
+    record { only = zero-le; unsized = λ m. (refl, refl); refused = λ z l. absurd (n l); read = λ z. absurd (omega (arith, z)) }
 
-pub prepares-some : (ere t : List ℕ) → Compiles 1 ere t true → Prepares ere t 1
-prepares-some ere t c = record { refused = λ z. absurd (omega (arith, z)); read = λ z. c .read refl }
+pub prepares-none : (ere t₀ t : List ℕ) → length t₀ ≡ tableWords → readEre 1 ere ≡ none → Prepares ere t₀ t 0
+prepares-none ere t₀ t l e =
+    record { only = zero-le; unsized = λ n. absurd (n l); refused = λ z m. e; read = λ z. absurd (omega (arith, z)) }
+
+pub prepares-some : (ere t₀ t : List ℕ) → length t₀ ≡ tableWords → Compiles 1 ere t true → Prepares ere t₀ t 1
+prepares-some ere t₀ t l c =
+    record { only = omega arith; unsized = λ n. absurd (n l); refused = λ z. absurd (omega (arith, z)); read = λ z. c .read refl }
 
 module _ (t text : List ℕ) (r : Found) (f : Finds t text 0 0 r) where
   pub length-found : (e : Ere Class) → Serves t e → Bytes text → lengthOf (matchOf r) ≡ lengthOf (bestOf takes text e)

@@ -1,20 +1,12 @@
 // An ERE compiled once for many texts, for C: what `bench/match` measures.
-ghost use mathlib.Core.Path.{_≡_};
-ghost use Prim.Native.Nat.{_≤_};
-ghost use lib.ListN.{length};
-ghost use Rattle.edition.specs.Limits.{textBytes};
-ghost use Rattle.pattern.specs.Tree.{Class, takes, Ere};
-ghost use Rattle.pattern.specs.Search.{bestOf};
-ghost use Rattle.automaton.specs.Table.{tableWords};
-ghost use Rattle.ere.specs.Answer.{Serves};
-ghost use Rattle.prepared.specs.Answer.{Prepares, lengthOf};
+ghost use Rattle.prepared.specs.Answer.{Prepares, Searches};
 use automaton::Found;
 use edition::Edition;
 
 // Reads an ERE into a table: 1 if it is one, 0 if not or if the table has another size.
 #[no_mangle]
 pub extern "C" fn prepared_compile(ere: &[u8], table: &mut [u64]) -> u64
-    ensures { λ r. ⌜ Prepares (now (ere .entry)) (now (table .exit)) r ⌝ }
+    ensures { λ r. ⌜ Prepares (now (ere .entry)) (now (table .entry)) (now (table .exit)) r ⌝ }
 {
     if table.len() != automaton::TABLE {
         return 0;
@@ -29,7 +21,7 @@ pub extern "C" fn prepared_compile(ere: &[u8], table: &mut [u64]) -> u64
 // The length of the leftmost, longest match in a text, and one more; 0 if there is none, or the text is too long.
 #[no_mangle]
 pub extern "C" fn prepared_find(table: &[u64], text: &[u8]) -> u64
-    ensures { λ r. ⌜ ((e : Ere Class) → Serves (now (table .entry)) e → length (now (table .entry)) ≡ tableWords → length (now (text .entry)) ≤ textBytes → r ≡ lengthOf (bestOf takes (now (text .entry)) e)) ⌝ }
+    ensures { λ r. ⌜ Searches (now (table .entry)) (now (text .entry)) r ⌝ }
 {
     if table.len() != automaton::TABLE {
         return 0;

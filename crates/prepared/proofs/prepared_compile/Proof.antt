@@ -2,13 +2,13 @@
 use mathlib.Core.Path.{_≡_, subst}
 use mathlib.Core.Bool.{true, false}
 use Rattle.ere.specs.Answer.{Compiles}
-use Rattle.prepared.proofs.Answers.{prepares-none, prepares-some}
+use Rattle.prepared.proofs.Answers.{prepares-unsized, prepares-none, prepares-some}
 use borrow.Author.Needs.{needs}
 use Rattle.prepared.proofs.prepared_compile.Statement.{statement}
 use Rattle.prepared.proofs.prepared_compile.Tie as tie
 
 returns : tie.Need-returns
-returns c = prepares-none (c .before .before .before .args .ere .now) _ (λ e. absurd (c .if1 .taken e))
+returns c = prepares-unsized (c .before .before .before .args .ere .now) (c .before .before .before .args .table .now) (c .if1 .taken)
 
 compile-requires : tie.Need-compile-requires
 compile-requires c κs = search needs
@@ -17,13 +17,13 @@ same-length : tie.Need-same-length
 same-length c = search needs
 
 returns-2 : tie.Need-returns-2
-returns-2 c = prepares-some (c .before .before .before .before .before .before .before .before .args .ere .now) _ (subst (Compiles 1 (c .before .before .before .before .before .before .before .before .args .ere .now) _) (c .if2 .taken) (c .before .before .before .compile .ensures))
+returns-2 c = prepares-some (c .before .before .before .before .before .before .before .before .args .ere .now) (c .before .before .before .before .before .before .before .before .args .table .now) _ (c .before .before .before .before .before .if1 .left) (subst (Compiles 1 (c .before .before .before .before .before .before .before .before .args .ere .now) _) (c .if2 .taken) (c .before .before .before .compile .ensures))
 
 same-length-2 : tie.Need-same-length-2
 same-length-2 c = search needs
 
 returns-3 : tie.Need-returns-3
-returns-3 c = prepares-none (c .before .before .before .before .before .before .before .before .args .ere .now) _ (λ e. c .before .before .before .compile .ensures .refused (c .if2 .left))
+returns-3 c = prepares-none (c .before .before .before .before .before .before .before .before .args .ere .now) (c .before .before .before .before .before .before .before .before .args .table .now) _ (c .before .before .before .before .before .if1 .left) (c .before .before .before .compile .ensures .refused (c .if2 .left))
 
 pub prepared-compile-spec : {M : Type 1} → statement M
 prepared-compile-spec =
