@@ -1,0 +1,3 @@
+-- Laws on fields.
+pub mod Runs
+pub mod Turns

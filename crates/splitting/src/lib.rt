@@ -1,0 +1,1 @@
+// The fields of a record: definitions and theorems, no code.
