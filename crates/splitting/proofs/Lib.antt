@@ -1,3 +1,5 @@
 -- Laws on fields.
 pub mod Runs
 pub mod Turns
+pub mod Fronts
+pub mod Weaving

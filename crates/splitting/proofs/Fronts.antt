@@ -1,0 +1,95 @@
+-- Laws on bytes in a set, or outside it, up to where they stop: a list is cut there in one way only.
+use mathlib.Core.Path.{_≡_, refl, sym, ap, subst, _∙_}
+use mathlib.Core.Bool.{Bool, true, false, true≢false, cond, not, _||_}
+use mathlib.Core.List.{List, [], _∷_, _++_}
+use Prim.Native.Nat.{ℕ, zero, suc, _+_, _≤_, _<_}
+use native.Mathlib.Omega.{arith}
+use lib.ListN.{length, take, drop}
+use lib.Dec.{eqb}
+use borrow.Author.Tests.{not-true, not-false, eqb-true, eq-eqb, ne-eqb}
+use Rattle.buffer.specs.First.{firstByte}
+use Rattle.grammar.specs.Bytes.{oneOf}
+use Rattle.splitting.specs.Field.{isIn, leading}
+use Rattle.splitting.specs.Meaning.{All, none, both, Behind, at-end, apart}
+use Rattle.splitting.proofs.Runs.{leading-on, leading-ends}
+
+module _ (inside : Bool) (set : List ℕ) where
+  -- nothing, or first a byte that is not
+  abbrev pub Stops : List ℕ → Type 0
+  Stops [] = Unit
+  Stops (b ∷ t) = isIn inside set b ≡ false
+
+  pub leading-all : (l : List ℕ) → All inside set (take (leading inside set l) l)
+  unfolding leading
+  leading-all [] = none
+  leading-all (b ∷ t) = by (isIn inside set b) refl (leading-all t)
+    where
+      by : (x : Bool) → isIn inside set b ≡ x → All inside set (take (leading inside set t) t) → All inside set (take (leading inside set (b ∷ t)) (b ∷ t))
+      by true e r = rw (leading-on inside set b t e) (both e r)
+      by false e r = rw (leading-ends inside set b t e) none
+
+  pub leading-stop : (l : List ℕ) → Stops (drop (leading inside set l) l)
+  unfolding leading
+  leading-stop [] = tt
+  leading-stop (b ∷ t) = by (isIn inside set b) refl (leading-stop t)
+    where
+      by : (x : Bool) → isIn inside set b ≡ x → Stops (drop (leading inside set t) t) → Stops (drop (leading inside set (b ∷ t)) (b ∷ t))
+      by true e r = rw (leading-on inside set b t e) r
+      by false e r = rw (leading-ends inside set b t e) e
+
+  -- a byte that is cannot be where the bytes stop
+  stopped : {b : ℕ} {l t : List ℕ} → isIn inside set b ≡ true → t ≡ b ∷ l → Stops t → ⊥
+  stopped h e s = true≢false (sym h ∙ subst Stops e s)
+
+  -- a list is cut in one way
+  pub cut-one : {f g : List ℕ} (t u : List ℕ) → All inside set f → All inside set g → Stops t → Stops u → f ++ t ≡ g ++ u → (f ≡ g) × (t ≡ u)
+  cut-one t u none none s r e = (refl, e)
+  cut-one t u none (both h y) s r e = absurd (stopped h e s)
+  cut-one t u (both h x) none s r e = absurd (stopped h (sym e) r)
+  cut-one t u (both h x) (both k y) s r e = let z = cut-one t u x y s r (cc) in (cc, z .1)
+
+-- ---- one byte
+
+-- a byte is no b exactly if it is another
+no-byte-test : (b x : ℕ) → isIn false (b ∷ []) x ≡ not (eqb x b)
+unfolding oneOf
+no-byte-test b x = by (eqb x b)
+  where
+    by : (y : Bool) → not (y || false) ≡ not y
+    by true = refl
+    by false = refl
+
+pub byte-itself : (b : ℕ) → isIn false (b ∷ []) b ≡ false
+byte-itself b = no-byte-test b b ∙ ap not (eq-eqb b b refl)
+
+pub other-byte : (b x : ℕ) → (x ≡ b → ⊥) → isIn false (b ∷ []) x ≡ true
+other-byte b x h = no-byte-test b x ∙ ap not (ne-eqb x b h)
+
+-- where the bytes that are no b stop, b stands
+pub stop-byte : (b x : ℕ) → isIn false (b ∷ []) x ≡ false → x ≡ b
+stop-byte b x h = eqb-true x b (not-false (eqb x b) (sym (no-byte-test b x) ∙ h))
+
+-- the first place of a byte is where the bytes that are no such byte stop
+pub first-leading : (b : ℕ) (l : List ℕ) → firstByte b l ≡ leading false (b ∷ []) l
+unfolding firstByte leading
+first-leading b [] = refl
+first-leading b (x ∷ l) = by (eqb x b) (isIn false (b ∷ []) x) (no-byte-test b x) (first-leading b l)
+  where
+    by : (y z : Bool) → z ≡ not y → firstByte b l ≡ leading false (b ∷ []) l → cond y 0 (suc (firstByte b l)) ≡ cond z (suc (leading false (b ∷ []) l)) 0
+    by true z e r = rw e
+    by false z e r = rw (e, r)
+
+-- ---- blanks
+
+-- behind a field, a blank is where the bytes that are none stop
+pub stop-behind : (set t : List ℕ) → Stops false set t → Behind set t
+stop-behind set [] s = at-end
+stop-behind set (b ∷ t) s = apart (not-false (oneOf set b) s)
+
+pub behind-stop : {set t : List ℕ} → Behind set t → Stops false set t
+behind-stop at-end = tt
+behind-stop (apart h) = ap not h
+
+-- a byte outside the set is where the blanks stop
+pub outside-stop : (set : List ℕ) (b : ℕ) → isIn false set b ≡ true → isIn true set b ≡ false
+outside-stop set b h = not-true (oneOf set b) h
