@@ -4,14 +4,19 @@ use mathlib.Core.Bool.{Bool, true, false, true≢false, cond, not, _||_}
 use mathlib.Core.List.{List, [], _∷_, _++_}
 use Prim.Native.Nat.{ℕ, zero, suc, _+_, _≤_, _<_}
 use native.Mathlib.Omega.{arith}
-use lib.ListN.{length, take, drop}
+use lib.ListN.{length, take, drop, length-drop}
+use lib.Seq.{drop-drop}
 use lib.Dec.{eqb}
 use borrow.Author.Tests.{not-true, not-false, eqb-true, eq-eqb, ne-eqb}
+use Rattle.buffer.specs.Parts.{part}
 use Rattle.buffer.specs.First.{firstByte}
 use Rattle.grammar.specs.Bytes.{oneOf}
 use Rattle.splitting.specs.Field.{isIn, leading}
 use Rattle.splitting.specs.Meaning.{All, none, both, Behind, at-end, apart}
-use Rattle.splitting.proofs.Runs.{leading-on, leading-ends}
+use Rattle.splitting.proofs.Runs.{leading-on, leading-ends, leading-most}
+
+pub nil-no-cons : {b : ℕ} {l : List ℕ} → [] ≡ b ∷ l → ⊥
+nil-no-cons e = omega (arith, ap length e)
 
 module _ (inside : Bool) (set : List ℕ) where
   -- nothing, or first a byte that is not
@@ -47,6 +52,19 @@ module _ (inside : Bool) (set : List ℕ) where
   cut-one t u none (both h y) s r e = absurd (stopped h e s)
   cut-one t u (both h x) none s r e = absurd (stopped h (sym e) r)
   cut-one t u (both h x) (both k y) s r e = let z = cut-one t u x y s r (cc) in (cc, z .1)
+
+-- ---- the run from a place of a text on
+
+module _ (text : List ℕ) (inside : Bool) (set : List ℕ) (at : ℕ) where
+  pub run-all : All inside set (part at (leading inside set (drop at text)) text)
+  unfolding part
+  run-all = leading-all inside set (drop at text)
+
+  pub run-stops : Stops inside set (drop (at + leading inside set (drop at text)) text)
+  run-stops = rw drop-drop at (leading-stop inside set (drop at text))
+
+  pub run-most : at ≤ length text → at + leading inside set (drop at text) ≤ length text
+  run-most h = omega (arith, length-drop at text, leading-most inside set (drop at text))
 
 -- ---- one byte
 

@@ -4,21 +4,27 @@ use mathlib.Core.Bool.{Bool, true, false, cond}
 use mathlib.Core.List.{List, [], _∷_}
 use Prim.Native.Nat.{ℕ, zero, suc, _+_, _-_, _≤_, _<_}
 use native.Mathlib.Omega.{arith}
+use native.Mathlib.Decide.{decLe, decLt}
 use native.Mathlib.Nat.{add-zero}
 use lib.ListN.{length, getD, drop, length-drop, drop-of-length-le}
 use lib.Seq.{getD-drop, drop-cons}
 use lib.Dec.{eqb, ltb, leb}
-use borrow.Author.Tests.{ltb-true, leb-true, le-ltb, lt-leb, eqb-true, eqb-false, eq-eqb, ne-eqb}
+use borrow.Author.Tests.{lt-ltb, le-leb, le-ltb, lt-leb, eq-eqb, ne-eqb}
 use Rattle.buffer.specs.First.{firstByte}
 use Rattle.buffer.proofs.First.{first-byte-most}
 use Rattle.pattern.specs.Tree.{Class, takes, Ere}
-use Rattle.pattern.specs.Meaning.{Match, found, nowhere}
+use Rattle.pattern.specs.Meaning.{Match, found, nowhere, BestFrom}
 use Rattle.pattern.specs.Search.{bestFrom}
-use Rattle.pattern.proofs.Answers.{found-in}
+use Rattle.pattern.proofs.Answers.{best-from}
 use Rattle.splitting.specs.Separator.{Separator, blank, byte, ere}
-use Rattle.splitting.specs.Field.{Span, span, Next, field, none, leading, upTo, wordFrom, nextField, follow, fieldsIn, fieldsFrom, fieldsOf}
+use Rattle.splitting.specs.Field.{Span, span, Next, field, none, leading, upTo, nextField, follow, fieldsIn, fieldsFrom, fieldsOf}
 use Rattle.splitting.specs.Meaning.{Ordered}
 use Rattle.splitting.proofs.Runs.{leading-on, leading-most, leading-stops, not-in}
+
+-- a test that is true, and one that is not, by the fact that it tests
+ruleset holds = (lt-ltb, le-leb)
+
+ruleset fails = (le-ltb, lt-leb)
 
 -- A turn goes on: the field lies at or behind `at`, the next place behind it.
 abbrev pub Goes : ℕ → ℕ → Next → Type 0
@@ -38,51 +44,72 @@ module _ (text : List ℕ) where
       ∙ leading-on false set (getD text (at + n) 0) (drop (suc (at + n)) text) (not-in set (getD text (at + n) 0) (rw e s)) in
       omega (arith, z)
 
-  blank-goes : (set : List ℕ) (at : ℕ) → Goes at (length text) (wordFrom text set (at + leading true set (drop at text)))
-  blank-goes set at = by (ltb (at + leading true set (drop at text)) (length text)) refl
-    where
-      s : ℕ
-      s = at + leading true set (drop at text)
+  -- ---- what a turn answers
 
-      by : (x : Bool) → ltb s (length text) ≡ x → Goes at (length text) (cond x (field (span s (leading false set (drop s text))) (s + leading false set (drop s text))) none)
-      by true h =
-          let g = ltb-true s (length text) h in
-          let l = length-drop s text in
-          let m = leading-most false set (drop s text) in
-          let w = word-some set at g in
-          (omega arith, omega arith, omega arith, omega arith, omega arith)
-      by false h = tt
-
-  byte-goes : (b at : ℕ) → at ≤ length text → Goes at (length text) (field (span at (firstByte b (drop at text))) (suc (at + firstByte b (drop at text))))
-  byte-goes b at h =
-      let l = length-drop at text in
-      let m = first-byte-most b (drop at text) in
-      (omega arith, omega arith, omega arith, omega arith, omega arith)
-
-  ere-goes : (e : Ere Class) (at : ℕ) → at ≤ length text → (m : Match) → bestFrom takes text e at 1 ≡ m → Goes at (length text) (upTo at (length text) m)
-  ere-goes e at h (found s n) q = let f = found-in takes text e at 1 s n q in (omega arith, omega arith, omega arith, omega arith, omega arith)
-  ere-goes e at h nowhere q = (omega arith, omega arith, omega arith, omega arith, omega arith)
-
-  pub goes : (s : Separator) (at : ℕ) → Goes at (length text) (nextField text s at)
+  pub blank-field : (set : List ℕ) (at : ℕ) → at + leading true set (drop at text) < length text
+      → let s = at + leading true set (drop at text) in
+      nextField text (blank set) at ≡ field (span s (leading false set (drop s text))) (s + leading false set (drop s text))
   unfolding nextField
-  goes (blank set) at = blank-goes set at
-  goes (byte b) at = by (leb at (length text)) refl
-    where
-      by : (x : Bool) → leb at (length text) ≡ x → Goes at (length text) (cond x (field (span at (firstByte b (drop at text))) (suc (at + firstByte b (drop at text)))) none)
-      by true h = byte-goes b at (leb-true at (length text) h)
-      by false h = tt
-  goes (ere e) at = by (leb at (length text)) refl
-    where
-      by : (x : Bool) → leb at (length text) ≡ x → Goes at (length text) (cond x (upTo at (length text) (bestFrom takes text e at 1)) none)
-      by true h = ere-goes e at (leb-true at (length text) h) (bestFrom takes text e at 1) refl
-      by false h = tt
+  blank-field set at h = simp holds
+
+  -- only blanks are left
+  pub blank-past : (set : List ℕ) (at : ℕ) → length text ≤ at + leading true set (drop at text) → nextField text (blank set) at ≡ none
+  unfolding nextField
+  blank-past set at h = simp fails
+
+  -- at the text's end is a field still
+  pub byte-field : (b at : ℕ) → at ≤ length text
+      → nextField text (byte b) at ≡ field (span at (firstByte b (drop at text))) (suc (at + firstByte b (drop at text)))
+  unfolding nextField
+  byte-field b at h = simp holds
+
+  -- the separator is the best of those that are not empty
+  pub ere-field : (e : Ere Class) (at : ℕ) → at ≤ length text
+      → (m : Match) × (BestFrom takes text e at 1 m) × (nextField text (ere e) at ≡ upTo at (length text) m)
+  unfolding nextField
+  ere-field e at h = (bestFrom takes text e at 1, best-from takes text e at 1, simp holds)
 
   -- behind the end is no field
   pub next-past : (s : Separator) (at : ℕ) → length text < at → nextField text s at ≡ none
   unfolding nextField
-  next-past (blank set) at h = rw (le-ltb (at + leading true set (drop at text)) (length text) (omega arith))
-  next-past (byte b) at h = rw (lt-leb at (length text) h)
-  next-past (ere e) at h = rw (lt-leb at (length text) h)
+  next-past (blank set) at h = blank-past set at (omega arith)
+  next-past (byte b) at h = simp fails
+  next-past (ere e) at h = simp fails
+
+  -- ---- it goes on
+
+  blank-goes : (set : List ℕ) (at : ℕ) → at + leading true set (drop at text) < length text → Goes at (length text) (nextField text (blank set) at)
+  blank-goes set at h =
+      let s = at + leading true set (drop at text) in
+      let l = length-drop s text in
+      let m = leading-most false set (drop s text) in
+      let w = word-some set at h in
+      rw (blank-field set at h) (omega arith, omega arith, omega arith, omega arith, omega arith)
+
+  byte-goes : (b at : ℕ) → at ≤ length text → Goes at (length text) (nextField text (byte b) at)
+  byte-goes b at h =
+      let l = length-drop at text in
+      let m = first-byte-most b (drop at text) in
+      rw (byte-field b at h) (omega arith, omega arith, omega arith, omega arith, omega arith)
+
+  up-to-goes : (e : Ere Class) (at : ℕ) → at ≤ length text → (m : Match) → BestFrom takes text e at 1 m → Goes at (length text) (upTo at (length text) m)
+  up-to-goes e at h (found s n) x = (omega arith, omega (arith, x .0 .0), omega (arith, x .1), omega (arith, x .1, x .2), omega (arith, x .0 .0))
+  up-to-goes e at h nowhere x = (omega arith, omega arith, omega arith, omega arith, omega arith)
+
+  ere-goes : (e : Ere Class) (at : ℕ) → at ≤ length text → Goes at (length text) (nextField text (ere e) at)
+  ere-goes e at h = let r = ere-field e at h in rw (r .2) (up-to-goes e at h (r .0) (r .1))
+
+  past-goes : (s : Separator) (at : ℕ) → nextField text s at ≡ none → Goes at (length text) (nextField text s at)
+  past-goes s at h = rw h tt
+
+  pub goes : (s : Separator) (at : ℕ) → Goes at (length text) (nextField text s at)
+  goes (blank set) at =
+      elim (decLt (at + leading true set (drop at text)) (length text)) [
+        | yes h ↦ blank-goes set at h
+        | no n ↦ past-goes (blank set) at (blank-past set at (omega arith))
+      ]
+  goes (byte b) at = elim (decLe at (length text)) [ yes h ↦ byte-goes b at h | no n ↦ past-goes (byte b) at (next-past (byte b) at (omega arith)) ]
+  goes (ere e) at = elim (decLe at (length text)) [ yes h ↦ ere-goes e at h | no n ↦ past-goes (ere e) at (next-past (ere e) at (omega arith)) ]
 
   module _ (s : Separator) where
     -- more turns than are needed change nothing
