@@ -7,23 +7,19 @@ use Prim.Native.Nat.{ℕ, zero, suc, _+_, _≤_, _<_}
 use native.Mathlib.Nat.{eq-zero-or-pos}
 use native.Mathlib.Decide.{decLt}
 use native.Mathlib.Omega.{arith}
-use lib.ListN.{length, getD, drop, length-drop, drop-of-length-le}
+use lib.ListN.{length, getD, drop, drop-of-length-le}
 use Rattle.buffer.specs.Parts.{part}
 use Rattle.buffer.proofs.Parts.{length-part}
 use Rattle.splitting.specs.Separator.{blank}
-use Rattle.splitting.specs.Field.{Span, span, field, isIn, leading, nextField, fieldsFrom, fieldsOf}
+use Rattle.splitting.specs.Field.{span, isIn, leading, fieldsFrom, fieldsOf}
 use Rattle.splitting.specs.Meaning.{All, none, both, Behind, BlankSplit, blanks, word}
 use Rattle.splitting.specs.Splitting.{textOf}
-use Rattle.splitting.proofs.Runs.{leading-most}
 use Rattle.splitting.proofs.Turns.{word-some, blank-field, blank-past, fields-more, fields-none, fields-of, fields-empty}
-use Rattle.splitting.proofs.Fronts.{Stops, nil-no-cons, cut-one, run-all, run-stops, run-most, stop-behind, behind-stop, outside-stop}
-use Rattle.splitting.proofs.Weaving.{part-rest}
+use Rattle.splitting.proofs.Fronts.{nil-no-cons, cut-one, run-all, run-stops, run-most, stop-behind, behind-stop, outside-stop}
+use Rattle.splitting.proofs.Weaving.{holds-of, part-rest, part-last}
 
 module _ (set : List ℕ) where
   -- ---- the fields are so split
-
-  split-as : {t u : List ℕ} {fs gs : List (List ℕ)} → t ≡ u → fs ≡ gs → BlankSplit set u gs → BlankSplit set t fs
-  split-as {u} {fs} e g h = subst (λ (l : List ℕ). BlankSplit set l fs) (sym e) (subst (BlankSplit set u) (sym g) h)
 
   -- `word`, for a field of which the length is known
   a-word : (l f t : List ℕ) (fs : List (List ℕ)) → 0 < length f → All true set l → All false set f → Behind set t → BlankSplit set t fs
@@ -40,15 +36,11 @@ module _ (set : List ℕ) where
     run s = leading false set (drop s text)
 
     -- only blanks are left
-    blank-end : (at : ℕ) → length text ≤ past at → All true set (drop at text)
-    blank-end at h =
-        let e = sym (part-rest text at (leading true set (drop at text)) (past at) refl)
-        ∙ ap (λ (l : List ℕ). part at (leading true set (drop at text)) text ++ l) (drop-of-length-le text {i = past at} h)
-        ∙ append-nil (part at (leading true set (drop at text)) text) in
-        subst (All true set) (sym e) (run-all text true set at)
-
     blank-last : (at : ℕ) → length text ≤ past at → BlankSplit set (drop at text) (map (textOf text) (fieldsFrom text (blank set) at))
-    blank-last at h = rw (fields-none text (blank set) at (blank-past text set at h)) (blanks (blank-end at h))
+    blank-last at h =
+        let n = leading true set (drop at text) in
+        let a = subst (All true set) (sym (part-last text at n h)) (run-all text true set at) in
+        rw (fields-none text (blank set) at (blank-past text set at h)) (blanks a)
 
     blank-cut : (at : ℕ) → drop at text ≡ part at (leading true set (drop at text)) text ++ (part (past at) (run (past at)) text ++ drop (past at + run (past at)) text)
     blank-cut at =
@@ -64,7 +56,7 @@ module _ (set : List ℕ) where
           | yes k ↦
               let w = word-some text set at k in
               let r = run-most text false set s (omega arith) in
-              split-as (blank-cut at) (ap (map (textOf text)) (fields-more text (blank set) at (s + m) (span s m) (blank-field text set at k)))
+              holds-of (BlankSplit set) (blank-cut at) (ap (map (textOf text)) (fields-more text (blank set) at (s + m) (span s m) (blank-field text set at k)))
               (a-word (part at (leading true set (drop at text)) text) (part s m text) (drop (s + m) text) _
               (omega (arith, length-part s m text r))
               (run-all text true set at) (run-all text false set s)
@@ -76,8 +68,8 @@ module _ (set : List ℕ) where
     pub blank-split : BlankSplit set text (map (textOf text) (fieldsOf text (blank set)))
     blank-split =
         ⊎-elim
-        (λ z. split-as (drop-of-length-le text {i = 0} (omega arith)) (ap (map (textOf text)) (fields-empty text (blank set) z)) (blanks none))
-        (λ h. split-as refl (ap (map (textOf text)) (fields-of text (blank set) h)) (blank-from (suc (length text)) 0 (omega arith)))
+        (λ z. holds-of (BlankSplit set) (drop-of-length-le text {i = 0} (omega arith)) (ap (map (textOf text)) (fields-empty text (blank set) z)) (blanks none))
+        (λ h. holds-of (BlankSplit set) refl (ap (map (textOf text)) (fields-of text (blank set) h)) (blank-from (suc (length text)) 0 (omega arith)))
         (eq-zero-or-pos (length text))
 
   -- ---- and only so

@@ -7,23 +7,20 @@ use Prim.Native.Nat.{ℕ, zero, suc, _+_, _≤_, _<_}
 use native.Mathlib.Nat.{eq-or-lt-of-le}
 use native.Mathlib.Decide.{ℕ-discrete}
 use native.Mathlib.Omega.{arith}
-use lib.ListN.{length, getD, drop, drop-of-length-le}
+use lib.ListN.{length, getD, drop}
 use lib.Seq.{drop-cons}
 use Rattle.buffer.specs.Parts.{part}
 use Rattle.splitting.specs.Separator.{byte}
-use Rattle.splitting.specs.Field.{Span, span, Next, field, isIn, leading, nextField, fieldsFrom, fieldsOf}
+use Rattle.splitting.specs.Field.{span, field, isIn, leading, nextField, fieldsFrom, fieldsOf}
 use Rattle.splitting.specs.Meaning.{All, none, both, ByteSplit, last, more, Occurs, never, once-more}
 use Rattle.splitting.specs.Splitting.{textOf}
 use Rattle.splitting.proofs.Turns.{byte-field, next-past, fields-more, fields-none, fields-of}
 use Rattle.splitting.proofs.Fronts.{Stops, nil-no-cons, cut-one, run-all, run-stops, run-most, byte-itself, other-byte, stop-byte, first-leading}
-use Rattle.splitting.proofs.Weaving.{part-rest}
+use Rattle.splitting.proofs.Weaving.{holds-of, part-rest, part-last}
 
 -- ---- the fields are so split
 
 module _ (b : ℕ) where
-  split-as : {t u : List ℕ} {fs gs : List (List ℕ)} → t ≡ u → fs ≡ gs → ByteSplit b u gs → ByteSplit b t fs
-  split-as {u} {fs} e g h = subst (λ (l : List ℕ). ByteSplit b l fs) (sym e) (subst (ByteSplit b u) (sym g) h)
-
   module _ (text : List ℕ) where
     -- how many bytes from a place on are no b
     abbrev run : ℕ → ℕ
@@ -40,26 +37,26 @@ module _ (b : ℕ) where
         sym (part-rest text at (run at) (at + run at) refl)
         ∙ ap (λ (l : List ℕ). part at (run at) text ++ l) (c ∙ ap (λ (x : ℕ). x ∷ drop (suc (at + run at)) text) z)
 
-    byte-end : (at : ℕ) → at + run at ≡ length text → drop at text ≡ part at (run at) text
-    byte-end at h =
-        sym (part-rest text at (run at) (at + run at) refl)
-        ∙ ap (λ (l : List ℕ). part at (run at) text ++ l) (drop-of-length-le text {i = at + run at} (omega arith))
-        ∙ append-nil (part at (run at) text)
+    -- the fields from a place on: the one there, and those behind its separator
+    byte-fields : (at : ℕ) → at ≤ length text
+        → map (textOf text) (fieldsFrom text (byte b) at) ≡ part at (run at) text ∷ map (textOf text) (fieldsFrom text (byte b) (suc (at + run at)))
+    byte-fields at h = ap (map (textOf text)) (fields-more text (byte b) at (suc (at + run at)) (span at (run at)) (byte-next at h))
+
+    no-fields : (at : ℕ) → length text < at → fieldsFrom text (byte b) at ≡ []
+    no-fields at h = fields-none text (byte b) at (next-past text (byte b) at h)
 
     byte-from : (n at : ℕ) → length text < at + n → at ≤ length text → ByteSplit b (drop at text) (map (textOf text) (fieldsFrom text (byte b) at))
     byte-from zero at h k = absurd (omega arith)
     byte-from (suc n) at h k =
-        let e = ap (map (textOf text)) (fields-more text (byte b) at (suc (at + run at)) (span at (run at)) (byte-next at k)) in
         let a = run-all text false (b ∷ []) at in
+        let end = suc (at + run at) in
         ⊎-elim
-        (λ z. split-as (byte-end at z)
-        (e ∙ ap (λ (l : List Span). part at (run at) text ∷ map (textOf text) l) (fields-none text (byte b) (suc (at + run at)) (next-past text (byte b) (suc (at + run at)) (omega arith))))
-        (last a))
-        (λ g. split-as (byte-cut at g) e (more a (byte-from n (suc (at + run at)) (omega arith) g)))
+        (λ z. holds-of (ByteSplit b) (part-last text at (run at) (omega arith)) (byte-fields at k) (rw (no-fields end (omega arith)) (last a)))
+        (λ g. holds-of (ByteSplit b) (byte-cut at g) (byte-fields at k) (more a (byte-from n end (omega arith) g)))
         (eq-or-lt-of-le (run-most text false (b ∷ []) at k))
 
     pub byte-split : 0 < length text → ByteSplit b text (map (textOf text) (fieldsOf text (byte b)))
-    byte-split h = subst (λ (l : List Span). ByteSplit b text (map (textOf text) l)) (sym (fields-of text (byte b) h)) (byte-from (suc (length text)) 0 (omega arith) (omega arith))
+    byte-split h = rw (fields-of text (byte b) h) (byte-from (suc (length text)) 0 (omega arith) (omega arith))
 
   -- ---- and only so
 

@@ -1,11 +1,10 @@
 -- Laws on the bytes from the front on that are in a set, or are not.
-use mathlib.Core.Path.{_≡_, refl, sym, ap, _∙_}
+use mathlib.Core.Path.{_≡_, refl, ap, _∙_}
 use mathlib.Core.Bool.{Bool, true, false, cond, not}
 use mathlib.Core.List.{List, [], _∷_}
-use Prim.Native.Nat.{ℕ, zero, suc, _+_, _≤_, _<_}
+use Prim.Native.Nat.{ℕ, zero, suc, _≤_, _<_}
 use native.Mathlib.Omega.{arith}
 use lib.ListN.{length, getD}
-use Rattle.grammar.specs.Bytes.{oneOf}
 use Rattle.splitting.specs.Field.{isIn, leading}
 
 module _ (inside : Bool) (set : List ℕ) where

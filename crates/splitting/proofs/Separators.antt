@@ -1,6 +1,6 @@
 -- Fields that spans of an ERE separate: the fields are those that the relation says, and there are no others.
-use mathlib.Core.Path.{_≡_, refl, sym, ap, ap₂, subst, _∙_}
-use mathlib.Core.List.{List, [], _∷_}
+use mathlib.Core.Path.{_≡_, refl, sym, ap₂, subst}
+use mathlib.Core.List.{List, _∷_}
 use Prim.Native.Nat.{ℕ, zero, suc, _+_, _-_, _≤_, _<_}
 use native.Mathlib.Decide.{decLt}
 use native.Mathlib.Omega.{arith}
@@ -9,7 +9,7 @@ use Rattle.pattern.specs.Tree.{Class, takes, Ere}
 use Rattle.pattern.specs.Meaning.{Spans, Match, found, nowhere, BestFrom}
 use Rattle.pattern.proofs.Answers.{best-one}
 use Rattle.splitting.specs.Separator.{ere}
-use Rattle.splitting.specs.Field.{Span, span, field, upTo, nextField, fieldsFrom, fieldsOf}
+use Rattle.splitting.specs.Field.{Span, span, upTo, nextField, fieldsFrom, fieldsOf}
 use Rattle.splitting.specs.Meaning.{EreSplit, last, more}
 use Rattle.splitting.proofs.Turns.{ere-field, next-past, fields-more, fields-none, fields-of}
 

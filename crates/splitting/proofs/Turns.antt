@@ -1,14 +1,14 @@
 -- The fields one after the other: each turn goes on by a byte at least, so the turns are enough.
 use mathlib.Core.Path.{_≡_, refl, sym, ap, subst, _∙_}
-use mathlib.Core.Bool.{Bool, true, false, cond}
+use mathlib.Core.Bool.{true, false}
+use mathlib.Core.Logic.{⊎-elim}
 use mathlib.Core.List.{List, [], _∷_}
 use Prim.Native.Nat.{ℕ, zero, suc, _+_, _-_, _≤_, _<_}
 use native.Mathlib.Omega.{arith}
+use native.Mathlib.Nat.{eq-zero-or-pos}
 use native.Mathlib.Decide.{decLe, decLt}
-use native.Mathlib.Nat.{add-zero}
-use lib.ListN.{length, getD, drop, length-drop, drop-of-length-le}
+use lib.ListN.{length, getD, drop, length-drop}
 use lib.Seq.{getD-drop, drop-cons}
-use lib.Dec.{eqb, ltb, leb}
 use borrow.Author.Tests.{lt-ltb, le-leb, le-ltb, lt-leb, eq-eqb, ne-eqb}
 use Rattle.buffer.specs.First.{firstByte}
 use Rattle.buffer.proofs.First.{first-byte-most}
@@ -151,6 +151,7 @@ module _ (text : List ℕ) where
     unfolding fieldsOf
     fields-of h = rw (ne-eqb (length text) 0 (λ e. omega arith))
 
+    -- "An empty record has no fields."
     pub fields-empty : length text ≡ 0 → fieldsOf text s ≡ []
     unfolding fieldsOf
     fields-empty h = rw (eq-eqb (length text) 0 h)
@@ -169,9 +170,7 @@ module _ (text : List ℕ) where
         by none g r = k
 
     pub ordered : Ordered (length text) 0 (fieldsOf text s)
-    unfolding fieldsOf fieldsFrom
-    ordered = by (eqb (length text) 0)
-      where
-        by : (x : Bool) → Ordered (length text) 0 (cond x [] (fieldsIn text s (suc (length text) - 0) 0))
-        by true = omega arith
-        by false = ordered-in (suc (length text) - 0) 0 0 (omega arith) (omega arith)
+    unfolding fieldsFrom
+    ordered =
+        ⊎-elim (λ z. rw (fields-empty z) (omega arith)) (λ h. rw (fields-of h) (ordered-in (suc (length text) - 0) 0 0 (omega arith) (omega arith)))
+        (eq-zero-or-pos (length text))
