@@ -99,3 +99,6 @@ module _ (b : ℕ) where
         | yes e ↦ (suc (r .0), subst (λ (c : ℕ). Occurs b (suc (r .0)) (c ∷ t)) (sym e) (once-more none (r .1)))
         | no n ↦ (r .0, other-more (other-byte b x n) (r .1))
       ]
+
+  pub occurs-one : {n m : ℕ} {t : List ℕ} → Occurs b n t → Occurs b m t → n ≡ m
+  occurs-one {m} o p = let r = occurs-split o in omega (arith, r .2, byte-count (r .1) m p)

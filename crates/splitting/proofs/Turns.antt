@@ -21,7 +21,8 @@ use Rattle.splitting.specs.Field.{Span, span, Next, field, none, leading
 use Rattle.splitting.specs.Meaning.{Ordered}
 use Rattle.splitting.proofs.Runs.{leading-on, leading-most, leading-stops, not-in}
 
--- a test that is true, and one that is not, by the fact that it tests
+-- A test is true, or is not, by the fact that it tests. Both kinds of tests are listed, and both facts are given where both hold, so that the laws on
+-- a turn below hang on what is tested and not on how.
 ruleset holds = (lt-ltb, le-leb)
 
 ruleset fails = (le-ltb, lt-leb)
@@ -50,7 +51,7 @@ module _ (text : List ℕ) where
       → let s = at + leading true set (drop at text) in
       nextField text (blank set) at ≡ field (span s (leading false set (drop s text))) (s + leading false set (drop s text))
   unfolding nextField
-  blank-field set at h = simp holds
+  blank-field set at h = let k : at + leading true set (drop at text) ≤ length text = omega arith in simp holds
 
   -- only blanks are left
   pub blank-past : (set : List ℕ) (at : ℕ) → length text ≤ at + leading true set (drop at text) → nextField text (blank set) at ≡ none
@@ -73,8 +74,8 @@ module _ (text : List ℕ) where
   pub next-past : (s : Separator) (at : ℕ) → length text < at → nextField text s at ≡ none
   unfolding nextField
   next-past (blank set) at h = blank-past set at (omega arith)
-  next-past (byte b) at h = simp fails
-  next-past (ere e) at h = simp fails
+  next-past (byte b) at h = let k : length text ≤ at = omega arith in simp fails
+  next-past (ere e) at h = let k : length text ≤ at = omega arith in simp fails
 
   -- ---- it goes on
 
