@@ -1,0 +1,138 @@
+-- What the code answers of a record is what the definition says of it.
+use mathlib.Core.Path.{_≡_, refl, sym, ap, subst, _∙_}
+use mathlib.Core.Bool.{Bool, true, false, cond}
+use mathlib.Core.List.{List, [], _∷_}
+use mathlib.Core.Option.{Option, some, none}
+use Prim.Native.Nat.{ℕ, zero, suc, _+_, _≤_, _<_}
+use native.Mathlib.Omega.{arith}
+use lib.ListN.{length}
+use lib.Dec.{leb}
+use borrow.Author.Tests.{le-leb, lt-leb, leb-true, leb-false}
+use Rattle.edition.specs.Limits.{recordBytes, fieldCount}
+use Rattle.splitting.specs.Separator.{Separator, separatorOf}
+use Rattle.splitting.specs.Field.{Span, span, fieldsOf}
+use Rattle.splitting.specs.Splitting.{Split, fields, long-record, bad-separator, many-fields, counted, separated, splitOf, spanOf}
+use Rattle.fields.specs.Answer.{answer}
+use Rattle.fields.specs.Spread.{Means, Told, Tells, withSpans, upToMany, spansOf, roomOf}
+use Rattle.fields.specs.declared.kinds.Kind.{Kind}
+use Rattle.fields.specs.declared.kinds.Kind.the-variants.{Blank, Byte, Pattern, Refused}
+use Rattle.fields.specs.declared.entries.Splitting.{Splitting}
+use Rattle.fields.specs.declared.entries.Splitting.the-variants.{Fields, LongRecord, BadSeparator, ManyFields}
+use types.Run.{OneOf, miss}
+use denote.Enum.Declared.{tagOf}
+use Rattle.fields.proofs.kinds.Kind.{the-type as kind-type}
+use Rattle.fields.proofs.entries.Splitting.{the-type}
+use Rattle.fields.proofs.Spreading.{Spreads}
+
+pub told : (edition : ℕ) (bytes t : List ℕ) (k : Kind) → (k ≡ Refused → ⊥) → Tells edition bytes t k → Told edition bytes t k
+told edition bytes t Blank n h = h
+told edition bytes t (Byte b) n h = h
+told edition bytes t Pattern n h = h
+told edition bytes t Refused n h = absurd (n refl)
+
+-- what is answered, with the room for spans
+abbrev pub Filled : List ℕ → Option Separator → List ℕ → Splitting → List ℕ → Type 0
+Filled text o room₀ r room = (r ≡ answer (separated text o)) × (room ≡ spansOf room₀ text o)
+
+pub few : (n : ℕ) → upToMany n ≤ fieldCount → (upToMany n ≡ n) × (leb n fieldCount ≡ true)
+few n h = by (leb n fieldCount) refl
+  where
+    by : (x : Bool) → leb n fieldCount ≡ x → (upToMany n ≡ n) × (leb n fieldCount ≡ true)
+    by true e = (rw e, e)
+    by false e = absurd (omega (arith, (rw e at h)))
+
+pub many : (n : ℕ) → fieldCount < upToMany n → leb n fieldCount ≡ false
+many n h = by (leb n fieldCount) refl
+  where
+    by : (x : Bool) → leb n fieldCount ≡ x → leb n fieldCount ≡ false
+    by true e = absurd (omega (arith, leb-true n fieldCount e, (rw e at h)))
+    by false e = e
+
+module _ (text : List ℕ) (o : Option Separator) (room₀ : List ℕ) where
+  pub filled-none : o ≡ none → Filled text o room₀ BadSeparator room₀
+  filled-none h = rw h (refl, refl)
+
+  pub filled-many : (s : Separator) (n : ℕ) (room : List ℕ) → o ≡ some s → Spreads text s room₀ n room → fieldCount < n → Filled text o room₀ ManyFields room
+  filled-many s n room h g l =
+      let e = many (length (fieldsOf text s)) (subst (λ (m : ℕ). fieldCount < m) (g .0) l) in
+      rw h (rw e refl, g .1)
+
+  pub filled-some : (s : Separator) (n : ℕ) (room : List ℕ) → o ≡ some s → Spreads text s room₀ n room → n ≤ fieldCount → Filled text o room₀ (Fields n) room
+  filled-some s n room h g l =
+      let e = few (length (fieldsOf text s)) (subst (λ (m : ℕ). m ≤ fieldCount) (g .0) l) in
+      rw h (rw (e .1) (ap Fields (g .0 ∙ e .0)), g .1)
+
+module _ (edition : ℕ) (separator text : List ℕ) (room₀ : List ℕ) where
+  -- what a split answers, with the room for spans
+  abbrev pub Splits : Splitting → List ℕ → Type 0
+  Splits r room = (r ≡ answer (splitOf edition separator text)) × (room ≡ roomOf edition separator text room₀)
+
+  pub split-long : recordBytes < length text → Splits LongRecord room₀
+  unfolding splitOf
+  split-long h = rw (lt-leb (length text) recordBytes h) (refl, refl)
+
+  pub split-filled : (r : Splitting) (room : List ℕ) → length text ≤ recordBytes → Filled text (separatorOf edition separator) room₀ r room → Splits r room
+  unfolding splitOf
+  split-filled r room h g = rw (le-leb (length text) recordBytes h) g
+
+-- ---- a split that answers a count
+
+-- one more than the count, and 0 of a refusal
+abbrev counting : Splitting → ℕ
+counting (Fields n) = suc n
+counting LongRecord = 0
+counting BadSeparator = 0
+counting ManyFields = 0
+
+-- the split has n fields, and the room has their spans
+pub record Has (n : ℕ) (x : Split) (room₀ room : List ℕ) : Type 0 where
+  pub them : List Span
+  pub split : x ≡ fields them
+  pub many : length them ≡ n
+  pub few : n ≤ fieldCount
+  pub spans : room ≡ withSpans room₀ 0 them
+
+has-counted : (n : ℕ) (room₀ : List ℕ) (fs : List Span) → Fields n ≡ answer (counted fs) → Has n (counted fs) room₀ (withSpans room₀ 0 fs)
+has-counted n room₀ fs h = by (leb (length fs) fieldCount) refl (ap counting h)
+  where
+    by : (x : Bool) → leb (length fs) fieldCount ≡ x → suc n ≡ counting (answer (cond x (fields fs) many-fields))
+        → Has n (counted fs) room₀ (withSpans room₀ 0 fs)
+    by true e z =
+        record { them = fs; split = rw e; many = omega arith; few = omega (arith, leb-true (length fs) fieldCount e); spans = refl }
+    by false e z = absurd (omega arith)
+
+has-separated : (n : ℕ) (text room₀ : List ℕ) (o : Option Separator) → Fields n ≡ answer (separated text o)
+    → Has n (separated text o) room₀ (spansOf room₀ text o)
+has-separated n text room₀ none h = absurd (let z = ap counting h in omega arith)
+has-separated n text room₀ (some s) h = has-counted n room₀ (fieldsOf text s) h
+
+module _ (edition : ℕ) (separator text : List ℕ) (room₀ : List ℕ) where
+  pub has-split : (n : ℕ) → Fields n ≡ answer (splitOf edition separator text)
+      → Has n (splitOf edition separator text) room₀ (roomOf edition separator text room₀)
+  unfolding splitOf
+  has-split n h = by (leb (length text) recordBytes) refl h
+    where
+      by : (x : Bool) → leb (length text) recordBytes ≡ x → Fields n ≡ answer (cond x (separated text (separatorOf edition separator)) long-record)
+          → Has n (cond x (separated text (separatorOf edition separator)) long-record) room₀ (cond x (spansOf room₀ text (separatorOf edition separator)) room₀)
+      by true e z = has-separated n text room₀ (separatorOf edition separator) z
+      by false e z = absurd (let q = ap counting z in omega arith)
+
+-- ---- and one that doesn't
+
+pub no-span : (end k : ℕ) (x : Split) (r : Splitting) → r ≡ answer x → counting r ≡ 0 → span end 0 ≡ spanOf end k x
+unfolding spanOf
+no-span end k (fields fs) r e h = absurd (let z = ap counting e in omega arith)
+no-span end k long-record r e h = refl
+no-span end k bad-separator r e h = refl
+no-span end k many-fields r e h = refl
+
+-- a code's match has come to the arm of the other answers
+pub refused : (r : Splitting) → OneOf (1 ∷ 2 ∷ 3 ∷ []) (tagOf the-type r) → counting r ≡ 0
+refused (Fields n) h = absurd (miss (1 ∷ 2 ∷ 3 ∷ []) 0 tt h)
+refused LongRecord h = refl
+refused BadSeparator h = refl
+refused ManyFields h = refl
+
+-- the same of a separator's kind
+pub not-refused : (k : Kind) → OneOf (0 ∷ 1 ∷ 2 ∷ []) (tagOf kind-type k) → k ≡ Refused → ⊥
+not-refused k h e = miss (0 ∷ 1 ∷ 2 ∷ []) 3 tt (subst (λ (x : Kind). OneOf (0 ∷ 1 ∷ 2 ∷ []) (tagOf kind-type x)) e h)

@@ -1,0 +1,74 @@
+-- A step of the code is the next field.
+use mathlib.Core.Path.{_≡_, refl, sym, ap, _∙_}
+use mathlib.Core.Bool.{Bool, true, false, cond, not, Bool·beq, true≢false}
+use mathlib.Core.List.{List}
+use Prim.Native.Nat.{ℕ, suc, _+_, _-_, _≤_, _<_}
+use native.Mathlib.Omega.{arith}
+use lib.ListN.{length, drop, length-drop}
+use borrow.Rule.Slice.PartMut.{midOf}
+use borrow.Author.Tests.{lt-ltb, le-ltb, le-leb}
+use Rattle.buffer.specs.First.{firstByte}
+use Rattle.buffer.proofs.First.{first-byte-most}
+use Rattle.buffer.proofs.Lent.{tail-lent}
+use Rattle.pattern.specs.Tree.{Class, takes, Ere}
+use Rattle.pattern.specs.Meaning.{Match}
+use Rattle.grammar.specs.Bytes.{oneOf}
+use Rattle.automaton.specs.Find.{Finds, matchOf}
+use Rattle.automaton.specs.declared.search.Found.{Found}
+use Rattle.ere.specs.Answer.{Serves, Bytes}
+use Rattle.ere.proofs.Serving.{serves-answer}
+use Rattle.splitting.specs.Separator.{blank, byte, ere}
+use Rattle.splitting.specs.Field.{span, Next, field, none, isIn, leading, upTo, nextField}
+
+-- a byte is not of the kind that is looked for, or is
+pub other-kind : (inside x : Bool) (set : List ℕ) (b : ℕ) → x ≡ oneOf set b → not (Bool·beq x inside) ≡ true → isIn inside set b ≡ false
+other-kind true true set b e h = absurd (true≢false (sym h))
+other-kind true false set b e h = sym e
+other-kind false true set b e h = ap not (sym e)
+other-kind false false set b e h = absurd (true≢false (sym h))
+
+pub same-kind : (inside x : Bool) (set : List ℕ) (b : ℕ) → x ≡ oneOf set b → not (Bool·beq x inside) ≡ false → isIn inside set b ≡ true
+same-kind true true set b e h = sym e
+same-kind true false set b e h = absurd (true≢false h)
+same-kind false true set b e h = absurd (true≢false h)
+same-kind false false set b e h = ap not (sym e)
+
+module _ (text : List ℕ) (at : ℕ) where
+  -- ---- blanks
+
+  pub word-none : (set : List ℕ) (s : ℕ) → s ≡ at + leading true set (drop at text) → length text ≤ s → none ≡ nextField text (blank set) at
+  unfolding nextField
+  word-none set s e h = rw (← e, le-ltb s (length text) h)
+
+  pub word-is : (set : List ℕ) (s t : ℕ) → s ≡ at + leading true set (drop at text) → s < length text → t ≡ s + leading false set (drop s text)
+      → field (span s (t - s)) t ≡ nextField text (blank set) at
+  unfolding nextField
+  word-is set s t e h f =
+      let z : t - s ≡ leading false set (drop s text) = omega arith in
+      rw (← e, lt-ltb s (length text) h, z, f)
+
+  -- ---- a byte
+
+  pub byte-size : (b n : ℕ) → at ≤ length text → n ≡ firstByte b (midOf at (length text - at) text) → at + n ≤ length text
+  byte-size b n h e =
+      let l = length-drop at text in
+      let m = first-byte-most b (drop at text) in
+      let z = e ∙ ap (firstByte b) (tail-lent text at) in
+      omega arith
+
+  pub byte-is : (b n : ℕ) → at ≤ length text → n ≡ firstByte b (midOf at (length text - at) text)
+      → field (span at n) (at + n + 1) ≡ nextField text (byte b) at
+  unfolding nextField
+  byte-is b n h e =
+      let z = e ∙ ap (firstByte b) (tail-lent text at) in
+      let s : at + n + 1 ≡ suc (at + n) = omega arith in
+      rw (le-leb at (length text) h, ← z, s)
+
+  -- ---- an ERE
+
+  pub ere-is : (t : List ℕ) (r : Found) → at ≤ length text → Bytes text → Finds t (midOf at (length text - at) text) at 1 r → (e : Ere Class) → Serves t e
+      → upTo at (length text) (matchOf r) ≡ nextField text (ere e) at
+  unfolding nextField
+  ere-is t r h bytes f e v =
+      let z = serves-answer t (midOf at (length text - at) text) at 1 r e text v f bytes h (sym (tail-lent text at)) in
+      rw (le-leb at (length text) h, z)

@@ -1,0 +1,3 @@
+-- What the code's own values stand for.
+pub mod Answer
+pub mod Spread

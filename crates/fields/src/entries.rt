@@ -1,0 +1,120 @@
+// Splitting a record, and one field of it.
+ghost use mathlib.Core.Path.{_≡_};
+ghost use Prim.Native.Nat.{_<_, _≤_, _*_};
+ghost use lib.ListN.{length};
+ghost use Rattle.edition.specs.Limits.{recordBytes, fieldCount};
+ghost use Rattle.automaton.specs.Table.{tableWords};
+ghost use Rattle.splitting.specs.Separator.{separatorOf};
+ghost use Rattle.splitting.specs.Field.{span};
+ghost use Rattle.splitting.specs.Splitting.{separated, splitOf, spanOf, textOf};
+ghost use Rattle.fields.specs.Answer.{answer, placeOf};
+ghost use Rattle.fields.specs.Spread.{spansOf, roomOf};
+use crate::kinds;
+use crate::kinds::Kind;
+use crate::spans as spreading;
+use edition::Edition;
+
+// What a split answers: how many fields there are, or why there are none.
+pub enum Splitting {
+    Fields(usize),
+    LongRecord,
+    BadSeparator,
+    ManyFields,
+}
+
+// A field's span, and what the split answers.
+pub struct Located {
+    pub splitting: Splitting,
+    pub start: usize,
+    pub size: usize,
+}
+
+// Splits a record that isn't too long. The table is for a separator that is an ERE.
+fn fill_with(
+    record: &[u8],
+    separator: &[u8],
+    edition: Edition,
+    t: &mut [u64],
+    spans: &mut [usize],
+) -> Splitting
+    requires { ⌜ (1 < length (now separator) → length (now t) ≡ tableWords) ⌝ }
+    ensures { λ r. ⌜ (r ≡ answer (separated (now («record» .entry)) (separatorOf (edition .number) (now (separator .entry)))))
+        × (now (spans .exit) ≡ spansOf (now (spans .entry)) (now («record» .entry)) (separatorOf (edition .number) (now (separator .entry)))) ⌝ }
+{
+    let kind = kinds::kind_of(separator, edition, t);
+    if let Kind::Refused = kind {
+        return Splitting::BadSeparator;
+    }
+    let n = spreading::spread(record, kind, edition, t, spans);
+    if Edition::FIELDS < n {
+        return Splitting::ManyFields;
+    }
+    Splitting::Fields(n)
+}
+
+// Splits a record, by edition 1. A separator of one byte needs no table, and making one takes longer than such a split.
+fn fill(record: &[u8], separator: &[u8], spans: &mut [usize]) -> Splitting
+    ensures { λ r. ⌜ (r ≡ answer (splitOf 1 (now (separator .entry)) (now («record» .entry))))
+        × (now (spans .exit) ≡ roomOf 1 (now (separator .entry)) (now («record» .entry)) (now (spans .entry))) ⌝ }
+{
+    let edition = Edition { number: 1 };
+    if Edition::RECORD < record.len() {
+        return Splitting::LongRecord;
+    }
+    if 1 < separator.len() {
+        let mut t = [0u64; automaton::TABLE];
+        return fill_with(record, separator, edition, &mut t, spans);
+    }
+    let mut t = [0u64; 1];
+    fill_with(record, separator, edition, &mut t, spans)
+}
+
+// The outcome of splitting a record, with the number of its fields.
+pub fn split(record: &[u8], separator: &[u8]) -> Splitting
+    ensures { λ r. ⌜ r ≡ answer (splitOf 1 (now (separator .entry)) (now («record» .entry))) ⌝ }
+{
+    let mut spans = [0usize; 2];
+    fill(record, separator, &mut spans)
+}
+
+// The span of field k, and the outcome of splitting the record.
+pub fn locate(record: &[u8], separator: &[u8], k: usize) -> Located
+    ensures { λ r. ⌜ (r .splitting ≡ answer (splitOf 1 (now (separator .entry)) (now («record» .entry))))
+        × (span (r .start) (r .size) ≡ spanOf (length (now («record» .entry))) k (splitOf 1 (now (separator .entry)) (now («record» .entry)))) ⌝ }
+{
+    let mut spans = [0usize; 2 * Edition::FIELDS];
+    let end = record.len();
+    let s = fill(record, separator, &mut spans);
+    if let Splitting::Fields(n) = s {
+        if k == 0 {
+            return Located {
+                splitting: s,
+                start: 0,
+                size: end,
+            };
+        }
+        if k <= n {
+            return Located {
+                splitting: s,
+                start: spans[2 * (k - 1)],
+                size: spans[2 * (k - 1) + 1],
+            };
+        }
+    }
+    Located {
+        splitting: s,
+        start: end,
+        size: 0,
+    }
+}
+
+// Field k of a record, as a part of the record.
+pub fn field<'a, 'b>(record: &'a [u8], separator: &'b [u8], k: usize) -> &'a [u8]
+    ensures { λ r. ⌜ (now r ≡ textOf (now («record» .entry)) (spanOf (length (now («record» .entry))) k (splitOf 1 (now (separator .entry)) (now («record» .entry)))))
+        × (r .ptr ≡ placeOf («record» .entry .ptr) (spanOf (length (now («record» .entry))) k (splitOf 1 (now (separator .entry)) (now («record» .entry))))) ⌝ }
+{
+    let f = locate(record, separator, k);
+    let start = f.start;
+    let size = f.size;
+    &record[start..start + size]
+}

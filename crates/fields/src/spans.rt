@@ -1,0 +1,48 @@
+// The spans of all fields of a record, one field after the other.
+ghost use mathlib.Core.Path.{_≡_};
+ghost use Prim.Native.Nat.{_≤_};
+ghost use lib.ListN.{length};
+ghost use Rattle.edition.specs.Limits.{fieldCount};
+ghost use Rattle.splitting.specs.Separator.{Separator};
+ghost use Rattle.splitting.specs.Field.{span, fieldsOf};
+ghost use Rattle.fields.specs.Spread.{Sized, Means, withSpan, withSpans, upToMany};
+use crate::kinds::Kind;
+use crate::steps;
+use edition::Edition;
+
+// Writes the span of field k, counted from 0, if the room has words for it.
+fn put_span(spans: &mut [usize], k: usize, start: usize, size: usize)
+    requires { ⌜ k ≤ fieldCount ⌝ }
+    ensures { λ u. ⌜ now (spans .exit) ≡ withSpan (now (spans .entry)) k (span start size) ⌝ }
+{
+    if k < Edition::FIELDS {
+        if 2 * k + 1 < spans.len() {
+            spans[2 * k] = start;
+            spans[2 * k + 1] = size;
+        }
+    }
+}
+
+// Writes the spans of the fields, as many as the room has words for, and counts them up to one more than a record may have.
+pub fn spread(text: &[u8], kind: Kind, edition: Edition, t: &[u64], spans: &mut [usize]) -> usize
+    requires { ⌜ Sized kind (now t) ⌝ }
+    ensures { λ r. ⌜ ((s : Separator) → Means (edition .number) (now (t .entry)) kind s
+        → (r ≡ upToMany (length (fieldsOf (now (text .entry)) s)))
+        × (now (spans .exit) ≡ withSpans (now (spans .entry)) 0 (fieldsOf (now (text .entry)) s))) ⌝ }
+{
+    if text.len() == 0 {
+        return 0;
+    }
+    let mut at: usize = 0;
+    let mut n: usize = 0;
+    while n <= Edition::FIELDS {
+        let f = steps::next_field(text, kind, edition, t, at);
+        if !f.found {
+            return n;
+        }
+        put_span(spans, n, f.start, f.size);
+        at = f.after;
+        n += 1;
+    }
+    n
+}
