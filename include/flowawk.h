@@ -31,6 +31,24 @@ extern "C" {
  */
 uint64_t flowawk_match(const uint8_t *ere, size_t ere_length, const uint8_t *text, size_t text_length, uint64_t *rstart, int64_t *rlength);
 
+/*
+ * The fields of a record, as the separator fs splits it. One space: at spaces and tabs, leading and trailing ones dropped. Any other single byte: at
+ * each such byte. Longer: fs is an ERE, and each separator starts at the leftmost place after the last one where a nonempty match exists, and is the
+ * longest there; anchors are judged against the whole record. An empty record has no fields.
+ *
+ * Outcome 15 if the record has over 512 bytes; else 18 if fs is empty, or longer than a byte and no ERE (as for `flowawk_match`); else 16 if there are
+ * over 128 fields; else 0.
+ *
+ * *count is stored on every call: the number of fields, 0 with outcomes 15, 18 and 16.
+ */
+uint64_t flowawk_split(const uint8_t *record, size_t record_length, const uint8_t *fs, size_t fs_length, uint64_t *count);
+
+/*
+ * Field k of a record: its first byte's index in the record, counted from 0, and its length, which are stored on every call. k = 0 is the whole record;
+ * k above the number of fields, and any k where the outcome isn't 0, is the empty part at the record's end. The outcome is that of `flowawk_split`.
+ */
+uint64_t flowawk_field(const uint8_t *record, size_t record_length, const uint8_t *fs, size_t fs_length, uint64_t k, uint64_t *start, uint64_t *length);
+
 #ifdef __cplusplus
 }
 #endif

@@ -1,2 +1,3 @@
 -- Laws on what the C functions answer.
 pub mod Within
+pub mod Splits

@@ -1,2 +1,3 @@
 -- What the C functions answer and store.
 pub mod Match
+pub mod Split

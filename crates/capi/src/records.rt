@@ -1,0 +1,62 @@
+// The fields of a record, for C.
+ghost use mathlib.Core.Path.{_≡_};
+ghost use lib.ListN.{length as length'};
+ghost use Rattle.splitting.specs.Field.{span};
+ghost use Rattle.splitting.specs.Splitting.{splitOf, outcomeOf, countOf, spanOf};
+ghost use Rattle.capi.specs.Split.{outcomeIn, countIn};
+use edition::Outcome;
+use fields::Splitting;
+
+// The number of a split's outcome.
+fn outcome_of(s: Splitting) -> u64
+    ensures { λ r. ⌜ r ≡ outcomeIn s ⌝ }
+{
+    match s {
+        Splitting::Fields(n) => Outcome::DONE,
+        Splitting::LongRecord => Outcome::RECORD_TOO_LONG,
+        Splitting::BadSeparator => Outcome::BAD_SEPARATOR,
+        Splitting::ManyFields => Outcome::BAD_FIELD_NUMBER,
+    }
+}
+
+// How many fields there are, 0 of a refused record.
+fn count_of(s: Splitting) -> u64
+    ensures { λ r. ⌜ r ≡ countIn s ⌝ }
+{
+    match s {
+        Splitting::Fields(n) => n as u64,
+        Splitting::LongRecord => 0,
+        Splitting::BadSeparator => 0,
+        Splitting::ManyFields => 0,
+    }
+}
+
+// Splits a record, by edition 1.
+#[no_mangle]
+pub extern "C" fn flowawk_split(record: &[u8], fs: &[u8], count: &mut u64) -> u64
+    ensures { λ r. ⌜ (r ≡ outcomeOf (splitOf 1 (now (fs .entry)) (now («record» .entry))))
+        × (now (count .exit) ≡ countOf (splitOf 1 (now (fs .entry)) (now («record» .entry)))) ⌝ }
+{
+    let s = fields::split(record, fs);
+    *count = count_of(s);
+    outcome_of(s)
+}
+
+// Field k of a record, by edition 1: the outcome of splitting it, and the field's place and length.
+#[no_mangle]
+pub extern "C" fn flowawk_field(
+    record: &[u8],
+    fs: &[u8],
+    k: u64,
+    start: &mut u64,
+    length: &mut u64,
+) -> u64
+    ensures { λ r. ⌜ (r ≡ outcomeOf (splitOf 1 (now (fs .entry)) (now («record» .entry))))
+        × (span (now (start .exit)) (now (length .exit)) ≡ spanOf (length' (now («record» .entry))) k (splitOf 1 (now (fs .entry)) (now («record» .entry)))) ⌝ }
+{
+    let f = fields::locate(record, fs, k as usize);
+    let s = f.splitting;
+    *start = f.start as u64;
+    *length = f.size as u64;
+    outcome_of(s)
+}
