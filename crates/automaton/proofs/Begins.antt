@@ -15,7 +15,6 @@ use Rattle.automaton.specs.Table.{bit, mem, row, noPlace, takesAt, begin
 use Rattle.automaton.specs.Walk.{step, stopIn, liveAt, longestTo, longestOf, entryRow, openTo, mayBegin}
 use Rattle.automaton.specs.Build.{entered, joinClass, gather, beginTo}
 use Rattle.automaton.specs.Find.{beginWords, Sealed}
-use Rattle.automaton.specs.declared.search.Longest.the-variants.{To, Never}
 use Rattle.automaton.proofs.Digits.{bit-or, or-left, or-right}
 use Rattle.automaton.proofs.Steps.{step-none}
 use Rattle.automaton.proofs.Finds.{none-longer}
@@ -113,21 +112,21 @@ module _ (t : List ℕ) (S : Sealed t) where
       by false a y b e = absurd (omega (arith, e))
 
   -- no match is empty
-  none-yet : (rest : List ℕ) (at least s : ℕ) → entryRow (at + s) < 2 → openTo t least ≡ false → longestTo t rest at least s 1 ≡ Never
+  none-yet : (rest : List ℕ) (at least s : ℕ) → entryRow (at + s) < 2 → openTo t least ≡ false → longestTo t rest at least s 1 ≡ 0
   unfolding longestTo liveAt
   none-yet rest at least s entry o = by (eqb least 0) refl
     where
-      pick : (x : Bool) → cond x (cond false (To 0) Never) Never ≡ Never
+      pick : (x : Bool) → cond x (cond false (suc 0) 0) 0 ≡ 0
       pick true = refl
       pick false = refl
 
-      by : (y : Bool) → eqb least 0 ≡ y → cond (leb least 0) (cond (stopIn (row t (entryRow (at + s))) (eqb (s + 0) (length rest))) (To 0) Never) Never ≡ Never
+      by : (y : Bool) → eqb least 0 ≡ y → cond (leb least 0) (cond (stopIn (row t (entryRow (at + s))) (eqb (s + 0) (length rest))) (suc 0) 0) 0 ≡ 0
       by true z =
           let e : emptyWord t ≡ 0 = eqb-true (emptyWord t) 0 (not-false _ (ap (λ (x : Bool). cond x (not (eqb (emptyWord t) 0)) false) (sym z) ∙ o)) in
-          ap (λ (x : Bool). cond (leb least 0) (cond x (To 0) Never) Never) (empty-out (entryRow (at + s)) entry e (eqb (s + 0) (length rest))) ∙ pick (leb least 0)
+          ap (λ (x : Bool). cond (leb least 0) (cond x (suc 0) 0) 0) (empty-out (entryRow (at + s)) entry e (eqb (s + 0) (length rest))) ∙ pick (leb least 0)
       by false z =
           let n = eqb-false least 0 z in
-          ap (λ (x : Bool). cond x (cond (stopIn (row t (entryRow (at + s))) (eqb (s + 0) (length rest))) (To 0) Never) Never) (lt-leb least 0 (lt-of-not-le (λ l. n (omega arith))))
+          ap (λ (x : Bool). cond x (cond (stopIn (row t (entryRow (at + s))) (eqb (s + 0) (length rest))) (suc 0) 0) 0) (lt-leb least 0 (lt-of-not-le (λ l. n (omega arith))))
 
   first-none : (rest : List ℕ) (at s : ℕ) → entryRow (at + s) < 2 → getD rest s 0 < 256 → begins t (getD rest s 0) ≡ false → liveAt t rest at s 1 ≡ noPlace
   unfolding liveAt
@@ -135,14 +134,14 @@ module _ (t : List ℕ) (S : Sealed t) where
 
   -- a start whose byte no match can begin with has none
   pub skipped : (rest : List ℕ) (at least s : ℕ) → s < length rest → getD rest s 0 < 256 → mayBegin t (getD rest s 0) (openTo t least) ≡ false
-      → longestOf t rest at least s ≡ Never
+      → longestOf t rest at least s ≡ 0
   skipped rest at least s hs hb off = by (openTo t least) refl off
     where
       low : (x : Bool) → cond x 0 1 < 2
       low true = omega arith
       low false = omega arith
 
-      by : (x : Bool) → openTo t least ≡ x → cond x true (begins t (getD rest s 0)) ≡ false → longestOf t rest at least s ≡ Never
+      by : (x : Bool) → openTo t least ≡ x → cond x true (begins t (getD rest s 0)) ≡ false → longestOf t rest at least s ≡ 0
       by true o f = absurd (true≢false f)
       by false o f =
           let entry : entryRow (at + s) < 2 = low (eqb (at + s) 0) in
@@ -152,6 +151,6 @@ module _ (t : List ℕ) (S : Sealed t) where
 
 -- the same, as the search has it
 pub not-begun : (t rest : List ℕ) (at least s : ℕ) (empty r : Bool) → empty ≡ openTo t least → r ≡ mayBegin t (getD rest s 0) empty → r ≡ false
-    → s < length rest → getD rest s 0 < 256 → Sealed t → longestOf t rest at least s ≡ Never
+    → s < length rest → getD rest s 0 < 256 → Sealed t → longestOf t rest at least s ≡ 0
 not-begun t rest at least s empty r o e f hs hb S =
     skipped t S rest at least s hs hb (ap (mayBegin t (getD rest s 0)) (sym o) ∙ sym e ∙ f)
