@@ -54,20 +54,19 @@ pub fn put(t: &[u64], out: [u64; 3], b: u8, p: usize) -> [u64; 3]
     out
 }
 
-// The places of word w of a set, which is x, by its set bits.
+// The places of word w of a set, which is x, by its set bits, the lowest first. A bit is taken off where it stands: shifting the rest down would make
+// each turn wait longer for the one before it.
 pub fn step_word(t: &[u64], b: u8, start: [u64; 3], w: usize, x: u64) -> [u64; 3]
     requires { ⌜ (length (now t) ≡ tableWords) × (w < 2) ⌝ }
     ensures { λ r. ⌜ r ≡ stepWord (now (t .entry)) b x w start 64 ⌝ }
 {
     let mut out = start;
     let mut rest = x;
-    let mut d: usize = 0;
     while rest != 0 {
         let k = u64::trailing_zeros(rest) as usize;
-        let next = put(t, out, b, 64 * w + d + k);
+        let next = put(t, out, b, 64 * w + k);
         out = next;
-        rest = (rest >> k) >> 1;
-        d = d + k + 1;
+        rest -= 1 << k;
     }
     out
 }
