@@ -13,9 +13,10 @@ use Rattle.pattern.specs.Tree.{Ere}
 use Rattle.pattern.specs.Meaning.{Spans, BestFrom}
 use Rattle.pattern.specs.Search.{bestFrom}
 use Rattle.pattern.proofs.Answers.{best-is}
-use Rattle.automaton.specs.Table.{row, takesAt}
+use Rattle.table.specs.Table.{row, takesAt}
 use Rattle.automaton.specs.Walk.{step, liveAt, longestTo, longestOf, entryRow, note}
-use Rattle.automaton.specs.Find.{Tabled, Sealed, Finds, Inside, matchOf}
+use Rattle.table.specs.Wiring.{Tabled, Sealed}
+use Rattle.automaton.specs.Find.{Finds, Inside, matchOf}
 use Rattle.automaton.specs.declared.search.Found.{Found}
 use Rattle.automaton.specs.declared.search.Found.the-variants.{At, Nowhere}
 use Rattle.automaton.proofs.Meets.{Told, told, stop-leads, leads-stop}

@@ -9,9 +9,9 @@ use native.Mathlib.Omega.{arith}
 use lib.ListN.{length, getD}
 use lib.Dec.{eqb, leb}
 use borrow.Author.Tests.{eq-eqb, ne-eqb, eqb-true}
-use Rattle.automaton.specs.Table.{noPlace}
+use Rattle.table.specs.Table.{noPlace}
 use Rattle.automaton.specs.Walk.{step, dead, liveAt, longestTo, longestOf, note}
-use Rattle.automaton.proofs.Digits.{and-both, mem-none}
+use Rattle.table.proofs.Sets.{and-both, mem-none}
 use Rattle.automaton.proofs.Steps.{step-dead}
 
 -- ---- after a set with no place in it no walk stops

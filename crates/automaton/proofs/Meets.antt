@@ -11,11 +11,11 @@ use lib.Dec.{eqb, ltb, leb}
 use borrow.Author.Tests.{ne-eqb, ltb-true, lt-ltb, leb-true, leb-false}
 use Rattle.pattern.specs.Tree.{Ere}
 use Rattle.pattern.specs.Meaning.{Leads}
-use Rattle.automaton.specs.Nexts.{Next, stop, go, Enter, Last}
-use Rattle.automaton.specs.Table.{takesAt}
-use Rattle.automaton.specs.Walk.{step, stopIn, liveAt, longestTo}
-use Rattle.automaton.specs.Find.{nextIn, afterPlace, Tabled}
-use Rattle.automaton.proofs.Digits.{and-both, and-of}
+use Rattle.table.specs.Nexts.{Next, stop, go, Enter, Last}
+use Rattle.table.specs.Table.{takesAt}
+use Rattle.automaton.specs.Walk.{step, liveAt, longestTo}
+use Rattle.table.specs.Wiring.{stopIn, nextIn, afterPlace, Tabled}
+use Rattle.table.proofs.Sets.{and-both, and-of}
 use Rattle.automaton.proofs.Steps.{step-in, step-out}
 use Rattle.automaton.proofs.Walks.{From, arrive, move, Walks, walks, leads}
 

@@ -8,10 +8,12 @@ use native.Mathlib.Nat.{le-refl, le-of-suc-le-suc, eq-or-lt-of-le, mod-lt}
 use native.Mathlib.Omega.{arith}
 use lib.ListN.{getD}
 use lib.Count.{trailingZeros}
-use Rattle.automaton.specs.Table.{bit, mem, row, takesAt, join, noPlace}
+use Rattle.bits.specs.Digit.{bit}
+use Rattle.table.specs.Table.{mem, row, takesAt, join, noPlace}
 use Rattle.automaton.specs.Walk.{stepWord, put, step}
-use Rattle.automaton.proofs.Trailing.{tz-low, tz-high, off-low, off-high, one-shl, mem-word}
-use Rattle.automaton.proofs.Digits.{bit-zero, mem-none, mem-cond, or-cases, or-left, or-right, and-both, and-of}
+use Rattle.automaton.proofs.Trailing.{tz-low, tz-high, off-low, off-high, mem-word}
+use Rattle.bits.proofs.Digits.{word-pow, bit-zero}
+use Rattle.table.proofs.Sets.{mem-none, mem-cond, or-cases, or-left, or-right, and-both, and-of}
 
 -- ---- a word's places, the lowest first
 
@@ -50,7 +52,7 @@ module _ (t : List ℕ) (b w : ℕ) (out : List ℕ) (x : ℕ) (h : trailingZero
           rw on (ap₂ (λ (o : List ℕ) (i : ℕ). put t o b (64 * w + i)) low (sym e) ∙ sym (word-none t b (x - 2 ^ k) w new (suc n) (λ j l. rw (off-low x h j (omega arith)))))
 
   pub word-more : (r : List ℕ) (v : ℕ) → r ≡ put t out b (64 * w + k) → v ≡ 1 * 2 ^ k % 2 ^ 64 → stepWord t b (x - v) w r 64 ≡ stepWord t b x w out 64
-  word-more r v e z = ap₂ (λ (y : ℕ) (o : List ℕ). stepWord t b (x - y) w o 64) (z ∙ one-shl k h) e ∙ sym (word-taken 64 h)
+  word-more r v e z = ap₂ (λ (y : ℕ) (o : List ℕ). stepWord t b (x - y) w o 64) (z ∙ word-pow k h) e ∙ sym (word-taken 64 h)
 
 pub word-end : (t : List ℕ) (b w : ℕ) (out : List ℕ) (x : ℕ) → x ≡ 0 → stepWord t b x w out 64 ≡ out
 word-end t b w out x z = word-none t b x w out 64 (λ j g. rw (z, bit-zero j))

@@ -3,15 +3,17 @@ use mathlib.Core.Path.{_≡_, refl, sym, ap, ap₂, _∙_}
 use mathlib.Core.Bool.{true, false}
 use mathlib.Core.List.{List}
 use Prim.Native.Nat.{ℕ, zero, suc, _+_, _-_, _*_, _/_, _%_, _^_, _≤_, _<_, suc-le-suc, zero-le}
-use native.Mathlib.Nat.{div-div-eq-div-mul, pow-suc, not-suc-le-zero, le-refl, le-of-suc-le-suc, mul-comm, mul-assoc, mul-one, one-mul, suc-mul, mul-mod-left, div-one, div-lt-iff-lt-mul, zero-lt-suc, mod-lt}
+use native.Mathlib.Nat.{div-div-eq-div-mul, pow-suc, not-suc-le-zero, le-refl, le-of-suc-le-suc, mul-comm, mul-assoc, mul-one, suc-mul, mul-mod-left, div-one, div-lt-iff-lt-mul, zero-lt-suc, mod-lt}
 use native.Mathlib.Numerals.{add-one}
 use native.Mathlib.Omega.{arith}
 use lib.ListN.{getD}
 use lib.Count.{trailingZeros, under}
-use lib.Pow.{pow-add, shl-shr, shl-exact}
+use lib.Pow.{pow-add, shl-shr}
 use lib.Dec.{eqb}
 use borrow.Author.Tests.{eqb-true}
-use Rattle.automaton.specs.Table.{bit, mem}
+use Rattle.bits.specs.Digit.{bit}
+use Rattle.bits.proofs.Digits.{halved}
+use Rattle.table.specs.Table.{mem}
 
 -- digit j above digit d
 pub rest-div : (w d j : ℕ) → w / 2 ^ d / 2 ^ j ≡ w / 2 ^ (d + j)
@@ -19,9 +21,6 @@ rest-div w d j = div-div-eq-div-mul w (2 ^ d) (2 ^ j) ∙ ap (λ (m : ℕ). w / 
 
 pub rest-bit : (w d j : ℕ) → bit (w / 2 ^ d) j ≡ bit w (d + j)
 rest-bit w d j = ap (λ (m : ℕ). eqb (m % 2) 1) (rest-div w d j)
-
-pub halved : (n j : ℕ) → n / 2 / 2 ^ j ≡ n / 2 ^ suc j
-halved n j = div-div-eq-div-mul n 2 (2 ^ j) ∙ ap (λ (m : ℕ). n / m) (mul-comm 2 (2 ^ j) ∙ sym (pow-suc 2 j))
 
 -- digits below the count are not set
 pub tz-low : (k n j : ℕ) → j < trailingZeros k n → bit n j ≡ false
@@ -117,9 +116,6 @@ module _ (n : ℕ) (h : trailingZeros 64 n < 64) where
 -- a word that is not 0
 pub tz-room : (n : ℕ) → n < 2 ^ 64 → (n ≡ 0 → ⊥) → trailingZeros 64 n < 64
 tz-room n h ne = tz-lt 64 64 n (le-refl 64) (omega arith) h
-
-pub one-shl : (k : ℕ) → k < 64 → 1 * 2 ^ k % 2 ^ 64 ≡ 2 ^ k
-one-shl k h = shl-exact 1 k 64 (omega arith) (omega arith) ∙ one-mul (2 ^ k)
 
 -- ---- words and places
 

@@ -4,7 +4,9 @@ use mathlib.Core.List.{List}
 use Prim.Native.Nat.{ℕ, zero, suc, _+_, _-_, _*_}
 use lib.ListN.{length, getD}
 use lib.Dec.{eqb, leb}
-use Rattle.automaton.specs.Table.{placeCount, bit, mem, row, join, noPlace, takesAt, begins, emptyWord}
+use Rattle.bits.specs.Digit.{bit}
+use Rattle.table.specs.Wiring.{stopIn}
+use Rattle.table.specs.Table.{row, join, noPlace, takesAt, begins, emptyWord}
 
 -- out with the row after the place p, where p takes b
 abbrev pub put : List ℕ → List ℕ → ℕ → ℕ → List ℕ
@@ -18,10 +20,6 @@ stepWord t b x w out (suc n) = cond (bit x n) (put t (stepWord t b x w out n) b 
 -- what may come next after the places of live that take b
 abbrev pub step : List ℕ → List ℕ → ℕ → List ℕ
 step t live b = stepWord t b (getD live 1 0) 1 (stepWord t b (getD live 0 0) 0 noPlace 64) 64
-
--- a walk may stop at the set s, at the text's end (f) or not
-abbrev pub stopIn : List ℕ → Bool → Bool
-stopIn s f = mem s (cond f (placeCount + 1) placeCount)
 
 -- no place is in the set
 abbrev pub dead : List ℕ → Bool

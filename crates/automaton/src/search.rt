@@ -2,14 +2,15 @@
 ghost use mathlib.Core.Path.{_≡_};
 ghost use Prim.Native.Nat.{_+_, _≤_, _<_, _^_};
 ghost use lib.ListN.{length};
-ghost use Rattle.automaton.specs.Table.{tableWords, row};
-ghost use Rattle.automaton.specs.Walk.{stopIn, entryRow, note, longestOf, openTo, mayBegin};
+ghost use Rattle.table.specs.Table.{tableWords, row};
+ghost use Rattle.table.specs.Wiring.{stopIn};
+ghost use Rattle.automaton.specs.Walk.{entryRow, note, longestOf, openTo, mayBegin};
 ghost use Rattle.automaton.specs.Walk.{dead as deadSet};
 ghost use Rattle.automaton.specs.Find.{Finds};
 use crate::words;
-use crate::words::BEGIN;
-use crate::words::EMPTY;
-use crate::words::PLACES;
+use table::BEGIN;
+use table::EMPTY;
+use table::PLACES;
 
 // Where the leftmost match starts in the whole text, and how long it is.
 pub enum Found {
@@ -22,9 +23,9 @@ fn stops(s: [u64; 3], at_end: bool) -> bool
     ensures { λ r. ⌜ r ≡ stopIn s «at_end» ⌝ }
 {
     if at_end {
-        return words::has(s, PLACES + 1);
+        return table::has(s, PLACES + 1);
     }
-    words::has(s, PLACES)
+    table::has(s, PLACES)
 }
 
 // Whether no place is in the set.

@@ -7,16 +7,16 @@ use native.Mathlib.Omega.{arith}
 use lib.ListN.{length}
 use Rattle.edition.specs.Limits.{erePlaces}
 use Rattle.pattern.specs.Tree.{Class, takes, Ere, place, bol, eol, cat, alt, star, plus, opt}
-use Rattle.automaton.specs.Table.{tableWords}
-use Rattle.automaton.specs.Find.{afterPlace}
-use Rattle.automaton.specs.Build.{linkRows, withClass, stops, orStop}
-use Rattle.automaton.proofs.Writes.{class-bit, length-class, row-class, linked-class}
-use Rattle.automaton.proofs.Parts.{Kept, part-kept}
+use Rattle.table.specs.Table.{tableWords}
+use Rattle.table.specs.Wiring.{afterPlace}
+use Rattle.table.specs.Build.{linkRows, withClass, stops, orStop}
+use Rattle.table.proofs.Writes.{class-bit, length-class, row-class, linked-class}
+use Rattle.table.proofs.Parts.{Kept, part-kept}
 use Rattle.ere.specs.State.{joinEntry, linkEntry, stopEntry, noAlts, noSeq, placeEntry, bolEntry, eolEntry, leafTable}
 use Rattle.ere.specs.declared.rows.Entry.{Entry}
 use Rattle.ere.specs.Built.{Agrees, at-place, at-bol, at-eol, in-cat, in-alt, in-star, in-plus, in-opt, SameClasses, Built}
 use Rattle.bracket.specs.Words.{inClass}
-use Rattle.automaton.proofs.RowParts.{rows-cat, rows-star, rows-alt, rows-place, rows-alone, rows-seq, rows-bol, rows-eol, rows-plus, rows-opt}
+use Rattle.table.proofs.RowParts.{rows-cat, rows-star, rows-alt, rows-place, rows-alone, rows-seq, rows-bol, rows-eol, rows-plus, rows-opt}
 
 -- ---- classes
 

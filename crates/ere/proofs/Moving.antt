@@ -14,11 +14,11 @@ use Rattle.edition.specs.Limits.{erePlaces}
 use Rattle.buffer.proofs.Parts.{drop-next}
 use Rattle.pattern.specs.Tree.{Class, Ere, place, bol, eol, places}
 use Rattle.grammar.specs.Read.{Got, got, begins, tail, andThen, Tree, afterGroup, readGroup, repeated, afterAtom, readAtom, finished, orElse}
-use Rattle.automaton.specs.Table.{tableWords}
-use Rattle.automaton.specs.Build.{withClass, stops}
+use Rattle.table.specs.Table.{tableWords}
+use Rattle.table.specs.Build.{withClass, stops}
 use Rattle.bracket.specs.declared.brackets.Bracket.{Bracket}
-use Rattle.automaton.proofs.Rows.{length-row}
-use Rattle.automaton.proofs.Writes.{length-class}
+use Rattle.table.proofs.Rows.{length-row}
+use Rattle.table.proofs.Writes.{length-class}
 use Rattle.ere.specs.Reading.{restFrom}
 use Rattle.ere.specs.State.{refusedOf, endedOf, barOf, pushedOf, pushedTable, pieceOf, repeatedOf, repeatedTable, bolEntry, eolEntry, anchorPiece, anchorOf, anchorTable, closedPiece, groupedOf, groupedTable, leafTable, leafPiece, atomTable, joinEntry, startOf, finishOf, refusedPiece}
 use Rattle.ere.specs.Built.{Built}

@@ -11,7 +11,7 @@ use Rattle.pattern.specs.Tree.{Class, takes, Ere}
 use Rattle.pattern.specs.Meaning.{Leads}
 use Rattle.pattern.specs.Search.{bestFrom, bestOf}
 use Rattle.pattern.proofs.Moving.{repeated-move, same-answer}
-use Rattle.automaton.specs.Table.{takesAt}
+use Rattle.table.specs.Table.{takesAt}
 use Rattle.automaton.specs.Find.{matchOf, Finds}
 use Rattle.automaton.specs.declared.search.Found.{Found}
 use Rattle.automaton.proofs.Answers.{answer}

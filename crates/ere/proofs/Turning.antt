@@ -16,11 +16,11 @@ use Rattle.buffer.proofs.Parts.{drop-next}
 use Rattle.pattern.specs.Tree.{Class, Ere, star, plus, opt, places}
 use Rattle.grammar.specs.Bytes.{oneOf}
 use Rattle.grammar.specs.Read.{begins, tail, andThen, orElse, afterBar, repeated}
-use Rattle.automaton.specs.Table.{tableWords}
-use Rattle.automaton.specs.Find.{afterPlace}
-use Rattle.automaton.specs.Build.{linkRows, withClass, stops, orStop}
-use Rattle.automaton.proofs.Rows.{linked-out, row-other, length-linked}
-use Rattle.automaton.proofs.Parts.{Kept}
+use Rattle.table.specs.Table.{tableWords}
+use Rattle.table.specs.Wiring.{afterPlace}
+use Rattle.table.specs.Build.{linkRows, withClass, stops, orStop}
+use Rattle.table.proofs.Rows.{linked-out, row-other, length-linked}
+use Rattle.table.proofs.Parts.{Kept}
 use Rattle.ere.specs.Reading.{restFrom}
 use Rattle.ere.specs.State.{entry, joinEntry, linkEntry, stopEntry, noAlts, noSeq, refusedOf, endedOf, barOf, pushedOf, pushedTable, pieceOf, repeatedOf, loopTable, repeatedTable, leafTable}
 use Rattle.ere.specs.Built.{Built}
@@ -28,7 +28,7 @@ use Rattle.ere.specs.Standing.{sizeOf, Base, Refuses, unread, AltsOk, Se
 use Rattle.ere.specs.declared.rows.Entry.{Entry}
 use Rattle.ere.specs.declared.rows.Piece.{Piece}
 use Rattle.ere.specs.declared.rows.State.{State}
-use Rattle.automaton.proofs.Writes.{class-other, class-row, row-class, linked-class}
+use Rattle.table.proofs.Writes.{class-other, class-row, row-class, linked-class}
 use Rattle.ere.proofs.Steps.{rest-bar}
 use Rattle.ere.proofs.Grows.{size-then, size-or}
 use Rattle.ere.proofs.Built.{built-kept, built-cat, built-star, built-plus, built-opt, built-alt, built-none, built-first}

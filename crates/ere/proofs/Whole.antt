@@ -10,8 +10,8 @@ use borrow.Author.Tests.{le-leb, lt-leb}
 use Rattle.edition.specs.Limits.{erePlaces, ereBytes, ereGroups}
 use Rattle.pattern.specs.Tree.{Class, Ere, places}
 use Rattle.grammar.specs.Read.{got, readRest, whole, readEre}
-use Rattle.automaton.specs.Table.{tableWords}
-use Rattle.automaton.proofs.Tables.{finished, finished-class, tabled}
+use Rattle.table.specs.Table.{tableWords}
+use Rattle.table.proofs.Tables.{finished, finished-class, tabled}
 use Rattle.ere.specs.Reading.{restFrom}
 use Rattle.ere.specs.Standing.{Refuses, unread, many, baseOf, GroupReads}
 use Rattle.ere.specs.Answer.{Serves, Compiles}

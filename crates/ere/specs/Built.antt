@@ -3,8 +3,8 @@ use mathlib.Core.Path.{_≡_}
 use mathlib.Core.List.{List}
 use Prim.Native.Nat.{ℕ, _≤_, _<_}
 use Rattle.pattern.specs.Tree.{Class, takes, Ere, place, bol, eol, cat, alt, star, plus, opt}
-use Rattle.automaton.specs.Table.{takesAt}
-use Rattle.automaton.proofs.RowParts.{RowPart}
+use Rattle.table.specs.Table.{takesAt}
+use Rattle.table.proofs.RowParts.{RowPart}
 use Rattle.ere.specs.declared.rows.Entry.{Entry}
 
 -- the numbered tree is the tree of classes: at each place, whose number is from lo up to hi, the table has the class

@@ -9,7 +9,7 @@ use lib.ListN.{length, drop}
 use Rattle.edition.specs.Limits.{erePlaces}
 use Rattle.pattern.specs.Tree.{Class, Ere, places}
 use Rattle.grammar.specs.Read.{Got, got, Tree}
-use Rattle.automaton.specs.Table.{row, takesAt}
+use Rattle.table.specs.Table.{row, takesAt}
 use Rattle.ere.specs.Reading.{restFrom}
 use Rattle.ere.specs.State.{noAlts, noSeq}
 use Rattle.ere.specs.Built.{Built}

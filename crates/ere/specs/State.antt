@@ -5,8 +5,8 @@ use Prim.Native.Nat.{ℕ, _+_, _-_}
 use lib.ListN.{getD}
 use lib.Dec.{eqb, leb}
 use Rattle.edition.specs.Limits.{erePlaces}
-use Rattle.automaton.specs.Table.{noPlace, join}
-use Rattle.automaton.specs.Build.{link, orStop, stops, endStop, single, linkRows, withRow, withClass}
+use Rattle.table.specs.Table.{noPlace, join}
+use Rattle.table.specs.Build.{link, orStop, stops, endStop, single, linkRows, withRow, withClass}
 use Rattle.ere.specs.declared.rows.Entry.{Entry}
 use Rattle.ere.specs.declared.rows.Piece.{Piece}
 use Rattle.ere.specs.declared.rows.State.{State}

@@ -3,7 +3,7 @@ ghost use mathlib.Core.Path.{_≡_};
 ghost use Prim.Native.Nat.{_+_, _-_, _≤_};
 ghost use lib.ListN.{length};
 ghost use Rattle.edition.specs.Limits.{erePlaces, ereBytes};
-ghost use Rattle.automaton.specs.Table.{tableWords};
+ghost use Rattle.table.specs.Table.{tableWords};
 ghost use Rattle.ere.specs.Standing.{Safe, Moves, GroupReads};
 use crate::rows::Entry;
 use crate::rows::Piece;

@@ -38,8 +38,8 @@ pub fn joined(a: Entry, b: Entry) -> Entry
     let bf = b.first;
     let al = a.later;
     let bl = b.later;
-    let first = automaton::union(af, bf);
-    let later = automaton::union(al, bl);
+    let first = table::union(af, bf);
+    let later = table::union(al, bl);
     Entry { first, later }
 }
 
@@ -49,7 +49,7 @@ pub fn or_stop(a: Entry) -> Entry
 {
     let f = a.first;
     let l = a.later;
-    let first = automaton::or_stop(f);
-    let later = automaton::or_stop(l);
+    let first = table::or_stop(f);
+    let later = table::or_stop(l);
     Entry { first, later }
 }

@@ -3,7 +3,7 @@ ghost use mathlib.Core.Path.{_≡_};
 ghost use Prim.Native.Nat.{ℕ, _+_, _≤_, _<_};
 ghost use lib.ListN.{length, getD};
 ghost use Rattle.edition.specs.Limits.{erePlaces, ereBytes};
-ghost use Rattle.automaton.specs.Table.{tableWords};
+ghost use Rattle.table.specs.Table.{tableWords};
 ghost use Rattle.ere.specs.State.{linkEntry, startOf, refusedOf, endedOf, barOf, pushedOf, pushedTable, repeatedOf, repeatedTable, anchorOf, anchorTable, groupedOf, groupedTable, pieceOf, placeEntry, leafTable, choiceOf, finishOf, refusedPiece};
 ghost use Rattle.ere.specs.Standing.{Safe, Begins, Moves};
 use crate::atoms;
@@ -28,8 +28,8 @@ fn linked(a: Entry, b: Entry) -> Entry
     let bf = b.first;
     let al = a.later;
     let bl = b.later;
-    let first = automaton::link(af, bf);
-    let later = automaton::link(al, bl);
+    let first = table::link(af, bf);
+    let later = table::link(al, bl);
     Entry { first, later }
 }
 
@@ -111,7 +111,7 @@ pub fn pushed(s: State, g: Piece, t: &mut [u64]) -> State
     let q = s.seq;
     let e = g.entry;
     let later = e.later;
-    automaton::link_rows(t, lo + 2, hi - lo, later);
+    table::link_rows(t, lo + 2, hi - lo, later);
     let seq = linked(q, e);
     let alts = s.alts;
     State {
@@ -137,7 +137,7 @@ pub fn repeated(b: u8, g: Piece, lo: usize, t: &mut [u64]) -> Piece
     if b == 42 {
         let entry = rows::or_stop(e);
         let later = entry.later;
-        automaton::link_rows(t, lo + 2, hi - lo, later);
+        table::link_rows(t, lo + 2, hi - lo, later);
         return Piece {
             ok: true,
             at: g.at + 1,
@@ -149,7 +149,7 @@ pub fn repeated(b: u8, g: Piece, lo: usize, t: &mut [u64]) -> Piece
     if b == 43 {
         let again = rows::or_stop(e);
         let later = again.later;
-        automaton::link_rows(t, lo + 2, hi - lo, later);
+        table::link_rows(t, lo + 2, hi - lo, later);
         return Piece {
             ok: true,
             at: g.at + 1,
@@ -222,9 +222,9 @@ fn leaf(words: [u64; 4], next: usize, p: usize, count: usize, t: &mut [u64]) -> 
     requires { ⌜ (length (now t) ≡ tableWords) × (p < erePlaces) × (count < erePlaces) ⌝ }
     ensures { λ r. ⌜ (r ≡ pieceOf next (p + 1) (count + 1) (placeEntry p)) × (now (t .exit) ≡ leafTable p words (now (t .entry))) ⌝ }
 {
-    automaton::put_class(t, p, words);
-    automaton::put_row(t, p + 2, [0, 0, 3]);
-    let first = automaton::single(p);
+    table::put_class(t, p, words);
+    table::put_row(t, p + 2, [0, 0, 3]);
+    let first = table::single(p);
     let later = first;
     let entry = Entry { first, later };
     Piece {

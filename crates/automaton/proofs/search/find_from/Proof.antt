@@ -6,9 +6,9 @@ use lib.ListN.{length}
 use borrow.Author.Needs.{needs}
 use native.Mathlib.Omega.{arith}
 use mathlib.Core.Path.{_≡_, refl, sym, _∙_}
-use Rattle.automaton.specs.Find.{Sealed}
+use Rattle.table.specs.Wiring.{Sealed}
 use Rattle.automaton.specs.Walk.{longestOf, openTo}
-use Rattle.automaton.proofs.Begins.{not-begun}
+use Rattle.automaton.proofs.Skips.{not-begun}
 use Rattle.automaton.proofs.Answers.{finds}
 use Rattle.automaton.proofs.search.find_from.Statement.{statement}
 use Rattle.automaton.proofs.search.find_from.Tie as tie

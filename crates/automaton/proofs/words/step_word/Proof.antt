@@ -7,7 +7,8 @@ use native.Mathlib.Omega.{arith}
 use mathlib.Core.Path.{_≡_, refl, sym, _∙_}
 use Rattle.automaton.specs.Walk.{stepWord}
 use Rattle.automaton.proofs.Steps.{word-more, word-end}
-use Rattle.automaton.proofs.Trailing.{tz-room, low-le, one-shl}
+use Rattle.automaton.proofs.Trailing.{tz-room, low-le}
+use Rattle.bits.proofs.Digits.{word-pow}
 use Rattle.automaton.proofs.words.step_word.Statement.{statement}
 use Rattle.automaton.proofs.words.step_word.Tie as tie
 
@@ -38,12 +39,12 @@ shl-rest c = omega (arith, tz-room _ (c .before .before .loop .inv .0) (c .befor
 sub-rest : tie.Need-sub-rest Inv-loop μ-loop
 sub-rest c =
     let h = tz-room _ (c .before .before .loop .inv .0) (c .before .loop-test .taken) in
-    omega (arith, one-shl _ h, low-le _ h)
+    omega (arith, word-pow _ h, low-le _ h)
 
 loop-less : tie.Need-loop-less Inv-loop μ-loop
 loop-less c =
     let h = tz-room _ (c .before .before .loop .inv .0) (c .before .loop-test .taken) in
-    omega (arith, one-shl _ h, low-le _ h, pow-pos (trailingZeros 64 (c .before .before .loop .rest)))
+    omega (arith, word-pow _ h, low-le _ h, pow-pos (trailingZeros 64 (c .before .before .loop .rest)))
 
 loop-again : tie.Need-loop-again Inv-loop μ-loop
 loop-again c =

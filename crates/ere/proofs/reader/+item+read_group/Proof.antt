@@ -6,7 +6,7 @@ use native.Mathlib.Omega.{arith}
 use lib.ListN.{length}
 use borrow.Author.Tests.{not-true, not-false}
 use borrow.Author.Needs.{needs}
-use Rattle.automaton.specs.Table.{tableWords}
+use Rattle.table.specs.Table.{tableWords}
 use Rattle.ere.specs.Standing.{Moves, Under, GroupReads}
 use Rattle.ere.proofs.Moving.{moves-ended, moves-bol, moves-eol, moves-grouped, group-finished}
 use Rattle.ere.proofs.Items.{closed-end, closed-paren, moves-choice, moves-deep, moved, under-start, under-turn, turn-less}

@@ -2,7 +2,7 @@
 use mathlib.Core.Path.{ap, _∙_}
 use mathlib.Core.List.{List}
 use Prim.Native.Nat.{ℕ, _+_}
-use Rattle.automaton.specs.Build.{withRow, stops}
+use Rattle.table.specs.Build.{withRow, stops}
 use Rattle.ere.specs.State.{pieceOf, entry}
 use borrow.Author.Needs.{needs}
 use Rattle.ere.proofs.turns.leaf.Statement.{statement}

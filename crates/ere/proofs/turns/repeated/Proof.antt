@@ -3,7 +3,7 @@ use mathlib.Core.Path.{refl, ap, _∙_}
 use Prim.Native.Nat.{_+_}
 use borrow.Author.Tests.{eq-eqb, ne-eqb}
 use Prim.Native.Nat.{_-_}
-use Rattle.automaton.specs.Build.{linkRows}
+use Rattle.table.specs.Build.{linkRows}
 use Rattle.ere.specs.State.{pieceOf}
 use Rattle.ere.specs.declared.rows.Entry.{Entry}
 use borrow.Author.Needs.{needs}
