@@ -12,7 +12,7 @@ use Rattle.pattern.specs.Meaning.{Match, found, nowhere}
 use Rattle.pattern.specs.Search.{bestOf}
 use Rattle.grammar.specs.Read.{readEre}
 use Rattle.table.specs.Wiring.{Tabled}
-use Rattle.ere.specs.Built.{Agrees}
+use Rattle.compiler.specs.Built.{Agrees}
 use Rattle.ere.specs.declared.matching.Matched.{Matched}
 use Rattle.ere.specs.declared.matching.Matched.the-variants.{At, Nothing, BadEre, LongText}
 

@@ -3,7 +3,6 @@ ghost use mathlib.Core.Path.{_≡_};
 ghost use lib.ListN.{length};
 ghost use Rattle.table.specs.Table.{tableWords};
 ghost use Rattle.ere.specs.Answer.{searchOf, Compiles};
-use crate::reader;
 use automaton::Found;
 use edition::Edition;
 
@@ -24,7 +23,7 @@ pub fn compile(ere: &[u8], edition: Edition, t: &mut [u64]) -> bool
     if Edition::ERE_BYTES < end {
         return false;
     }
-    let g = reader::read_group(ere, Edition::ERE_GROUPS, 0, 0, 0, t);
+    let g = compiler::read_group(ere, Edition::ERE_GROUPS, 0, 0, 0, t);
     if !g.ok {
         return false;
     }

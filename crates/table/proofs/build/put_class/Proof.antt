@@ -1,6 +1,7 @@
 -- `put_class` meets its contract: its indices are in the table.
 use native.Mathlib.Omega.{arith}
 use lib.ListN.{length-set}
+use mathlib.Core.Path.{refl}
 use borrow.Author.Needs.{needs}
 use Rattle.table.proofs.build.put_class.Statement.{statement}
 use Rattle.table.proofs.build.put_class.Tie as tie
@@ -78,7 +79,7 @@ same-length : tie.Need-same-length
 same-length c = search needs
 
 returns : tie.Need-returns
-returns c = search needs
+returns c = refl
 
 pub put-class-spec : {M : Type 1} → statement M
 put-class-spec =

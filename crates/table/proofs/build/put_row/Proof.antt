@@ -1,6 +1,7 @@
 -- `put_row` meets its contract: its indices are in the table.
 use native.Mathlib.Omega.{arith}
 use lib.ListN.{length-set}
+use mathlib.Core.Path.{refl}
 use borrow.Author.Needs.{needs}
 use Rattle.table.proofs.build.put_row.Statement.{statement}
 use Rattle.table.proofs.build.put_row.Tie as tie
@@ -51,7 +52,7 @@ same-length : tie.Need-same-length
 same-length c = search needs
 
 returns : tie.Need-returns
-returns c = search needs
+returns c = refl
 
 pub put-row-spec : {M : Type 1} → statement M
 put-row-spec =
