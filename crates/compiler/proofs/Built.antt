@@ -12,8 +12,8 @@ use Rattle.table.specs.Wiring.{afterPlace}
 use Rattle.table.specs.Build.{linkRows, withClass, stops, orStop}
 use Rattle.table.proofs.Writes.{class-bit, length-class, row-class, linked-class}
 use Rattle.table.proofs.Parts.{Kept, part-kept}
-use Rattle.compiler.specs.State.{joinEntry, linkEntry, stopEntry, noAlts, noSeq, placeEntry, bolEntry, eolEntry, leafTable}
-use Rattle.compiler.specs.declared.rows.Entry.{Entry}
+use Rattle.pieces.specs.State.{joinEntry, linkEntry, stopEntry, noAlts, noSeq, placeEntry, bolEntry, eolEntry, leafTable}
+use Rattle.pieces.specs.declared.rows.Entry.{Entry}
 use Rattle.compiler.specs.Built.{Agrees, at-place, at-bol, at-eol, in-cat, in-alt, in-star, in-plus, in-opt, SameClasses, Built}
 use Rattle.bracket.specs.Words.{inClass}
 use Rattle.table.proofs.RowParts.{rows-cat, rows-star, rows-alt, rows-place, rows-alone, rows-seq, rows-bol, rows-eol, rows-plus, rows-opt}

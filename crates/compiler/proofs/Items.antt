@@ -10,9 +10,9 @@ use lib.ListN.{length, getD, drop}
 use Rattle.edition.specs.Limits.{erePlaces}
 use Rattle.grammar.specs.Read.{readGroup, afterGroup}
 use Rattle.compiler.specs.Reading.{restFrom}
-use Rattle.compiler.specs.State.{barOf, refusedOf, choiceOf, startOf}
+use Rattle.pieces.specs.State.{barOf, refusedOf, choiceOf, startOf}
 use Rattle.compiler.specs.Standing.{unread, Closed, at-end, at-paren, Safe, Moves, baseOf, Under}
-use Rattle.compiler.specs.declared.rows.State.{State}
+use Rattle.pieces.specs.declared.rows.State.{State}
 use Rattle.compiler.proofs.Steps.{rest-group}
 use Rattle.compiler.proofs.Turning.{below-refl, below-trans, below-less}
 use Rattle.compiler.proofs.Moving.{opened, moves-refused, moves-bar, moves-no-bar, started}

@@ -6,5 +6,3 @@ pub mod Built
 pub mod Turning
 pub mod Items
 pub mod Moving
-pub mod Atomic
-pub mod Grouping

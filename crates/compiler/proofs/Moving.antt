@@ -20,17 +20,18 @@ use Rattle.bracket.specs.declared.brackets.Bracket.{Bracket}
 use Rattle.table.proofs.Rows.{length-row}
 use Rattle.table.proofs.Writes.{length-class}
 use Rattle.compiler.specs.Reading.{restFrom}
-use Rattle.compiler.specs.State.{refusedOf, endedOf, barOf, pushedOf, pushedTable, pieceOf, repeatedOf, repeatedTable, bolEntry, eolEntry, anchorPiece, anchorOf, anchorTable, closedPiece, groupedOf, groupedTable, leafTable, leafPiece, atomTable, joinEntry, startOf, finishOf, refusedPiece}
+use Rattle.pieces.specs.State.{refusedOf, endedOf, barOf, pushedOf, pushedTable, pieceOf, repeatedOf, repeatedTable, bolEntry, eolEntry, anchorPiece, anchorOf, anchorTable, closedPiece, groupedOf, groupedTable, leafTable, leafPiece, atomTable, joinEntry, startOf, finishOf, refusedPiece}
 use Rattle.compiler.specs.Built.{Built}
 use Rattle.compiler.specs.Standing.{sizeOf, AltsOk, SeqOk, Base, Refuses, unread, many, Standing, Closed, at-end, at-paren, Outcome, Safe, SameBelow, Moves, baseOf, Under, GroupReads, Begins}
-use Rattle.compiler.specs.Atom.{AtomRead}
-use Rattle.compiler.specs.declared.rows.Entry.{Entry}
-use Rattle.compiler.specs.declared.rows.Piece.{Piece}
-use Rattle.compiler.specs.declared.rows.State.{State}
+use Rattle.pieces.specs.Atom.{AtomRead}
+use Rattle.pieces.specs.declared.rows.Entry.{Entry}
+use Rattle.pieces.specs.declared.rows.Piece.{Piece}
+use Rattle.pieces.specs.declared.rows.State.{State}
 use Rattle.compiler.proofs.Steps.{rest-bol, rest-eol, rest-group, rest-atom, rest-end, rest-close}
 use Rattle.compiler.proofs.Grows.{size-or, Grows, from-grows, more-grows, repeated-grows, atom-grows}
 use Rattle.compiler.proofs.Built.{built-bol, built-eol, built-leaf}
-use Rattle.compiler.proofs.Turning.{alts-more, below-leaf, below-refl, below-trans, below-less, below-linked, standing-below, outcome-ended, outcome-refused, outcome-going, bar-refused, bar-standing, push-standing, begins-at, tail-at, inside, repeatTree, repeat-rest, repeat-places, repeat-built, repeat-hi, repeat-count, repeat-ends, below-repeated, length-repeated}
+use Rattle.compiler.proofs.Turning.{alts-more, below-leaf, below-refl, below-trans, below-less, below-linked, standing-below, outcome-ended, outcome-refused, outcome-going, bar-refused, bar-standing, push-standing, begins-at, tail-at, repeatTree, repeat-rest, repeat-places, repeat-built, repeat-hi, repeat-count, repeat-ends, below-repeated, length-repeated}
+use Rattle.pieces.proofs.Grouping.{inside}
 
 -- a goal that reads nothing, or more places than there may be
 pub refused-by : {b : Base} (x : Tree) (N : ℕ) → b .goal ≡ x → Grows N x → erePlaces < b .count + N → Refuses b

@@ -10,7 +10,7 @@ use native.Mathlib.Decide.{decLe}
 use native.Mathlib.Omega.{arith}
 use lib.ListN.{length, getD, drop, drop-of-length-le, List·getD-eq-default}
 use lib.Dec.{eqb}
-use borrow.Author.Tests.{eqb-true, ne-eqb}
+use borrow.Author.Tests.{ne-eqb}
 use Rattle.edition.specs.Limits.{erePlaces}
 use Rattle.buffer.proofs.Parts.{drop-next}
 use Rattle.pattern.specs.Tree.{Class, Ere, star, plus, opt, places}
@@ -22,12 +22,13 @@ use Rattle.table.specs.Build.{linkRows, withClass, stops, orStop}
 use Rattle.table.proofs.Rows.{linked-out, row-other, length-linked}
 use Rattle.table.proofs.Parts.{Kept}
 use Rattle.compiler.specs.Reading.{restFrom}
-use Rattle.compiler.specs.State.{entry, joinEntry, linkEntry, stopEntry, noAlts, noSeq, refusedOf, endedOf, barOf, pushedOf, pushedTable, pieceOf, repeatedOf, loopTable, repeatedTable, leafTable}
+use Rattle.pieces.proofs.Grouping.{inside}
+use Rattle.pieces.specs.State.{entry, joinEntry, linkEntry, stopEntry, noAlts, noSeq, refusedOf, endedOf, barOf, pushedOf, pushedTable, pieceOf, repeatedOf, loopTable, repeatedTable, leafTable}
 use Rattle.compiler.specs.Built.{Built}
 use Rattle.compiler.specs.Standing.{sizeOf, Base, Refuses, unread, AltsOk, SeqOk, Standing, Closed, Outcome, SameBelow}
-use Rattle.compiler.specs.declared.rows.Entry.{Entry}
-use Rattle.compiler.specs.declared.rows.Piece.{Piece}
-use Rattle.compiler.specs.declared.rows.State.{State}
+use Rattle.pieces.specs.declared.rows.Entry.{Entry}
+use Rattle.pieces.specs.declared.rows.Piece.{Piece}
+use Rattle.pieces.specs.declared.rows.State.{State}
 use Rattle.table.proofs.Writes.{class-other, class-row, row-class, linked-class}
 use Rattle.compiler.proofs.Steps.{rest-bar}
 use Rattle.compiler.proofs.Grows.{size-then, size-or}
@@ -189,13 +190,6 @@ begins-at l at x ne =
 pub tail-at : (l : List ℕ) (at : ℕ) → at < length l → tail (drop at l) ≡ drop (at + 1) l
 unfolding tail
 tail-at l at h = ap tail (drop-next l at h)
-
-pub inside : (l : List ℕ) (at x : ℕ) → (x ≡ 0 → ⊥) → eqb (getD l at 0) x ≡ true → at < length l
-inside l at x ne e =
-    elim (decLe (at + 1) (length l)) [
-      | yes h ↦ omega arith
-      | no h ↦ absurd (ne (sym (eqb-true (getD l at 0) x e) ∙ List·getD-eq-default l 0 {n = at} (omega arith)))
-    ]
 
 -- the tree of a piece with the byte b behind it
 abbrev pub repeatTree : ℕ → Ere Class → Ere Class

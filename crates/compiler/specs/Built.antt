@@ -5,7 +5,7 @@ use Prim.Native.Nat.{ℕ, _≤_, _<_}
 use Rattle.pattern.specs.Tree.{Class, takes, Ere, place, bol, eol, cat, alt, star, plus, opt}
 use Rattle.table.specs.Table.{takesAt}
 use Rattle.table.proofs.RowParts.{RowPart}
-use Rattle.compiler.specs.declared.rows.Entry.{Entry}
+use Rattle.pieces.specs.declared.rows.Entry.{Entry}
 
 -- the numbered tree is the tree of classes: at each place, whose number is from lo up to hi, the table has the class
 pub data Agrees (t : List ℕ) (lo hi : ℕ) : Ere ℕ → Ere Class → Type 0 where

@@ -11,11 +11,11 @@ use Rattle.pattern.specs.Tree.{Class, Ere, places}
 use Rattle.grammar.specs.Read.{Got, got, Tree}
 use Rattle.table.specs.Table.{row, takesAt}
 use Rattle.compiler.specs.Reading.{restFrom}
-use Rattle.compiler.specs.State.{noAlts, noSeq}
+use Rattle.pieces.specs.State.{noAlts, noSeq}
 use Rattle.compiler.specs.Built.{Built}
-use Rattle.compiler.specs.declared.rows.Entry.{Entry}
-use Rattle.compiler.specs.declared.rows.Piece.{Piece}
-use Rattle.compiler.specs.declared.rows.State.{State}
+use Rattle.pieces.specs.declared.rows.Entry.{Entry}
+use Rattle.pieces.specs.declared.rows.Piece.{Piece}
+use Rattle.pieces.specs.declared.rows.State.{State}
 
 -- the places of what may be there
 unfoldable pub sizeOf : Option (Ere Class) → ℕ

@@ -15,7 +15,7 @@ use Rattle.table.proofs.Tables.{finished, finished-class, tabled}
 use Rattle.compiler.specs.Reading.{restFrom}
 use Rattle.compiler.specs.Standing.{Refuses, unread, many, baseOf, GroupReads}
 use Rattle.ere.specs.Answer.{Serves, Compiles}
-use Rattle.compiler.specs.declared.rows.Piece.{Piece}
+use Rattle.pieces.specs.declared.rows.Piece.{Piece}
 use Rattle.compiler.proofs.Built.{agrees-move}
 use Rattle.compiler.proofs.Moving.{opened}
 use Rattle.compiler.proofs.Items.{drop-all}

@@ -18,14 +18,14 @@ use Rattle.compiler.proofs.reader.+item+read_group.Lts-item as item-lts
 use Rattle.compiler.proofs.reader.read_group.Reads as read-group
 use Rattle.compiler.proofs.reader.read_group.Kinds as read-group-kinds
 use Rattle.compiler.proofs.reader.+item+read_group.Lts-read_group as read-group-lts
-use Rattle.compiler.proofs.turns.anchor.Reads as anchor-reads
-use Rattle.compiler.proofs.turns.atom.Reads as atom-reads
-use Rattle.compiler.proofs.turns.choice.Reads as choice-reads
-use Rattle.compiler.proofs.turns.ended.Reads as ended-reads
-use Rattle.compiler.proofs.turns.finish.Reads as finish-reads
-use Rattle.compiler.proofs.turns.grouped.Reads as grouped-reads
-use Rattle.compiler.proofs.turns.refused.Reads as refused-reads
-use Rattle.compiler.proofs.turns.start.Reads as start-reads
+use Rattle.pieces.proofs.turns.anchor.Reads as anchor-reads
+use Rattle.compiler.proofs.reader.atom.Reads as atom-reads
+use Rattle.pieces.proofs.turns.choice.Reads as choice-reads
+use Rattle.pieces.proofs.turns.ended.Reads as ended-reads
+use Rattle.pieces.proofs.turns.finish.Reads as finish-reads
+use Rattle.pieces.proofs.turns.grouped.Reads as grouped-reads
+use Rattle.pieces.proofs.turns.refused.Reads as refused-reads
+use Rattle.pieces.proofs.turns.start.Reads as start-reads
 use Rattle.compiler.proofs.reader.+item+read_group.{statement}
 use Rattle.compiler.proofs.reader.+item+read_group.Tie.{close}
 
