@@ -14,7 +14,7 @@
 #include <string.h>
 #include <time.h>
 
-#define WORDS 907 /* of a table: automaton::TABLE */
+#define WORDS 907 /* of a table: table::TABLE */
 #define LINES 100000
 
 uint64_t prepared_compile(const uint8_t *ere, size_t length, uint64_t *table, size_t words);

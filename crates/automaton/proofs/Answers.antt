@@ -13,11 +13,10 @@ use Rattle.pattern.specs.Tree.{Ere}
 use Rattle.pattern.specs.Meaning.{Spans, BestFrom}
 use Rattle.pattern.specs.Search.{bestFrom}
 use Rattle.pattern.proofs.Answers.{best-is}
-use Rattle.automaton.specs.Table.{row, takesAt}
+use Rattle.table.specs.Table.{row, takesAt}
 use Rattle.automaton.specs.Walk.{step, liveAt, longestTo, longestOf, entryRow, note}
-use Rattle.automaton.specs.Find.{Tabled, Sealed, Finds, Inside, matchOf}
-use Rattle.automaton.specs.declared.search.Longest.{Longest}
-use Rattle.automaton.specs.declared.search.Longest.the-variants.{To, Never}
+use Rattle.table.specs.Wiring.{Tabled, Sealed}
+use Rattle.automaton.specs.Find.{Finds, Inside, matchOf}
 use Rattle.automaton.specs.declared.search.Found.{Found}
 use Rattle.automaton.specs.declared.search.Found.the-variants.{At, Nowhere}
 use Rattle.automaton.proofs.Meets.{Told, told, stop-leads, leads-stop}
@@ -52,7 +51,7 @@ module _ (t rest w : List ℕ) (at : ℕ) (hl : at ≤ length w) (hd : drop at w
   to-whole least s (suc n) =
       ap (λ (l : List ℕ). note (longestTo t rest at least s n) l (eqb (s + n) (length rest)) least n) (live-whole s n)
       ∙ ap (λ (f : Bool). note (longestTo t rest at least s n) (liveAt t w 0 (at + s) n) f least n) (at-end s n)
-      ∙ ap (λ (o : Longest). note o (liveAt t w 0 (at + s) n) (eqb (at + s + n) (length w)) least n) (to-whole least s n)
+      ∙ ap (λ (o : ℕ). note o (liveAt t w 0 (at + s) n) (eqb (at + s + n) (length w)) least n) (to-whole least s n)
 
   pub of-whole : (least s : ℕ) → longestOf t rest at least s ≡ longestOf t w 0 least (at + s)
   of-whole least s =
@@ -65,23 +64,23 @@ module _ (t rest w : List ℕ) (at : ℕ) (hl : at ≤ length w) (hd : drop at w
 -- what the search saw on its way to r
 abbrev pub Seen : List ℕ → List ℕ → ℕ → ℕ → Found → Type 0
 Seen t rest at least (At a n) =
-    (s : ℕ) × (a ≡ at + s) × (s ≤ length rest) × (longestOf t rest at least s ≡ To n)
-    × ((k : ℕ) → k < s → Sealed t → longestOf t rest at least k ≡ Never)
-Seen t rest at least Nowhere = (k : ℕ) → k < length rest + 1 → Sealed t → longestOf t rest at least k ≡ Never
+    (s : ℕ) × (a ≡ at + s) × (s ≤ length rest) × (longestOf t rest at least s ≡ suc n)
+    × ((k : ℕ) → k < s → Sealed t → longestOf t rest at least k ≡ 0)
+Seen t rest at least Nowhere = (k : ℕ) → k < length rest + 1 → Sealed t → longestOf t rest at least k ≡ 0
 
-of-longest : (t rest : List ℕ) (at least s : ℕ) (o : Longest) → longestOf t rest at least s ≡ o → Told t rest at least s (suc (length rest - s)) o
+of-longest : (t rest : List ℕ) (at least s o : ℕ) → longestOf t rest at least s ≡ o → Told t rest at least s (suc (length rest - s)) o
 of-longest t rest at least s o q = subst (Told t rest at least s (suc (length rest - s))) q (told t rest at least s (suc (length rest - s)))
 
 module _ (t w : List ℕ) (e : Ere ℕ) (T : Tabled t e) (least : ℕ) where
-  never : (s j : ℕ) → longestOf t w 0 least s ≡ Never → s + least ≤ j → Spans (takesAt t) w e s j → ⊥
+  never : (s j : ℕ) → longestOf t w 0 least s ≡ 0 → s + least ≤ j → Spans (takesAt t) w e s j → ⊥
   never s j q g h =
       let m = leads-stop t w e T s j (h .1) in
-      of-longest t w 0 least s Never q (m .0) (omega (arith, h .0, m .1)) (omega (arith, m .1)) (m .2)
+      of-longest t w 0 least s 0 q (m .0) (omega (arith, h .0, m .1)) (omega (arith, m .1)) (m .2)
 
-  longest : (s n : ℕ) → s ≤ length w → longestOf t w 0 least s ≡ To n
+  longest : (s n : ℕ) → s ≤ length w → longestOf t w 0 least s ≡ suc n
       → (Spans (takesAt t) w e s (s + n)) × (least ≤ n) × ((j : ℕ) → s + least ≤ j → Spans (takesAt t) w e s j → j ≤ s + n)
   longest s n hs q =
-      let o = of-longest t w 0 least s (To n) q in
+      let o = of-longest t w 0 least s (suc n) q in
       let b : s + n ≤ length w = omega (arith, o .0) in (
         (b, stop-leads t w e T s n b (o .2)),
         o .1,
@@ -94,7 +93,7 @@ module _ (t w : List ℕ) (e : Ere ℕ) (T : Tabled t e) (least : ℕ) where
 module _ (t rest : List ℕ) (at least : ℕ) where
   inside : (r : Found) → Seen t rest at least r → Inside at (length rest) r
   inside (At a n) f =
-      let o = of-longest t rest at least (f .0) (To n) (f .3) in
+      let o = of-longest t rest at least (f .0) (suc n) (f .3) in
       (omega (arith, f .1), omega (arith, f .1, f .2, o .0))
   inside Nowhere f = tt
 
@@ -102,7 +101,7 @@ module _ (t rest : List ℕ) (at least : ℕ) where
       → BestFrom (takesAt t) w e at least (matchOf r)
   best (At a n) f e w T hl hd =
       let k = whole t rest w at hl hd in
-      let q : longestOf t w 0 least a ≡ To n = rw (f .1) (sym (of-whole t rest w at hl hd least (f .0)) ∙ f .3) in
+      let q : longestOf t w 0 least a ≡ suc n = rw (f .1) (sym (of-whole t rest w at hl hd least (f .0)) ∙ f .3) in
       let o = longest t w e T least a n (omega (arith, f .1, f .2)) q in
       (o .0, omega (arith, f .1), o .1, (λ x j g i h. le-of-suc-le-suc (lt-of-not-le (λ l. before x j g i l h))), o .2)
     where

@@ -9,19 +9,17 @@ use native.Mathlib.Omega.{arith}
 use lib.ListN.{length, getD}
 use lib.Dec.{eqb, leb}
 use borrow.Author.Tests.{eq-eqb, ne-eqb, eqb-true}
-use Rattle.automaton.specs.Table.{noPlace}
+use Rattle.table.specs.Table.{noPlace}
 use Rattle.automaton.specs.Walk.{step, dead, liveAt, longestTo, longestOf, note}
-use Rattle.automaton.specs.declared.search.Longest.{Longest}
-use Rattle.automaton.specs.declared.search.Longest.the-variants.{To}
-use Rattle.automaton.proofs.Digits.{and-both, mem-none}
+use Rattle.table.proofs.Sets.{and-both, mem-none}
 use Rattle.automaton.proofs.Steps.{step-dead}
 
 -- ---- after a set with no place in it no walk stops
 
-note-none : (best : Longest) (f : Bool) (least n : ℕ) → note best noPlace f least n ≡ best
-note-none best f least n = ap (λ (x : Bool). cond (leb least n) (cond x (To n) best) best) (mem-none (cond f 129 128)) ∙ pick (leb least n)
+note-none : (best : ℕ) (f : Bool) (least n : ℕ) → note best noPlace f least n ≡ best
+note-none best f least n = ap (λ (x : Bool). cond (leb least n) (cond x (suc n) best) best) (mem-none (cond f 129 128)) ∙ pick (leb least n)
   where
-    pick : (x : Bool) → cond x (cond false (To n) best) best ≡ best
+    pick : (x : Bool) → cond x (cond false (suc n) best) best ≡ best
     pick true = refl
     pick false = refl
 
@@ -51,16 +49,16 @@ unfolding liveAt
 live-more t rest at s n live hl r e = rw add-one (e ∙ ap (λ (l : List ℕ). step t l (getD rest (s + n) 0)) hl)
 
 module _ (t rest : List ℕ) (at least s n : ℕ) (live : List ℕ) (hl : live ≡ liveAt t rest at s n) where
-  module _ (best : Longest) (hb : best ≡ longestTo t rest at least s n) (r : Longest) where
+  module _ (best : ℕ) (hb : best ≡ longestTo t rest at least s n) (r : ℕ) where
     pub best-more : s + n < length rest → r ≡ note best live false least n → r ≡ longestTo t rest at least s (n + 1)
     unfolding longestTo
-    best-more h e = rw (add-one, ne-eqb (s + n) (length rest) (omega arith)) (e ∙ ap₂ (λ (b : Longest) (l : List ℕ). note b l false least n) hb hl)
+    best-more h e = rw (add-one, ne-eqb (s + n) (length rest) (omega arith)) (e ∙ ap₂ (λ (b : ℕ) (l : List ℕ). note b l false least n) hb hl)
 
     pub best-end : s + n ≡ length rest → r ≡ note best live true least n → r ≡ longestOf t rest at least s
     unfolding longestTo
     best-end h e =
         let k : length rest - s ≡ n = omega arith in
-        rw (k, eq-eqb (s + n) (length rest) h) (e ∙ ap₂ (λ (b : Longest) (l : List ℕ). note b l true least n) hb hl)
+        rw (k, eq-eqb (s + n) (length rest) h) (e ∙ ap₂ (λ (b : ℕ) (l : List ℕ). note b l true least n) hb hl)
 
     -- where no place is live, nothing longer is lost
     pub best-dead : s + n < length rest → dead live ≡ true → r ≡ note best live false least n → r ≡ longestOf t rest at least s

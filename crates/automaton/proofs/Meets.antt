@@ -11,13 +11,11 @@ use lib.Dec.{eqb, ltb, leb}
 use borrow.Author.Tests.{ne-eqb, ltb-true, lt-ltb, leb-true, leb-false}
 use Rattle.pattern.specs.Tree.{Ere}
 use Rattle.pattern.specs.Meaning.{Leads}
-use Rattle.automaton.specs.Nexts.{Next, stop, go, Enter, Last}
-use Rattle.automaton.specs.Table.{takesAt}
-use Rattle.automaton.specs.Walk.{step, stopIn, liveAt, longestTo}
-use Rattle.automaton.specs.Find.{nextIn, afterPlace, Tabled}
-use Rattle.automaton.specs.declared.search.Longest.{Longest}
-use Rattle.automaton.specs.declared.search.Longest.the-variants.{To, Never}
-use Rattle.automaton.proofs.Digits.{and-both, and-of}
+use Rattle.table.specs.Nexts.{Next, stop, go, Enter, Last}
+use Rattle.table.specs.Table.{takesAt}
+use Rattle.automaton.specs.Walk.{step, liveAt, longestTo}
+use Rattle.table.specs.Wiring.{stopIn, nextIn, afterPlace, Tabled}
+use Rattle.table.proofs.Sets.{and-both, and-of}
 use Rattle.automaton.proofs.Steps.{step-in, step-out}
 use Rattle.automaton.proofs.Walks.{From, arrive, move, Walks, walks, leads}
 
@@ -59,10 +57,10 @@ module _ (t live : List ℕ) (b : ℕ) where
 abbrev pub Live : List ℕ → List ℕ → ℕ → ℕ → ℕ → Next → Type 0
 Live t rest at s n r = nextIn (liveAt t rest at s n) (eqb (s + n) (length rest)) r ≡ true
 
-abbrev pub Told : List ℕ → List ℕ → ℕ → ℕ → ℕ → ℕ → Longest → Type 0
-Told t rest at least s n (To k) =
+abbrev pub Told : List ℕ → List ℕ → ℕ → ℕ → ℕ → ℕ → ℕ → Type 0
+Told t rest at least s n (suc k) =
     (k < n) × (least ≤ k) × (Live t rest at s k stop) × ((m : ℕ) → m < n → least ≤ m → Live t rest at s m stop → m ≤ k)
-Told t rest at least s n Never = (m : ℕ) → m < n → least ≤ m → Live t rest at s m stop → ⊥
+Told t rest at least s n zero = (m : ℕ) → m < n → least ≤ m → Live t rest at s m stop → ⊥
 
 module _ (t rest : List ℕ) (at least s : ℕ) where
   pub told : (n : ℕ) → Told t rest at least s n (longestTo t rest at least s n)
@@ -71,13 +69,13 @@ module _ (t rest : List ℕ) (at least s : ℕ) where
   told (suc n) = by (leb least n) refl (stopIn (liveAt t rest at s n) (eqb (s + n) (length rest))) refl (longestTo t rest at least s n) (told n)
     where
       -- n bytes are no answer
-      off : (o : Longest) → (least ≤ n → Live t rest at s n stop → ⊥) → Told t rest at least s n o → Told t rest at least s (suc n) o
-      off (To k) skip p =
+      off : (o : ℕ) → (least ≤ n → Live t rest at s n stop → ⊥) → Told t rest at least s n o → Told t rest at least s (suc n) o
+      off (suc k) skip p =
           (omega (arith, p .0), p .1, p .2, λ m h g l. ⊎-elim (λ z. absurd (skip (rw z at g) (rw z at l))) (λ y. p .3 m y g l) (eq-or-lt-of-le (le-of-suc-le-suc h)))
-      off Never skip p = λ m h g l. ⊎-elim (λ z. absurd (skip (rw z at g) (rw z at l))) (λ y. p m y g l) (eq-or-lt-of-le (le-of-suc-le-suc h))
+      off zero skip p = λ m h g l. ⊎-elim (λ z. absurd (skip (rw z at g) (rw z at l))) (λ y. p m y g l) (eq-or-lt-of-le (le-of-suc-le-suc h))
 
-      by : (y : Bool) → leb least n ≡ y → (x : Bool) → stopIn (liveAt t rest at s n) (eqb (s + n) (length rest)) ≡ x → (o : Longest)
-          → Told t rest at least s n o → Told t rest at least s (suc n) (cond y (cond x (To n) o) o)
+      by : (y : Bool) → leb least n ≡ y → (x : Bool) → stopIn (liveAt t rest at s n) (eqb (s + n) (length rest)) ≡ x → (o : ℕ)
+          → Told t rest at least s n o → Told t rest at least s (suc n) (cond y (cond x (suc n) o) o)
       by true g true q o p = (le-refl (suc n), leb-true least n g, q, λ m h i l. le-of-suc-le-suc h)
       by true g false q o p = off o (λ i l. true≢false (sym l ∙ q)) p
       by false g x q o p = off o (λ i l. let z = leb-false least n g in omega arith) p

@@ -1,57 +1,61 @@
 -- The laws of a step.
-use mathlib.Core.Path.{_≡_, refl, sym, ap, subst, _∙_}
+use mathlib.Core.Path.{_≡_, refl, sym, ap, ap₂, subst, _∙_}
 use mathlib.Core.Bool.{Bool, true, false, true≢false, cond, _&&_, _||_}
 use mathlib.Core.List.{List}
-use Prim.Native.Nat.{ℕ, zero, suc, _+_, _-_, _*_, _/_, _%_, _^_, _≤_, _<_}
+use Prim.Native.Nat.{ℕ, zero, suc, _+_, _-_, _*_, _/_, _%_, _^_, _<_}
 use mathlib.Core.Logic.{_⊎_, inl, inr, ⊎-elim}
-use native.Mathlib.Nat.{le-refl, add-zero, add-suc, add-assoc, le-of-suc-le-suc, eq-or-lt-of-le, mod-lt}
+use native.Mathlib.Nat.{le-refl, le-of-suc-le-suc, eq-or-lt-of-le, mod-lt}
 use native.Mathlib.Omega.{arith}
-use native.Mathlib.Numerals.{add-one}
 use lib.ListN.{getD}
 use lib.Count.{trailingZeros}
-use Rattle.automaton.specs.Table.{bit, mem, row, takesAt, join, noPlace}
+use Rattle.bits.specs.Digit.{bit}
+use Rattle.table.specs.Table.{mem, row, takesAt, join, noPlace}
 use Rattle.automaton.specs.Walk.{stepWord, put, step}
-use Rattle.automaton.proofs.Trailing.{rest-div, rest-bit, tz-low, tz-high, mem-word}
-use Rattle.automaton.proofs.Digits.{bit-zero, mem-none, mem-cond, or-cases, or-left, or-right, and-both, and-of}
+use Rattle.automaton.proofs.Trailing.{tz-low, tz-high, off-low, off-high, mem-word}
+use Rattle.bits.proofs.Digits.{word-pow, bit-zero}
+use Rattle.table.proofs.Sets.{mem-none, mem-cond, or-cases, or-left, or-right, and-both, and-of}
 
--- ---- a word x of a set, of which the digits below d are done and rest is left
-module _ (t : List ℕ) (b x w : ℕ) (start : List ℕ) where
-  -- digits that are not set, or whose places do not take b, add nothing
-  pub skip : (m n : ℕ) → ((j : ℕ) → j < n → (bit x (m + j) && takesAt t (64 * w + (m + j)) b) ≡ false)
-      → stepWord t b x w start (m + n) ≡ stepWord t b x w start m
+-- ---- a word's places, the lowest first
+
+-- digits that are not set, or whose places do not take b, add nothing
+pub word-none : (t : List ℕ) (b x w : ℕ) (start : List ℕ) (n : ℕ) → ((j : ℕ) → j < n → (bit x j && takesAt t (64 * w + j) b) ≡ false)
+    → stepWord t b x w start n ≡ start
+unfolding stepWord
+word-none t b x w start zero h = refl
+word-none t b x w start (suc n) h = one (bit x n) (takesAt t (64 * w + n) b) (h n (le-refl (suc n))) ∙ word-none t b x w start n (λ j g. h j (omega arith))
+  where
+    out : List ℕ
+    out = stepWord t b x w start n
+
+    one : (c d : Bool) → (c && d) ≡ false → cond c (cond d (join out (row t (64 * w + n + 2))) out) out ≡ out
+    one true true e = absurd (true≢false e)
+    one true false e = refl
+    one false d e = refl
+
+-- the lowest first, then those of the rest
+module _ (t : List ℕ) (b w : ℕ) (out : List ℕ) (x : ℕ) (h : trailingZeros 64 x < 64) where
+  abbrev k : ℕ
+  k = trailingZeros 64 x
+
+  abbrev new : List ℕ
+  new = put t out b (64 * w + k)
+
+  word-taken : (n : ℕ) → k < n → stepWord t b x w out n ≡ stepWord t b (x - 2 ^ k) w new n
   unfolding stepWord
-  skip m zero h = ap (stepWord t b x w start) (add-zero m)
-  skip m (suc n) h =
-      ap (stepWord t b x w start) (add-suc m n) ∙ one (bit x (m + n)) (takesAt t (64 * w + (m + n)) b) (h n (le-refl (suc n))) ∙ skip m n (λ j g. h j (omega arith))
+  word-taken zero g = absurd (omega arith)
+  word-taken (suc n) g = ⊎-elim here (λ l. rw (word-taken n l, off-high x h n l)) (eq-or-lt-of-le (le-of-suc-le-suc g))
     where
-      out : List ℕ
-      out = stepWord t b x w start (m + n)
+      here : k ≡ n → stepWord t b x w out (suc n) ≡ stepWord t b (x - 2 ^ k) w new (suc n)
+      here e =
+          let on : bit x n ≡ true = ap (bit x) (sym e) ∙ tz-high 64 x h in
+          let low : stepWord t b x w out n ≡ out = word-none t b x w out n (λ j l. rw (tz-low 64 x j (omega arith))) in
+          rw on (ap₂ (λ (o : List ℕ) (i : ℕ). put t o b (64 * w + i)) low (sym e) ∙ sym (word-none t b (x - 2 ^ k) w new (suc n) (λ j l. rw (off-low x h j (omega arith)))))
 
-      one : (c d : Bool) → (c && d) ≡ false → cond c (cond d (join out (row t (64 * w + (m + n) + 2))) out) out ≡ out
-      one true true e = absurd (true≢false e)
-      one true false e = refl
-      one false d e = refl
+  pub word-more : (r : List ℕ) (v : ℕ) → r ≡ put t out b (64 * w + k) → v ≡ 1 * 2 ^ k % 2 ^ 64 → stepWord t b (x - v) w r 64 ≡ stepWord t b x w out 64
+  word-more r v e z = ap₂ (λ (y : ℕ) (o : List ℕ). stepWord t b (x - y) w o 64) (z ∙ word-pow k h) e ∙ sym (word-taken 64 h)
 
-  passed : (d k : ℕ) → ((j : ℕ) → j < k → bit (x / 2 ^ d) j ≡ false) → stepWord t b x w start (d + k) ≡ stepWord t b x w start d
-  passed d k low = skip d k (λ j g. rw (← rest-bit x d j, low j g))
-
-  module _ (d rest : ℕ) (out : List ℕ) (hd : d ≤ 64) (hr : rest ≡ x / 2 ^ d) (ho : out ≡ stepWord t b x w start d) where
-    pub word-more : (r : List ℕ) → d + trailingZeros 64 rest < 64 → r ≡ put t out b (64 * w + d + trailingZeros 64 rest)
-        → r ≡ stepWord t b x w start (d + trailingZeros 64 rest + 1)
-    unfolding stepWord
-    word-more r h e =
-        let k = trailingZeros 64 rest in
-        let o : out ≡ stepWord t b x w start (d + k) = ho ∙ sym (passed d k (λ j g. rw (← hr) (tz-low 64 rest j g))) in
-        let on : bit x (d + k) ≡ true = sym (rest-bit x d k) ∙ ap (λ (y : ℕ). bit y k) (sym hr) ∙ tz-high 64 rest (omega arith) in
-        rw (add-one, on, ← add-assoc, ← o) e
-
-    pub word-end : rest ≡ 0 → out ≡ stepWord t b x w start 64
-    word-end z =
-        let same : d + (64 - d) ≡ 64 = omega arith in
-        ho ∙ sym (passed d (64 - d) (λ j g. rw (← hr, z) (bit-zero j))) ∙ ap (stepWord t b x w start) same
-
-pub rest-more : (x d k rest : ℕ) → rest ≡ x / 2 ^ d → rest / 2 ^ k / 2 ≡ x / 2 ^ (d + k + 1)
-rest-more x d k rest h = rw h (ap (λ (y : ℕ). y / 2) (rest-div x d k) ∙ rest-div x (d + k) 1)
+pub word-end : (t : List ℕ) (b w : ℕ) (out : List ℕ) (x : ℕ) → x ≡ 0 → stepWord t b x w out 64 ≡ out
+word-end t b w out x z = word-none t b x w out 64 (λ j g. rw (z, bit-zero j))
 
 -- ---- members
 
@@ -136,20 +140,6 @@ module _ (t live : List ℕ) (b q : ℕ) (hq : q < 192) where
       by (suc (suc w)) e = absurd (omega (arith, s .1))
 
 -- ---- steps that lead nowhere
-
-pub word-none : (t : List ℕ) (b x w : ℕ) (start : List ℕ) (n : ℕ) → ((j : ℕ) → j < n → (bit x j && takesAt t (64 * w + j) b) ≡ false)
-    → stepWord t b x w start n ≡ start
-unfolding stepWord
-word-none t b x w start zero h = refl
-word-none t b x w start (suc n) h = one (bit x n) (takesAt t (64 * w + n) b) (h n (le-refl (suc n))) ∙ word-none t b x w start n (λ j g. h j (omega arith))
-  where
-    out : List ℕ
-    out = stepWord t b x w start n
-
-    one : (c d : Bool) → (c && d) ≡ false → cond c (cond d (join out (row t (64 * w + n + 2))) out) out ≡ out
-    one true true e = absurd (true≢false e)
-    one true false e = refl
-    one false d e = refl
 
 -- no place of live takes b
 pub step-none : (t live : List ℕ) (b : ℕ) → ((p : ℕ) → p < 128 → (mem live p && takesAt t p b) ≡ false) → step t live b ≡ noPlace

@@ -1,15 +1,19 @@
 -- The count of a word's trailing zeros, and the digits that it passes.
-use mathlib.Core.Path.{_≡_, refl, sym, ap, _∙_}
+use mathlib.Core.Path.{_≡_, refl, sym, ap, ap₂, _∙_}
 use mathlib.Core.Bool.{true, false}
 use mathlib.Core.List.{List}
 use Prim.Native.Nat.{ℕ, zero, suc, _+_, _-_, _*_, _/_, _%_, _^_, _≤_, _<_, suc-le-suc, zero-le}
-use native.Mathlib.Nat.{div-div-eq-div-mul, pow-suc, not-suc-le-zero, le-of-suc-le-suc, mul-comm, div-one, div-lt-iff-lt-mul, zero-lt-suc, mod-lt}
+use native.Mathlib.Nat.{div-div-eq-div-mul, pow-suc, not-suc-le-zero, le-refl, le-of-suc-le-suc, mul-comm, mul-assoc, mul-one, suc-mul, mul-mod-left, div-one, div-lt-iff-lt-mul, zero-lt-suc, mod-lt}
+use native.Mathlib.Numerals.{add-one}
 use native.Mathlib.Omega.{arith}
 use lib.ListN.{getD}
 use lib.Count.{trailingZeros, under}
-use lib.Pow.{pow-add, pow-pos}
+use lib.Pow.{pow-add, shl-shr}
 use lib.Dec.{eqb}
-use Rattle.automaton.specs.Table.{bit, mem}
+use borrow.Author.Tests.{eqb-true}
+use Rattle.bits.specs.Digit.{bit}
+use Rattle.bits.proofs.Digits.{halved}
+use Rattle.table.specs.Table.{mem}
 
 -- digit j above digit d
 pub rest-div : (w d j : ℕ) → w / 2 ^ d / 2 ^ j ≡ w / 2 ^ (d + j)
@@ -17,9 +21,6 @@ rest-div w d j = div-div-eq-div-mul w (2 ^ d) (2 ^ j) ∙ ap (λ (m : ℕ). w / 
 
 pub rest-bit : (w d j : ℕ) → bit (w / 2 ^ d) j ≡ bit w (d + j)
 rest-bit w d j = ap (λ (m : ℕ). eqb (m % 2) 1) (rest-div w d j)
-
-pub halved : (n j : ℕ) → n / 2 / 2 ^ j ≡ n / 2 ^ suc j
-halved n j = div-div-eq-div-mul n 2 (2 ^ j) ∙ ap (λ (m : ℕ). n / m) (mul-comm 2 (2 ^ j) ∙ sym (pow-suc 2 j))
 
 -- digits below the count are not set
 pub tz-low : (k n j : ℕ) → j < trailingZeros k n → bit n j ≡ false
@@ -54,14 +55,67 @@ tz-high (suc k) n h = go (λ l. tz-high k (n / 2) l) (n % 2) refl h
     go high zero e h = ap (λ (m : ℕ). eqb (m % 2) 1) (sym (halved n (trailingZeros k (n / 2)))) ∙ high (le-of-suc-le-suc h)
     go high (suc r) e h = let one : n % 2 ≡ 1 = omega (arith, mod-lt n (zero-lt-suc 1)) in rw (div-one, one)
 
--- what is left of a word above digit d
-pub tz-room : (x rest d : ℕ) → x < 2 ^ 64 → d ≤ 64 → rest ≡ x / 2 ^ d → (rest ≡ 0 → ⊥) → d + trailingZeros 64 rest < 64
-tz-room x rest d hx hd e ne =
-    let s : 64 - d + d ≡ 64 = omega arith in
-    let below : x < 2 ^ (64 - d) * 2 ^ d = rw (← pow-add, s) hx in
-    let low : rest < 2 ^ (64 - d) = rw e (div-lt-iff-lt-mul (pow-pos d) .1 below) in
-    let t = tz-lt (64 - d) 64 rest (omega arith) (omega arith) low in
-    omega arith
+-- the digits below the count hold nothing
+tz-even : (k n : ℕ) → n / 2 ^ trailingZeros k n * 2 ^ trailingZeros k n ≡ n
+unfolding trailingZeros
+tz-even zero n = rw (div-one, mul-one)
+tz-even (suc k) n = go (tz-even k (n / 2)) (n % 2) refl
+  where
+    m : ℕ
+    m = trailingZeros k (n / 2)
+
+    go : n / 2 / 2 ^ m * 2 ^ m ≡ n / 2 → (r : ℕ) → n % 2 ≡ r → n / 2 ^ under r m * 2 ^ under r m ≡ n
+    go h zero e =
+        let z : n / 2 * 2 ≡ n = omega arith in
+        ap (λ (x : ℕ). x * 2 ^ suc m) (sym (halved n m)) ∙ ap (λ (x : ℕ). n / 2 / 2 ^ m * x) (pow-suc 2 m) ∙ sym (mul-assoc (n / 2 / 2 ^ m) (2 ^ m) 2)
+        ∙ ap (λ (x : ℕ). x * 2) h ∙ z
+    go h (suc r) e = rw (div-one, mul-one)
+
+-- ---- a word without its lowest set digit
+
+low-of : (n q p : ℕ) → q % 2 ≡ 1 → q * p ≡ n → n ≡ q / 2 * (p * 2) + p
+low-of n q p o e =
+    let h : q ≡ suc (q / 2 * 2) = omega arith in
+    sym e ∙ ap (λ (x : ℕ). x * p) h ∙ suc-mul (q / 2 * 2) p ∙ ap (λ (x : ℕ). x + p) (mul-assoc (q / 2) 2 p ∙ ap (λ (x : ℕ). q / 2 * x) (mul-comm 2 p))
+
+low-none : (q d j : ℕ) → j < d → bit (q * 2 ^ d) j ≡ false
+low-none q d j h =
+    let i = d - suc j in
+    let e : d ≡ suc i + j = omega arith in
+    let s : q * 2 ^ d ≡ q * 2 ^ i * 2 * 2 ^ j =
+    ap (λ (x : ℕ). q * 2 ^ x) e ∙ ap (λ (x : ℕ). q * x) (pow-add 2 (suc i) j ∙ ap (λ (x : ℕ). x * 2 ^ j) (pow-suc 2 i))
+    ∙ sym (mul-assoc q (2 ^ i * 2) (2 ^ j))
+    ∙ ap (λ (x : ℕ). x * 2 ^ j) (sym (mul-assoc q (2 ^ i) 2)) in
+    ap (λ (x : ℕ). bit x j) s ∙ ap (λ (x : ℕ). eqb (x % 2) 1) (shl-shr (q * 2 ^ i * 2) j) ∙ ap (λ (x : ℕ). eqb x 1) (mul-mod-left (q * 2 ^ i) 2)
+
+module _ (n : ℕ) (h : trailingZeros 64 n < 64) where
+  abbrev k : ℕ
+  k = trailingZeros 64 n
+
+  parts : n ≡ n / 2 ^ suc k * 2 ^ suc k + 2 ^ k
+  parts =
+      let o = low-of n (n / 2 ^ k) (2 ^ k) (eqb-true _ _ (tz-high 64 n h)) (tz-even 64 n) in
+      o ∙ ap₂ (λ (x y : ℕ). x * y + 2 ^ k) (rest-div n k 1 ∙ ap (λ (x : ℕ). n / 2 ^ x) (add-one k)) (sym (pow-suc 2 k))
+
+  pub low-le : 2 ^ k ≤ n
+  low-le = omega (arith, parts)
+
+  cleared : n - 2 ^ k ≡ n / 2 ^ suc k * 2 ^ suc k
+  cleared = omega (arith, parts)
+
+  pub off-low : (j : ℕ) → j < suc k → bit (n - 2 ^ k) j ≡ false
+  off-low j l = rw cleared (low-none (n / 2 ^ suc k) (suc k) j l)
+
+  pub off-high : (j : ℕ) → k < j → bit (n - 2 ^ k) j ≡ bit n j
+  off-high j l =
+      let e : suc k + (j - suc k) ≡ j = omega arith in
+      ap₂ bit cleared (sym e) ∙ sym (rest-bit (n / 2 ^ suc k * 2 ^ suc k) (suc k) (j - suc k)) ∙ ap (λ (x : ℕ). bit x (j - suc k)) (shl-shr (n / 2 ^ suc k) (suc k))
+      ∙ rest-bit n (suc k) (j - suc k)
+      ∙ ap (bit n) e
+
+-- a word that is not 0
+pub tz-room : (n : ℕ) → n < 2 ^ 64 → (n ≡ 0 → ⊥) → trailingZeros 64 n < 64
+tz-room n h ne = tz-lt 64 64 n (le-refl 64) (omega arith) h
 
 -- ---- words and places
 

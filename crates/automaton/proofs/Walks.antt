@@ -11,7 +11,7 @@ use lib.Dec.{eqb, eqb·suc-zero}
 use borrow.Author.Tests.{eq-eqb, ne-eqb, eqb-true}
 use Rattle.pattern.specs.Tree.{Ere, place, bol, eol, cat, alt, star, plus, opt}
 use Rattle.pattern.specs.Meaning.{Repeated, done, more, Leads}
-use Rattle.automaton.specs.Nexts.{Next, stop, go, Nexts, Null, First, Enter, Again, Wired, Last}
+use Rattle.table.specs.Nexts.{Next, stop, go, Nexts, Null, First, Enter, Again, Wired, Last}
 
 module _ (ok : ℕ → ℕ → Bool) (text : List ℕ) (N : ℕ → Bool → Next → Type 0) where
   -- from r, pending at i, a walk comes to its end at j

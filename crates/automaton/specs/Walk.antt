@@ -4,9 +4,9 @@ use mathlib.Core.List.{List}
 use Prim.Native.Nat.{ℕ, zero, suc, _+_, _-_, _*_}
 use lib.ListN.{length, getD}
 use lib.Dec.{eqb, leb}
-use Rattle.automaton.specs.Table.{placeCount, bit, mem, row, join, noPlace, takesAt, begins, emptyWord}
-use Rattle.automaton.specs.declared.search.Longest.{Longest}
-use Rattle.automaton.specs.declared.search.Longest.the-variants.{To, Never}
+use Rattle.bits.specs.Digit.{bit}
+use Rattle.table.specs.Wiring.{stopIn}
+use Rattle.table.specs.Table.{row, join, noPlace, takesAt, begins, emptyWord}
 
 -- out with the row after the place p, where p takes b
 abbrev pub put : List ℕ → List ℕ → ℕ → ℕ → List ℕ
@@ -21,10 +21,6 @@ stepWord t b x w out (suc n) = cond (bit x n) (put t (stepWord t b x w out n) b 
 abbrev pub step : List ℕ → List ℕ → ℕ → List ℕ
 step t live b = stepWord t b (getD live 1 0) 1 (stepWord t b (getD live 0 0) 0 noPlace 64) 64
 
--- a walk may stop at the set s, at the text's end (f) or not
-abbrev pub stopIn : List ℕ → Bool → Bool
-stopIn s f = mem s (cond f (placeCount + 1) placeCount)
-
 -- no place is in the set
 abbrev pub dead : List ℕ → Bool
 dead s = eqb (getD s 0 0) 0 && eqb (getD s 1 0) 0
@@ -33,23 +29,23 @@ dead s = eqb (getD s 0 0) 0 && eqb (getD s 1 0) 0
 abbrev pub entryRow : ℕ → ℕ
 entryRow s = cond (eqb s 0) 0 1
 
--- the later of two answers
-abbrev pub note : Longest → List ℕ → Bool → ℕ → ℕ → Longest
-note best live f least n = cond (leb least n) (cond (stopIn live f) (To n) best) best
+-- a match of n bytes as the number n + 1, and 0 where there is none: the answer for n bytes, or best where they are none
+abbrev pub note : ℕ → List ℕ → Bool → ℕ → ℕ → ℕ
+note best live f least n = cond (leb least n) (cond (stopIn live f) (suc n) best) best
 
 -- what may come next after n bytes from s
 unfoldable pub liveAt : List ℕ → List ℕ → ℕ → ℕ → ℕ → List ℕ
 liveAt t rest at s zero = row t (entryRow (at + s))
 liveAt t rest at s (suc n) = step t (liveAt t rest at s n) (getD rest (s + n) 0)
 
--- the longest match from s of at least `least` and fewer than n bytes
-unfoldable pub longestTo : List ℕ → List ℕ → ℕ → ℕ → ℕ → ℕ → Longest
-longestTo t rest at least s zero = Never
+-- the longest match from s of at least `least` and fewer than n bytes, as such a number
+unfoldable pub longestTo : List ℕ → List ℕ → ℕ → ℕ → ℕ → ℕ → ℕ
+longestTo t rest at least s zero = 0
 longestTo t rest at least s (suc n) =
     note (longestTo t rest at least s n) (liveAt t rest at s n) (eqb (s + n) (length rest)) least n
 
 -- the longest match from s
-abbrev pub longestOf : List ℕ → List ℕ → ℕ → ℕ → ℕ → Longest
+abbrev pub longestOf : List ℕ → List ℕ → ℕ → ℕ → ℕ → ℕ
 longestOf t rest at least s = longestTo t rest at least s (suc (length rest - s))
 
 -- a match of at least `least` bytes may be empty, by the table

@@ -2,20 +2,15 @@
 ghost use mathlib.Core.Path.{_≡_};
 ghost use Prim.Native.Nat.{_+_, _≤_, _<_, _^_};
 ghost use lib.ListN.{length};
-ghost use Rattle.automaton.specs.Table.{tableWords, row};
-ghost use Rattle.automaton.specs.Walk.{stopIn, entryRow, note, longestOf, openTo, mayBegin};
+ghost use Rattle.table.specs.Table.{tableWords, row};
+ghost use Rattle.table.specs.Wiring.{stopIn};
+ghost use Rattle.automaton.specs.Walk.{entryRow, note, longestOf, openTo, mayBegin};
 ghost use Rattle.automaton.specs.Walk.{dead as deadSet};
 ghost use Rattle.automaton.specs.Find.{Finds};
 use crate::words;
-use crate::words::BEGIN;
-use crate::words::EMPTY;
-use crate::words::PLACES;
-
-// How long the longest match from a start is.
-pub enum Longest {
-    To(usize),
-    Never,
-}
+use table::BEGIN;
+use table::EMPTY;
+use table::PLACES;
 
 // Where the leftmost match starts in the whole text, and how long it is.
 pub enum Found {
@@ -28,9 +23,9 @@ fn stops(s: [u64; 3], at_end: bool) -> bool
     ensures { λ r. ⌜ r ≡ stopIn s «at_end» ⌝ }
 {
     if at_end {
-        return words::has(s, PLACES + 1);
+        return table::has(s, PLACES + 1);
     }
-    words::has(s, PLACES)
+    table::has(s, PLACES)
 }
 
 // Whether no place is in the set.
@@ -51,25 +46,27 @@ fn entry(t: &[u64], s: usize) -> [u64; 3]
     [t[3], t[4], t[5]]
 }
 
-// best, or n where a walk may stop at the set and n bytes are enough.
-fn noted(best: Longest, live: [u64; 3], at_end: bool, least: usize, n: usize) -> Longest
+// best, or n + 1 where a walk may stop at the set and n bytes are enough. The longest match is kept as a number, its length and 1, and 0 for none:
+// an enum, with its unused bytes, was copied through memory at each step, in pieces that the processor had to wait for.
+fn noted(best: usize, live: [u64; 3], at_end: bool, least: usize, n: usize) -> usize
+    requires { ⌜ n < 2 ^ 63 ⌝ }
     ensures { λ r. ⌜ r ≡ note best live «at_end» least n ⌝ }
 {
     if least <= n {
         if stops(live, at_end) {
-            return Longest::To(n);
+            return n + 1;
         }
     }
     best
 }
 
-// The longest match from s. Where no place is live, no walk goes on.
-fn longest_from(t: &[u64], rest: &[u8], at: usize, least: usize, s: usize) -> Longest
+// The length of the longest match from s and 1, or 0. Where no place is live, no walk goes on.
+fn longest_from(t: &[u64], rest: &[u8], at: usize, least: usize, s: usize) -> usize
     requires { ⌜ (length (now t) ≡ tableWords) × (at + length (now rest) < 2 ^ 63) × (s ≤ length (now rest)) ⌝ }
     ensures { λ r. ⌜ r ≡ longestOf (now (t .entry)) (now (rest .entry)) at least s ⌝ }
 {
     let mut live = entry(t, at + s);
-    let mut best = Longest::Never;
+    let mut best: usize = 0;
     let mut n: usize = 0;
     while s + n < rest.len() {
         let b = noted(best, live, false, least, n);
@@ -115,14 +112,16 @@ pub fn find_from(t: &[u64], rest: &[u8], at: usize, least: usize) -> Found
     let mut s: usize = 0;
     while s < rest.len() {
         if may_begin(t, rest[s], empty) {
-            if let Longest::To(n) = longest_from(t, rest, at, least, s) {
-                return Found::At(at + s, n);
+            let n = longest_from(t, rest, at, least, s);
+            if n > 0 {
+                return Found::At(at + s, n - 1);
             }
         }
         s += 1;
     }
-    if let Longest::To(n) = longest_from(t, rest, at, least, s) {
-        return Found::At(at + s, n);
+    let n = longest_from(t, rest, at, least, s);
+    if n > 0 {
+        return Found::At(at + s, n - 1);
     }
     Found::Nowhere
 }

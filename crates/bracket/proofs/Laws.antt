@@ -14,9 +14,13 @@ use lib.Pow.{pow-lt}
 use lib.Dec.{eqb, leb, ltb}
 use borrow.Author.Tests.{eq-eqb, ne-eqb, eqb-true, le-leb, leb-true, lt-ltb, ltb-true}
 use Rattle.pattern.specs.Tree.{Range, inRange, inSome}
-use Rattle.bracket.specs.Words.{bit, inClass, noByte, everyByte, withByte, withBytes, withSpan, withSpans, otherWord, otherBytes, FourWords, ClassBit}
+use Rattle.bits.specs.Digit.{bit}
+use Rattle.bracket.specs.Words.{inClass, noByte, everyByte, withByte, withBytes, withSpan, withSpans, otherWord, otherBytes, FourWords, ClassBit}
 use Rattle.bracket.proofs.Tests.{same-test, or-cases, or-left, or-right, and-both, and-of, or-none, or-swap, or-group, or-turned}
-use Rattle.bracket.proofs.Digits.{bit-or, bit-zero, bit-shifted, word-pow, bit-other}
+use Rattle.bits.proofs.Digits.{bit-or, bit-zero, bit-shifted, word-pow, bit-turned}
+
+bit-other : (w k : ℕ) → w < 2 ^ 64 → k < 64 → bit (otherWord w) k ≡ not (bit w k)
+bit-other w k hw hk = bit-turned 64 w k hw hk
 
 -- ---- no byte, and the bytes that are not in a class
 

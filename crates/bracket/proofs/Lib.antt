@@ -1,6 +1,5 @@
 -- Laws on words, on classes, and on reading a bracket.
 pub mod Tests
-pub mod Digits
 pub mod Laws
 pub mod Reading
 pub mod Turns

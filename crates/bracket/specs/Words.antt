@@ -6,11 +6,8 @@ use Prim.Native.Nat.{ℕ, zero, suc, _+_, _-_, _*_, _/_, _%_, _^_, _<_}
 use lib.ListN.{length, getD, set}
 use lib.Bits.{bitOr}
 use lib.Dec.{eqb}
+use Rattle.bits.specs.Digit.{bit}
 use Rattle.pattern.specs.Tree.{Range, inRange}
-
--- bit k of the word w is set
-abbrev pub bit : ℕ → ℕ → Bool
-bit w k = eqb (w / 2 ^ k % 2) 1
 
 -- the byte x is in the class c
 abbrev pub inClass : List ℕ → ℕ → Bool

@@ -1,12 +1,3 @@
--- Laws on reading EREs.
-pub mod Leaving
-pub mod Steps
-pub mod Grows
-pub mod Built
-pub mod Turning
-pub mod Items
-pub mod Moving
-pub mod Atomic
-pub mod Grouping
+-- Whole EREs, and the answers of a search.
 pub mod Whole
 pub mod Serving

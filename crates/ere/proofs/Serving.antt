@@ -11,11 +11,11 @@ use Rattle.pattern.specs.Tree.{Class, takes, Ere}
 use Rattle.pattern.specs.Meaning.{Leads}
 use Rattle.pattern.specs.Search.{bestFrom, bestOf}
 use Rattle.pattern.proofs.Moving.{repeated-move, same-answer}
-use Rattle.automaton.specs.Table.{takesAt}
+use Rattle.table.specs.Table.{takesAt}
 use Rattle.automaton.specs.Find.{matchOf, Finds}
 use Rattle.automaton.specs.declared.search.Found.{Found}
 use Rattle.automaton.proofs.Answers.{answer}
-use Rattle.ere.specs.Built.{Agrees, at-place, at-bol, at-eol, in-cat, in-alt, in-star, in-plus, in-opt}
+use Rattle.compiler.specs.Built.{Agrees, at-place, at-bol, at-eol, in-cat, in-alt, in-star, in-plus, in-opt}
 use Rattle.ere.specs.Answer.{matched, judged, searchOf, Serves, Compiles, Bytes}
 use Rattle.ere.specs.declared.matching.Matched.the-variants.{BadEre, LongText}
 

@@ -11,8 +11,8 @@ use Rattle.pattern.specs.Tree.{Class, takes, Ere}
 use Rattle.pattern.specs.Meaning.{Match, found, nowhere}
 use Rattle.pattern.specs.Search.{bestOf}
 use Rattle.grammar.specs.Read.{readEre}
-use Rattle.automaton.specs.Find.{Tabled}
-use Rattle.ere.specs.Built.{Agrees}
+use Rattle.table.specs.Wiring.{Tabled}
+use Rattle.compiler.specs.Built.{Agrees}
 use Rattle.ere.specs.declared.matching.Matched.{Matched}
 use Rattle.ere.specs.declared.matching.Matched.the-variants.{At, Nothing, BadEre, LongText}
 

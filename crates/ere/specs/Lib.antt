@@ -1,6 +1,2 @@
-pub mod Reading
-pub mod State
-pub mod Built
-pub mod Standing
-pub mod Atom
+-- What `compile` and `search` answer.
 pub mod Answer

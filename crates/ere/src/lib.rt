@@ -1,9 +1,5 @@
-// EREs: their compiler and matcher.
-mod atoms;
+// EREs: `compile`, and the match of an ERE in a text.
 mod matching;
-mod reader;
-mod rows;
-mod turns;
 
 pub use matching::Matched;
 pub use matching::compile;

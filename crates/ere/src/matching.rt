@@ -1,9 +1,8 @@
 // EREs as tables, and the match of an ERE in a text.
 ghost use mathlib.Core.Path.{_≡_};
 ghost use lib.ListN.{length};
-ghost use Rattle.automaton.specs.Table.{tableWords};
+ghost use Rattle.table.specs.Table.{tableWords};
 ghost use Rattle.ere.specs.Answer.{searchOf, Compiles};
-use crate::reader;
 use automaton::Found;
 use edition::Edition;
 
@@ -24,7 +23,7 @@ pub fn compile(ere: &[u8], edition: Edition, t: &mut [u64]) -> bool
     if Edition::ERE_BYTES < end {
         return false;
     }
-    let g = reader::read_group(ere, Edition::ERE_GROUPS, 0, 0, 0, t);
+    let g = compiler::read_group(ere, Edition::ERE_GROUPS, 0, 0, 0, t);
     if !g.ok {
         return false;
     }
@@ -34,9 +33,9 @@ pub fn compile(ere: &[u8], edition: Edition, t: &mut [u64]) -> bool
     let e = g.entry;
     let first = e.first;
     let later = e.later;
-    automaton::put_row(t, 0, first);
-    automaton::put_row(t, 1, later);
-    automaton::seal(t);
+    table::put_row(t, 0, first);
+    table::put_row(t, 1, later);
+    table::seal(t);
     true
 }
 
@@ -44,7 +43,7 @@ pub fn compile(ere: &[u8], edition: Edition, t: &mut [u64]) -> bool
 pub fn search(ere: &[u8], text: &[u8]) -> Matched
     ensures { λ r. ⌜ r ≡ searchOf 1 (now (ere .entry)) (now (text .entry)) ⌝ }
 {
-    let mut t = [0u64; automaton::TABLE];
+    let mut t = [0u64; table::TABLE];
     let edition = Edition { number: 1 };
     if !compile(ere, edition, &mut t) {
         return Matched::BadEre;

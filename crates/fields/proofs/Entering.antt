@@ -13,22 +13,13 @@ use Rattle.splitting.specs.Separator.{Separator, separatorOf}
 use Rattle.splitting.specs.Field.{Span, span, fieldsOf}
 use Rattle.splitting.specs.Splitting.{Split, fields, long-record, bad-separator, many-fields, counted, separated, splitOf, spanOf}
 use Rattle.fields.specs.Answer.{answer}
-use Rattle.fields.specs.Spread.{Means, Told, Tells, withSpans, upToMany, spansOf, roomOf}
-use Rattle.fields.specs.declared.kinds.Kind.{Kind}
-use Rattle.fields.specs.declared.kinds.Kind.the-variants.{Blank, Byte, Pattern, Refused}
+use Rattle.fields.specs.Spread.{withSpans, upToMany, spansOf, roomOf}
 use Rattle.fields.specs.declared.entries.Splitting.{Splitting}
 use Rattle.fields.specs.declared.entries.Splitting.the-variants.{Fields, LongRecord, BadSeparator, ManyFields}
 use types.Run.{OneOf, miss}
 use denote.Enum.Declared.{tagOf}
-use Rattle.fields.proofs.kinds.Kind.{the-type as kind-type}
 use Rattle.fields.proofs.entries.Splitting.{the-type}
 use Rattle.fields.proofs.Spreading.{Spreads}
-
-pub told : (edition : ℕ) (bytes t : List ℕ) (k : Kind) → (k ≡ Refused → ⊥) → Tells edition bytes t k → Told edition bytes t k
-told edition bytes t Blank n h = h
-told edition bytes t (Byte b) n h = h
-told edition bytes t Pattern n h = h
-told edition bytes t Refused n h = absurd (n refl)
 
 -- what is answered, with the room for spans
 abbrev pub Filled : List ℕ → Option Separator → List ℕ → Splitting → List ℕ → Type 0
@@ -132,7 +123,3 @@ refused (Fields n) h = absurd (miss (1 ∷ 2 ∷ 3 ∷ []) 0 tt h)
 refused LongRecord h = refl
 refused BadSeparator h = refl
 refused ManyFields h = refl
-
--- the same of a separator's kind
-pub not-refused : (k : Kind) → OneOf (0 ∷ 1 ∷ 2 ∷ []) (tagOf kind-type k) → k ≡ Refused → ⊥
-not-refused k h e = miss (0 ∷ 1 ∷ 2 ∷ []) 3 tt (subst (λ (x : Kind). OneOf (0 ∷ 1 ∷ 2 ∷ []) (tagOf kind-type x)) e h)

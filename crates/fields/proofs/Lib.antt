@@ -1,6 +1,4 @@
--- Laws on separators, steps and spans.
-pub mod Separating
-pub mod Stepping
+-- Laws on spans, and on what is answered of a record.
 pub mod Spreading
 pub mod Entering
 pub mod Located

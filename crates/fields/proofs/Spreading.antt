@@ -13,8 +13,9 @@ use Rattle.edition.specs.Limits.{fieldCount}
 use Rattle.splitting.specs.Separator.{Separator}
 use Rattle.splitting.specs.Field.{Span, span, Next, field, none, nextField, fieldsFrom, fieldsOf}
 use Rattle.splitting.proofs.Turns.{fields-more, fields-none, fields-of, fields-empty}
-use Rattle.fields.specs.Spread.{nextOf, withSpan, withSpans, upToMany}
-use Rattle.fields.specs.declared.steps.Step.{Step}
+use Rattle.separators.specs.Kinds.{nextOf}
+use Rattle.fields.specs.Spread.{withSpan, withSpans, upToMany}
+use Rattle.separators.specs.declared.steps.Step.{Step}
 
 pub step-found : (r : Step) → r .found ≡ true → nextOf r ≡ field (span (r .start) (r .size)) (r .after)
 step-found r h = rw h

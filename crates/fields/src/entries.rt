@@ -1,18 +1,16 @@
 // Splitting a record, and one field of it.
 ghost use mathlib.Core.Path.{_≡_};
-ghost use Prim.Native.Nat.{_<_, _≤_, _*_};
+ghost use Prim.Native.Nat.{_<_};
 ghost use lib.ListN.{length};
-ghost use Rattle.edition.specs.Limits.{recordBytes, fieldCount};
-ghost use Rattle.automaton.specs.Table.{tableWords};
+ghost use Rattle.table.specs.Table.{tableWords};
 ghost use Rattle.splitting.specs.Separator.{separatorOf};
 ghost use Rattle.splitting.specs.Field.{span};
 ghost use Rattle.splitting.specs.Splitting.{separated, splitOf, spanOf, textOf};
 ghost use Rattle.fields.specs.Answer.{answer, placeOf};
 ghost use Rattle.fields.specs.Spread.{spansOf, roomOf};
-use crate::kinds;
-use crate::kinds::Kind;
 use crate::spans as spreading;
 use edition::Edition;
+use separators::Kind;
 
 // What a split answers: how many fields there are, or why there are none.
 pub enum Splitting {
@@ -41,7 +39,7 @@ fn fill_with(
     ensures { λ r. ⌜ (r ≡ answer (separated (now («record» .entry)) (separatorOf (edition .number) (now (separator .entry)))))
         × (now (spans .exit) ≡ spansOf (now (spans .entry)) (now («record» .entry)) (separatorOf (edition .number) (now (separator .entry)))) ⌝ }
 {
-    let kind = kinds::kind_of(separator, edition, t);
+    let kind = separators::kind_of(separator, edition, t);
     if let Kind::Refused = kind {
         return Splitting::BadSeparator;
     }
@@ -62,7 +60,7 @@ fn fill(record: &[u8], separator: &[u8], spans: &mut [usize]) -> Splitting
         return Splitting::LongRecord;
     }
     if 1 < separator.len() {
-        let mut t = [0u64; automaton::TABLE];
+        let mut t = [0u64; table::TABLE];
         return fill_with(record, separator, edition, &mut t, spans);
     }
     let mut t = [0u64; 1];

@@ -5,10 +5,10 @@ ghost use lib.ListN.{length};
 ghost use Rattle.edition.specs.Limits.{fieldCount};
 ghost use Rattle.splitting.specs.Separator.{Separator};
 ghost use Rattle.splitting.specs.Field.{span, fieldsOf};
-ghost use Rattle.fields.specs.Spread.{Sized, Means, withSpan, withSpans, upToMany};
-use crate::kinds::Kind;
-use crate::steps;
+ghost use Rattle.separators.specs.Kinds.{Sized, Means};
+ghost use Rattle.fields.specs.Spread.{withSpan, withSpans, upToMany};
 use edition::Edition;
+use separators::Kind;
 
 // Writes the span of field k, counted from 0, if the room has words for it.
 fn put_span(spans: &mut [usize], k: usize, start: usize, size: usize)
@@ -36,7 +36,7 @@ pub fn spread(text: &[u8], kind: Kind, edition: Edition, t: &[u64], spans: &mut 
     let mut at: usize = 0;
     let mut n: usize = 0;
     while n <= Edition::FIELDS {
-        let f = steps::next_field(text, kind, edition, t, at);
+        let f = separators::next_field(text, kind, edition, t, at);
         if !f.found {
             return n;
         }

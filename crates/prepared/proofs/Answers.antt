@@ -9,7 +9,7 @@ use lib.ListN.{length}
 use Rattle.pattern.specs.Tree.{Class, takes, Ere}
 use Rattle.pattern.specs.Search.{bestOf}
 use Rattle.grammar.specs.Read.{readEre}
-use Rattle.automaton.specs.Table.{tableWords}
+use Rattle.table.specs.Table.{tableWords}
 use Rattle.automaton.specs.Find.{matchOf, Inside, Finds}
 use Rattle.automaton.specs.declared.search.Found.{Found}
 use Rattle.automaton.specs.declared.search.Found.the-variants.{At, Nowhere}

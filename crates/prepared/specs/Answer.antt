@@ -9,7 +9,7 @@ use Rattle.pattern.specs.Tree.{Class, takes, Ere}
 use Rattle.pattern.specs.Meaning.{Match, found, nowhere}
 use Rattle.pattern.specs.Search.{bestOf}
 use Rattle.grammar.specs.Read.{readEre}
-use Rattle.automaton.specs.Table.{tableWords}
+use Rattle.table.specs.Table.{tableWords}
 use Rattle.ere.specs.Answer.{Serves}
 
 -- The table was t₀ and is t. 1: the bytes are an ERE, and the table serves it; 0: they are none, or the table has another size, and is as it was.

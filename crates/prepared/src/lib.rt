@@ -8,7 +8,7 @@ use edition::Edition;
 pub extern "C" fn prepared_compile(ere: &[u8], table: &mut [u64]) -> u64
     ensures { λ r. ⌜ Prepares (now (ere .entry)) (now (table .entry)) (now (table .exit)) r ⌝ }
 {
-    if table.len() != automaton::TABLE {
+    if table.len() != table::TABLE {
         return 0;
     }
     let edition = Edition { number: 1 };
@@ -23,7 +23,7 @@ pub extern "C" fn prepared_compile(ere: &[u8], table: &mut [u64]) -> u64
 pub extern "C" fn prepared_find(table: &[u64], text: &[u8]) -> u64
     ensures { λ r. ⌜ Searches (now (table .entry)) (now (text .entry)) r ⌝ }
 {
-    if table.len() != automaton::TABLE {
+    if table.len() != table::TABLE {
         return 0;
     }
     if Edition::TEXT < text.len() {

@@ -30,7 +30,7 @@ add-loop : tie.Need-add-loop Inv-loop μ-loop
 add-loop c = omega arith
 
 noted-requires : tie.Need-noted-requires Inv-loop μ-loop
-noted-requires c κs = tt
+noted-requires c κs = omega arith
 
 dead-requires : tie.Need-dead-requires Inv-loop μ-loop
 dead-requires c κs = tt
@@ -64,7 +64,7 @@ loop-again c =
     )
 
 noted-requires-2 : tie.Need-noted-requires-2 Inv-loop μ-loop
-noted-requires-2 c κs = tt
+noted-requires-2 c κs = omega arith
 
 returns-2 : tie.Need-returns-2 Inv-loop μ-loop
 returns-2 c =

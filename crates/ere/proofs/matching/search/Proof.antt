@@ -3,9 +3,8 @@ use mathlib.Core.Path.{sym, ap, subst, _∙_}
 use borrow.Author.Tests.{not-true, not-false}
 use Rattle.automaton.specs.Find.{matchOf}
 use Rattle.automaton.specs.declared.search.Found.{Found}
-use Rattle.ere.specs.Answer.{matched, Compiles}
+use Rattle.ere.specs.Answer.{matched, Compiles, Compiles}
 use Rattle.ere.proofs.Serving.{searched-bad, searched-long, searched-found}
-use Rattle.ere.specs.Answer.{Compiles}
 use borrow.Author.Needs.{needs}
 use Rattle.ere.proofs.matching.search.Statement.{statement}
 use Rattle.ere.proofs.matching.search.Tie as tie

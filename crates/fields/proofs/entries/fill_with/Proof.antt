@@ -1,6 +1,7 @@
 -- `fill_with` meets its contract, by the separator's kind and by how many fields there are.
-use Rattle.fields.proofs.Entering.{told, not-refused, filled-none, filled-many, filled-some}
-use Rattle.fields.specs.Spread.{Tells}
+use Rattle.separators.proofs.Separating.{told, not-refused}
+use Rattle.fields.proofs.Entering.{filled-none, filled-many, filled-some}
+use Rattle.separators.specs.Kinds.{Tells}
 use Rattle.splitting.specs.Separator.{separatorOf}
 use mathlib.Core.Path.{subst}
 use borrow.Author.Needs.{needs}

@@ -3,7 +3,7 @@ use mathlib.Core.List.{List}
 use borrow.Author.Needs.{needs}
 use Prim.Native.Nat.{ℕ, _+_, _-_, _≤_}
 use Rattle.fields.proofs.Spreading.{step-found, step-none, Held, held-start, held-more, spread-end, spread-many, spread-empty}
-use Rattle.fields.specs.Spread.{Means}
+use Rattle.separators.specs.Kinds.{Means}
 use Rattle.splitting.specs.Field.{span}
 use Rattle.splitting.specs.Separator.{Separator}
 use lib.ListN.{length}

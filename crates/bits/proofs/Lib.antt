@@ -1,0 +1,2 @@
+-- The laws of a word's digits.
+pub mod Digits

@@ -1,0 +1,4 @@
+// The reader of EREs: from their bytes to rows and classes of a table.
+mod reader;
+
+pub use reader::read_group;

@@ -1,0 +1,3 @@
+-- Laws on the kinds of separators, and on steps.
+pub mod Separating
+pub mod Stepping

@@ -1,0 +1,24 @@
+-- `next_word` meets its contract: a field starts where the blanks end, and ends where the next ones start.
+use Rattle.separators.proofs.Stepping.{word-none, word-is}
+use Rattle.splitting.specs.Separator.{blanks}
+use borrow.Author.Needs.{needs}
+use Rattle.separators.proofs.steps.next_word.Statement.{statement}
+use Rattle.separators.proofs.steps.next_word.Tie as tie
+
+run-end-requires : tie.Need-run-end-requires
+run-end-requires c κs = search needs
+
+returns : tie.Need-returns
+returns c = word-none (c .before .before .before .args .text .now) (c .before .before .before .args .at) (blanks (c .before .before .before .args .edition .number)) (c .before .run-end .result) (c .before .run-end .ensures) (c .if1 .taken)
+
+run-end-requires-2 : tie.Need-run-end-requires-2
+run-end-requires-2 c κs = search needs
+
+sub-t6 : tie.Need-sub-t6
+sub-t6 c = search needs
+
+returns-2 : tie.Need-returns-2
+returns-2 c = word-is (c .before .before .before .before .args .text .now) (c .before .before .before .before .args .at) (blanks (c .before .before .before .before .args .edition .number)) (c .before .before .run-end .result) (c .run-end2 .result) (c .before .before .run-end .ensures) (c .before .if1 .left) (c .run-end2 .ensures)
+
+pub next-word-spec : {M : Type 1} → statement M
+next-word-spec = tie.close (tie.spec run-end-requires returns run-end-requires-2 sub-t6 returns-2)

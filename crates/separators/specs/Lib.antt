@@ -1,0 +1,2 @@
+-- What the code's own values stand for.
+pub mod Kinds

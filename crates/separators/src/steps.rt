@@ -1,0 +1,126 @@
+// From a place in a record to the next field and the place behind it.
+ghost use mathlib.Core.Path.{_≡_};
+ghost use Prim.Native.Nat.{_+_, _≤_};
+ghost use lib.ListN.{length, drop};
+ghost use Rattle.pattern.specs.Tree.{Class, Ere};
+ghost use Rattle.grammar.specs.Bytes.{oneOf};
+ghost use Rattle.table.specs.Table.{tableWords};
+ghost use Rattle.ere.specs.Answer.{Serves};
+ghost use Rattle.splitting.specs.Separator.{Separator, blanks, blank, byte, ere};
+ghost use Rattle.splitting.specs.Field.{leading, nextField};
+ghost use Rattle.separators.specs.Kinds.{Sized, Means, nextOf};
+use crate::kinds::Kind;
+use automaton::Found;
+use edition::Edition;
+
+// The next field, and the place from which on the one behind it is looked for; unless `found`, there is none. Numbers instead of an enum with a part:
+// a copy of an enum moves its unused bytes too.
+pub struct Step {
+    pub found: bool,
+    pub start: usize,
+    pub size: usize,
+    pub after: usize,
+}
+
+fn is_blank(b: u8, edition: Edition) -> bool
+    ensures { λ r. ⌜ r ≡ oneOf (blanks (edition .number)) b ⌝ }
+{
+    b == 32 || b == 9
+}
+
+// The end of the blanks from `at` on, or, where `blank` is false, of the other bytes.
+fn run_end(text: &[u8], edition: Edition, blank: bool, at: usize) -> usize
+    requires { ⌜ at ≤ length (now text) ⌝ }
+    ensures { λ r. ⌜ r ≡ at + leading «blank» (blanks (edition .number)) (drop at (now (text .entry))) ⌝ }
+{
+    let mut i = at;
+    while i < text.len() {
+        if is_blank(text[i], edition) != blank {
+            return i;
+        }
+        i += 1;
+    }
+    i
+}
+
+fn next_word(text: &[u8], edition: Edition, at: usize) -> Step
+    requires { ⌜ at ≤ length (now text) ⌝ }
+    ensures { λ r. ⌜ nextOf r ≡ nextField (now (text .entry)) (blank (blanks (edition .number))) at ⌝ }
+{
+    let start = run_end(text, edition, true, at);
+    if text.len() <= start {
+        return Step {
+            found: false,
+            start: 0,
+            size: 0,
+            after: 0,
+        };
+    }
+    let end = run_end(text, edition, false, start);
+    Step {
+        found: true,
+        start: start,
+        size: end - start,
+        after: end,
+    }
+}
+
+fn next_by_byte(text: &[u8], b: u8, at: usize) -> Step
+    requires { ⌜ at ≤ length (now text) ⌝ }
+    ensures { λ r. ⌜ nextOf r ≡ nextField (now (text .entry)) (byte b) at ⌝ }
+{
+    let n = buffer::first_byte(&text[at..], b);
+    Step {
+        found: true,
+        start: at,
+        size: n,
+        after: at + n + 1,
+    }
+}
+
+fn next_by_pattern(t: &[u64], text: &[u8], at: usize) -> Step
+    requires { ⌜ (length (now t) ≡ tableWords) × (at ≤ length (now text)) ⌝ }
+    ensures { λ r. ⌜ ((e : Ere Class) → Serves (now (t .entry)) e → nextOf r ≡ nextField (now (text .entry)) (ere e) at) ⌝ }
+{
+    let end = text.len();
+    match automaton::find_from(t, &text[at..], at, 1) {
+        Found::At(s, n) => Step {
+            found: true,
+            start: at,
+            size: s - at,
+            after: s + n,
+        },
+        Found::Nowhere => Step {
+            found: true,
+            start: at,
+            size: end - at,
+            after: end + 1,
+        },
+    }
+}
+
+// The next field from the place `at` on.
+pub fn next_field(text: &[u8], kind: Kind, edition: Edition, t: &[u64], at: usize) -> Step
+    requires { ⌜ Sized kind (now t) ⌝ }
+    ensures { λ r. ⌜ ((s : Separator) → Means (edition .number) (now (t .entry)) kind s → nextOf r ≡ nextField (now (text .entry)) s at) ⌝ }
+{
+    if text.len() < at {
+        return Step {
+            found: false,
+            start: 0,
+            size: 0,
+            after: 0,
+        };
+    }
+    match kind {
+        Kind::Blank => next_word(text, edition, at),
+        Kind::Byte(b) => next_by_byte(text, b, at),
+        Kind::Pattern => next_by_pattern(t, text, at),
+        Kind::Refused => Step {
+            found: false,
+            start: 0,
+            size: 0,
+            after: 0,
+        },
+    }
+}

@@ -1,0 +1,59 @@
+-- The laws of sets that are lists of words.
+use mathlib.Core.Path.{_≡_, refl, sym, ap, _∙_}
+use mathlib.Core.Bool.{Bool, true, false, true≢false, cond, _||_, _&&_}
+use mathlib.Core.Logic.{_⊎_, inl, inr}
+use mathlib.Core.List.{List, [], _∷_}
+use Prim.Native.Nat.{ℕ, zero, suc, _/_, _%_, _<_}
+use native.Mathlib.Omega.{arith}
+use lib.ListN.{getD}
+use lib.Bits.{bitOr}
+use Rattle.bits.specs.Digit.{bit}
+use Rattle.bits.proofs.Digits.{bit-or, bit-zero}
+use Rattle.table.specs.Table.{mem, join}
+
+join-at : (a b : List ℕ) (k : ℕ) → k < 3 → getD (join a b) k 0 ≡ bitOr (getD a k 0) (getD b k 0)
+join-at a b zero h = refl
+join-at a b (suc zero) h = refl
+join-at a b (suc (suc zero)) h = refl
+join-at a b (suc (suc (suc k))) h = absurd (omega arith)
+
+pub mem-join : (a b : List ℕ) (q : ℕ) → q < 192 → mem (join a b) q ≡ (mem a q || mem b q)
+mem-join a b q h = ap (λ (w : ℕ). bit w (q % 64)) (join-at a b (q / 64) (omega arith)) ∙ bit-or (getD a (q / 64) 0) (getD b (q / 64) 0) (q % 64)
+
+none-at : (k : ℕ) → getD {A = ℕ} (0 ∷ 0 ∷ 0 ∷ []) k 0 ≡ 0
+none-at zero = refl
+none-at (suc zero) = refl
+none-at (suc (suc zero)) = refl
+none-at (suc (suc (suc k))) = refl
+
+pub mem-none : (q : ℕ) → mem (0 ∷ 0 ∷ 0 ∷ []) q ≡ false
+mem-none q = ap (λ (w : ℕ). bit w (q % 64)) (none-at (q / 64)) ∙ bit-zero (q % 64)
+
+-- ---- the tests
+
+pub or-cases : (a b : Bool) → (a || b) ≡ true → (a ≡ true) ⊎ (b ≡ true)
+or-cases true b h = inl refl
+or-cases false b h = inr h
+
+pub or-left : (a b : Bool) → a ≡ true → (a || b) ≡ true
+or-left a b h = rw h
+
+pub or-right : (a b : Bool) → b ≡ true → (a || b) ≡ true
+or-right true b h = refl
+or-right false b h = h
+
+pub or-none : (a : Bool) → a ≡ (a || false)
+or-none true = refl
+or-none false = refl
+
+pub and-both : (a b : Bool) → (a && b) ≡ true → (a ≡ true) × (b ≡ true)
+and-both true b h = (refl, h)
+and-both false b h = absurd (true≢false (sym h))
+
+pub and-of : (a b : Bool) → a ≡ true → b ≡ true → (a && b) ≡ true
+and-of a b h k = rw h k
+
+-- out with a set where a test holds
+pub mem-cond : (x : Bool) (a b : List ℕ) (q : ℕ) → q < 192 → mem (cond x (join a b) a) q ≡ (mem a q || (x && mem b q))
+mem-cond true a b q h = mem-join a b q h
+mem-cond false a b q h = or-none (mem a q)
