@@ -22,8 +22,8 @@ use Rattle.fields.proofs.entries.Splitting.{the-type}
 use Rattle.fields.proofs.Spreading.{Spreads}
 
 -- what is answered, with the room for spans
-abbrev pub Filled : List ℕ → Option Separator → List ℕ → Splitting → List ℕ → Type 0
-Filled text o room₀ r room = (r ≡ answer (separated text o)) × (room ≡ spansOf room₀ text o)
+abbrev pub Filled : List ℕ → Option Separator → List ℕ → ℕ → Splitting → List ℕ → Type 0
+Filled text o room₀ first r room = (r ≡ answer (separated text o)) × (room ≡ spansOf room₀ first text o)
 
 pub few : (n : ℕ) → upToMany n ≤ fieldCount → (upToMany n ≡ n) × (leb n fieldCount ≡ true)
 few n h = by (leb n fieldCount) refl
@@ -39,30 +39,30 @@ many n h = by (leb n fieldCount) refl
     by true e = absurd (omega (arith, leb-true n fieldCount e, (rw e at h)))
     by false e = e
 
-module _ (text : List ℕ) (o : Option Separator) (room₀ : List ℕ) where
-  pub filled-none : o ≡ none → Filled text o room₀ BadSeparator room₀
+module _ (text : List ℕ) (o : Option Separator) (room₀ : List ℕ) (first : ℕ) where
+  pub filled-none : o ≡ none → Filled text o room₀ first BadSeparator room₀
   filled-none h = rw h (refl, refl)
 
-  pub filled-many : (s : Separator) (n : ℕ) (room : List ℕ) → o ≡ some s → Spreads text s room₀ n room → fieldCount < n → Filled text o room₀ ManyFields room
+  pub filled-many : (s : Separator) (n : ℕ) (room : List ℕ) → o ≡ some s → Spreads text s room₀ first n room → fieldCount < n → Filled text o room₀ first ManyFields room
   filled-many s n room h g l =
       let e = many (length (fieldsOf text s)) (subst (λ (m : ℕ). fieldCount < m) (g .0) l) in
       rw h (rw e refl, g .1)
 
-  pub filled-some : (s : Separator) (n : ℕ) (room : List ℕ) → o ≡ some s → Spreads text s room₀ n room → n ≤ fieldCount → Filled text o room₀ (Fields n) room
+  pub filled-some : (s : Separator) (n : ℕ) (room : List ℕ) → o ≡ some s → Spreads text s room₀ first n room → n ≤ fieldCount → Filled text o room₀ first (Fields n) room
   filled-some s n room h g l =
       let e = few (length (fieldsOf text s)) (subst (λ (m : ℕ). m ≤ fieldCount) (g .0) l) in
       rw h (rw (e .1) (ap Fields (g .0 ∙ e .0)), g .1)
 
-module _ (edition : ℕ) (separator text : List ℕ) (room₀ : List ℕ) where
+module _ (edition : ℕ) (separator text : List ℕ) (room₀ : List ℕ) (first : ℕ) where
   -- what a split answers, with the room for spans
   abbrev pub Splits : Splitting → List ℕ → Type 0
-  Splits r room = (r ≡ answer (splitOf edition separator text)) × (room ≡ roomOf edition separator text room₀)
+  Splits r room = (r ≡ answer (splitOf edition separator text)) × (room ≡ roomOf edition separator text first room₀)
 
   pub split-long : recordBytes < length text → Splits LongRecord room₀
   unfolding splitOf
   split-long h = rw (lt-leb (length text) recordBytes h) (refl, refl)
 
-  pub split-filled : (r : Splitting) (room : List ℕ) → length text ≤ recordBytes → Filled text (separatorOf edition separator) room₀ r room → Splits r room
+  pub split-filled : (r : Splitting) (room : List ℕ) → length text ≤ recordBytes → Filled text (separatorOf edition separator) room₀ first r room → Splits r room
   unfolding splitOf
   split-filled r room h g = rw (le-leb (length text) recordBytes h) g
 
@@ -76,36 +76,36 @@ counting BadSeparator = 0
 counting ManyFields = 0
 
 -- the split has n fields, and the room has their spans
-pub record Has (n : ℕ) (x : Split) (room₀ room : List ℕ) : Type 0 where
+pub record Has (n : ℕ) (x : Split) (room₀ : List ℕ) (first : ℕ) (room : List ℕ) : Type 0 where
   pub them : List Span
   pub split : x ≡ fields them
   pub many : length them ≡ n
   pub few : n ≤ fieldCount
-  pub spans : room ≡ withSpans room₀ 0 them
+  pub spans : room ≡ withSpans room₀ first 0 them
 
-has-counted : (n : ℕ) (room₀ : List ℕ) (fs : List Span) → Fields n ≡ answer (counted fs) → Has n (counted fs) room₀ (withSpans room₀ 0 fs)
-has-counted n room₀ fs h = by (leb (length fs) fieldCount) refl (ap counting h)
+has-counted : (n : ℕ) (room₀ : List ℕ) (first : ℕ) (fs : List Span) → Fields n ≡ answer (counted fs) → Has n (counted fs) room₀ first (withSpans room₀ first 0 fs)
+has-counted n room₀ first fs h = by (leb (length fs) fieldCount) refl (ap counting h)
   where
     by : (x : Bool) → leb (length fs) fieldCount ≡ x → suc n ≡ counting (answer (cond x (fields fs) many-fields))
-        → Has n (counted fs) room₀ (withSpans room₀ 0 fs)
+        → Has n (counted fs) room₀ first (withSpans room₀ first 0 fs)
     by true e z =
         record { them = fs; split = rw e; many = omega arith; few = omega (arith, leb-true (length fs) fieldCount e); spans = refl }
     by false e z = absurd (omega arith)
 
-has-separated : (n : ℕ) (text room₀ : List ℕ) (o : Option Separator) → Fields n ≡ answer (separated text o)
-    → Has n (separated text o) room₀ (spansOf room₀ text o)
-has-separated n text room₀ none h = absurd (let z = ap counting h in omega arith)
-has-separated n text room₀ (some s) h = has-counted n room₀ (fieldsOf text s) h
+has-separated : (n : ℕ) (text room₀ : List ℕ) (first : ℕ) (o : Option Separator) → Fields n ≡ answer (separated text o)
+    → Has n (separated text o) room₀ first (spansOf room₀ first text o)
+has-separated n text room₀ first none h = absurd (let z = ap counting h in omega arith)
+has-separated n text room₀ first (some s) h = has-counted n room₀ first (fieldsOf text s) h
 
-module _ (edition : ℕ) (separator text : List ℕ) (room₀ : List ℕ) where
+module _ (edition : ℕ) (separator text : List ℕ) (room₀ : List ℕ) (first : ℕ) where
   pub has-split : (n : ℕ) → Fields n ≡ answer (splitOf edition separator text)
-      → Has n (splitOf edition separator text) room₀ (roomOf edition separator text room₀)
+      → Has n (splitOf edition separator text) room₀ first (roomOf edition separator text first room₀)
   unfolding splitOf
   has-split n h = by (leb (length text) recordBytes) refl h
     where
       by : (x : Bool) → leb (length text) recordBytes ≡ x → Fields n ≡ answer (cond x (separated text (separatorOf edition separator)) long-record)
-          → Has n (cond x (separated text (separatorOf edition separator)) long-record) room₀ (cond x (spansOf room₀ text (separatorOf edition separator)) room₀)
-      by true e z = has-separated n text room₀ (separatorOf edition separator) z
+          → Has n (cond x (separated text (separatorOf edition separator)) long-record) room₀ first (cond x (spansOf room₀ first text (separatorOf edition separator)) room₀)
+      by true e z = has-separated n text room₀ first (separatorOf edition separator) z
       by false e z = absurd (let q = ap counting z in omega arith)
 
 -- ---- and one that doesn't

@@ -19,17 +19,14 @@ use Rattle.splitting.proofs.Turns.{ordered}
 use Rattle.fields.specs.Answer.{answer, placeOf}
 use Rattle.fields.specs.Spread.{withSpans, roomOf}
 use Rattle.fields.specs.declared.entries.Splitting.the-variants.{Fields}
-use Rattle.fields.proofs.Located.{Roomy, field-whole, field-past, field-inside}
+use Rattle.fields.proofs.Located.{field-whole, field-past, field-inside}
 use Rattle.fields.proofs.Entering.{Has, has-split}
 
 -- ---- read off the room
 
 module _ (edition : ℕ) (separator text room₀ : List ℕ) (k n : ℕ) (h : Fields n ≡ answer (splitOf edition separator text)) where
-  has : Has n (splitOf edition separator text) room₀ (roomOf edition separator text room₀)
-  has = has-split edition separator text room₀ n h
-
-  pub count-few : n ≤ fieldCount
-  count-few = has .few
+  has : Has n (splitOf edition separator text) room₀ (k - 1) (roomOf edition separator text (k - 1) room₀)
+  has = has-split edition separator text room₀ (k - 1) n h
 
   of-fields : fieldAt (length text) (has .them) k ≡ spanOf (length text) k (splitOf edition separator text)
   unfolding spanOf
@@ -41,11 +38,11 @@ module _ (edition : ℕ) (separator text room₀ : List ℕ) (k n : ℕ) (h : Fi
   pub located-past : n < k → span (length text) 0 ≡ spanOf (length text) k (splitOf edition separator text)
   located-past l = field-past (has .them) (length text) k (omega (arith, has .many)) ∙ of-fields
 
-  pub located-field : (room : List ℕ) → room ≡ roomOf edition separator text room₀ → Roomy room₀ → (k ≡ 0 → ⊥) → k ≤ n
-      → span (getD room (2 * (k - 1)) 0) (getD room (2 * (k - 1) + 1) 0) ≡ spanOf (length text) k (splitOf edition separator text)
+  pub located-field : (room : List ℕ) → room ≡ roomOf edition separator text (k - 1) room₀ → 2 ≤ length room₀ → (k ≡ 0 → ⊥) → k ≤ n
+      → span (getD room 0 0) (getD room 1 0) ≡ spanOf (length text) k (splitOf edition separator text)
   located-field room e g z l =
       let q = e ∙ has .spans in
-      ap₂ span (ap (λ (r : List ℕ). getD r (2 * (k - 1)) 0) q) (ap (λ (r : List ℕ). getD r (2 * (k - 1) + 1) 0) q)
+      ap₂ span (ap (λ (r : List ℕ). getD r 0 0) q) (ap (λ (r : List ℕ). getD r 1 0) q)
       ∙ field-inside (has .them) (length text) k room₀ z (omega (arith, has .many)) (omega (arith, has .many, has .few)) g
       ∙ of-fields
 

@@ -1,6 +1,6 @@
 // Splitting a record, and one field of it.
 ghost use mathlib.Core.Path.{_≡_};
-ghost use Prim.Native.Nat.{_<_};
+ghost use Prim.Native.Nat.{_<_, _-_};
 ghost use lib.ListN.{length};
 ghost use Rattle.table.specs.Table.{tableWords};
 ghost use Rattle.splitting.specs.Separator.{separatorOf};
@@ -27,23 +27,24 @@ pub struct Located {
     pub size: usize,
 }
 
-// Splits a record that isn't too long. The table is for a separator that is an ERE.
+// Splits a record that isn't too long, with a room for the fields from `first` on. The table is for a separator that is an ERE.
 fn fill_with(
     record: &[u8],
     separator: &[u8],
     edition: Edition,
     t: &mut [u64],
+    first: usize,
     spans: &mut [usize],
 ) -> Splitting
     requires { ⌜ (1 < length (now separator) → length (now t) ≡ tableWords) ⌝ }
     ensures { λ r. ⌜ (r ≡ answer (separated (now («record» .entry)) (separatorOf (edition .number) (now (separator .entry)))))
-        × (now (spans .exit) ≡ spansOf (now (spans .entry)) (now («record» .entry)) (separatorOf (edition .number) (now (separator .entry)))) ⌝ }
+        × (now (spans .exit) ≡ spansOf (now (spans .entry)) first (now («record» .entry)) (separatorOf (edition .number) (now (separator .entry)))) ⌝ }
 {
     let kind = separators::kind_of(separator, edition, t);
     if let Kind::Refused = kind {
         return Splitting::BadSeparator;
     }
-    let n = spreading::spread(record, kind, edition, t, spans);
+    let n = spreading::spread(record, kind, edition, t, first, spans);
     if Edition::FIELDS < n {
         return Splitting::ManyFields;
     }
@@ -51,9 +52,9 @@ fn fill_with(
 }
 
 // Splits a record, by edition 1. A separator of one byte needs no table, and making one takes longer than such a split.
-fn fill(record: &[u8], separator: &[u8], spans: &mut [usize]) -> Splitting
+fn fill(record: &[u8], separator: &[u8], first: usize, spans: &mut [usize]) -> Splitting
     ensures { λ r. ⌜ (r ≡ answer (splitOf 1 (now (separator .entry)) (now («record» .entry))))
-        × (now (spans .exit) ≡ roomOf 1 (now (separator .entry)) (now («record» .entry)) (now (spans .entry))) ⌝ }
+        × (now (spans .exit) ≡ roomOf 1 (now (separator .entry)) (now («record» .entry)) first (now (spans .entry))) ⌝ }
 {
     let edition = Edition { number: 1 };
     if Edition::RECORD < record.len() {
@@ -61,10 +62,10 @@ fn fill(record: &[u8], separator: &[u8], spans: &mut [usize]) -> Splitting
     }
     if 1 < separator.len() {
         let mut t = [0u64; table::TABLE];
-        return fill_with(record, separator, edition, &mut t, spans);
+        return fill_with(record, separator, edition, &mut t, first, spans);
     }
     let mut t = [0u64; 1];
-    fill_with(record, separator, edition, &mut t, spans)
+    fill_with(record, separator, edition, &mut t, first, spans)
 }
 
 // The outcome of splitting a record, with the number of its fields.
@@ -72,17 +73,27 @@ pub fn split(record: &[u8], separator: &[u8]) -> Splitting
     ensures { λ r. ⌜ r ≡ answer (splitOf 1 (now (separator .entry)) (now («record» .entry))) ⌝ }
 {
     let mut spans = [0usize; 2];
-    fill(record, separator, &mut spans)
+    fill(record, separator, 0, &mut spans)
 }
 
-// The span of field k, and the outcome of splitting the record.
+// The number before k.
+fn previous(k: usize) -> usize
+    ensures { λ r. ⌜ r ≡ k - 1 ⌝ }
+{
+    if k == 0 {
+        return 0;
+    }
+    k - 1
+}
+
+// The span of field k, and the outcome of splitting the record. Fields are counted from 1 here, so the room is for the one before k alone.
 pub fn locate(record: &[u8], separator: &[u8], k: usize) -> Located
     ensures { λ r. ⌜ (r .splitting ≡ answer (splitOf 1 (now (separator .entry)) (now («record» .entry))))
         × (span (r .start) (r .size) ≡ spanOf (length (now («record» .entry))) k (splitOf 1 (now (separator .entry)) (now («record» .entry)))) ⌝ }
 {
-    let mut spans = [0usize; 2 * Edition::FIELDS];
+    let mut spans = [0usize; 2];
     let end = record.len();
-    let s = fill(record, separator, &mut spans);
+    let s = fill(record, separator, previous(k), &mut spans);
     if let Splitting::Fields(n) = s {
         if k == 0 {
             return Located {
@@ -94,8 +105,8 @@ pub fn locate(record: &[u8], separator: &[u8], k: usize) -> Located
         if k <= n {
             return Located {
                 splitting: s,
-                start: spans[2 * (k - 1)],
-                size: spans[2 * (k - 1) + 1],
+                start: spans[0],
+                size: spans[1],
             };
         }
     }

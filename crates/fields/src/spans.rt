@@ -10,25 +10,37 @@ ghost use Rattle.fields.specs.Spread.{withSpan, withSpans, upToMany};
 use edition::Edition;
 use separators::Kind;
 
-// Writes the span of field k, counted from 0, if the room has words for it.
-fn put_span(spans: &mut [usize], k: usize, start: usize, size: usize)
+// Writes the span of field k, counted from 0, to a room for the fields from `first` on, if it has words for it.
+fn put_span(spans: &mut [usize], first: usize, k: usize, start: usize, size: usize)
     requires { ⌜ k ≤ fieldCount ⌝ }
-    ensures { λ u. ⌜ now (spans .exit) ≡ withSpan (now (spans .entry)) k (span start size) ⌝ }
+    ensures { λ u. ⌜ now (spans .exit) ≡ withSpan (now (spans .entry)) first k (span start size) ⌝ }
 {
-    if k < Edition::FIELDS {
-        if 2 * k + 1 < spans.len() {
-            spans[2 * k] = start;
-            spans[2 * k + 1] = size;
-        }
+    if Edition::FIELDS <= k {
+        return;
+    }
+    if k < first {
+        return;
+    }
+    let i = 2 * (k - first);
+    if i + 1 < spans.len() {
+        spans[i] = start;
+        spans[i + 1] = size;
     }
 }
 
-// Writes the spans of the fields, as many as the room has words for, and counts them up to one more than a record may have.
-pub fn spread(text: &[u8], kind: Kind, edition: Edition, t: &[u64], spans: &mut [usize]) -> usize
+// Writes the spans of the fields from `first` on, as many as the room has words for, and counts all fields, up to one more than a record may have.
+pub fn spread(
+    text: &[u8],
+    kind: Kind,
+    edition: Edition,
+    t: &[u64],
+    first: usize,
+    spans: &mut [usize],
+) -> usize
     requires { ⌜ Sized kind (now t) ⌝ }
     ensures { λ r. ⌜ ((s : Separator) → Means (edition .number) (now (t .entry)) kind s
         → (r ≡ upToMany (length (fieldsOf (now (text .entry)) s)))
-        × (now (spans .exit) ≡ withSpans (now (spans .entry)) 0 (fieldsOf (now (text .entry)) s))) ⌝ }
+        × (now (spans .exit) ≡ withSpans (now (spans .entry)) first 0 (fieldsOf (now (text .entry)) s))) ⌝ }
 {
     if text.len() == 0 {
         return 0;
@@ -40,7 +52,7 @@ pub fn spread(text: &[u8], kind: Kind, edition: Edition, t: &[u64], spans: &mut 
         if !f.found {
             return n;
         }
-        put_span(spans, n, f.start, f.size);
+        put_span(spans, first, n, f.start, f.size);
         at = f.after;
         n += 1;
     }

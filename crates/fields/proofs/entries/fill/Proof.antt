@@ -5,7 +5,7 @@ use Rattle.fields.proofs.entries.fill.Statement.{statement}
 use Rattle.fields.proofs.entries.fill.Tie as tie
 
 returns : tie.Need-returns
-returns c = split-long 1 (c .before .before .before .before .args .separator .now) (c .before .before .before .before .args .«record» .now) (c .before .before .before .before .args .spans .now) (c .if1 .taken)
+returns c = split-long 1 (c .before .before .before .before .args .separator .now) (c .before .before .before .before .args .«record» .now) (c .before .before .before .before .args .spans .now) (c .before .before .before .before .args .first) (c .if1 .taken)
 
 slice-aggregate-fill-with : tie.Need-slice-aggregate-fill-with
 slice-aggregate-fill-with c = search needs
@@ -17,7 +17,7 @@ same-length : tie.Need-same-length
 same-length c = search needs
 
 returns-2 : tie.Need-returns-2
-returns-2 c = split-filled 1 (c .before .before .before .before .before .before .before .before .before .before .before .args .separator .now) (c .before .before .before .before .before .before .before .before .before .before .before .args .«record» .now) (c .before .before .before .before .before .before .before .before .before .before .before .args .spans .now) (c .before .before .before .fill-with .result) _ (c .before .before .before .before .before .before .before .if1 .left) (c .before .before .before .fill-with .ensures)
+returns-2 c = split-filled 1 (c .before .before .before .before .before .before .before .before .before .before .before .args .separator .now) (c .before .before .before .before .before .before .before .before .before .before .before .args .«record» .now) (c .before .before .before .before .before .before .before .before .before .before .before .args .spans .now) (c .before .before .before .before .before .before .before .before .before .before .before .args .first) (c .before .before .before .fill-with .result) _ (c .before .before .before .before .before .before .before .if1 .left) (c .before .before .before .fill-with .ensures)
 
 slice-aggregate-fill-with-2 : tie.Need-slice-aggregate-fill-with-2
 slice-aggregate-fill-with-2 c = search needs
@@ -29,7 +29,7 @@ same-length-2 : tie.Need-same-length-2
 same-length-2 c = search needs
 
 returns-3 : tie.Need-returns-3
-returns-3 c = split-filled 1 (c .before .before .before .before .before .before .before .before .before .before .before .args .separator .now) (c .before .before .before .before .before .before .before .before .before .before .before .args .«record» .now) (c .before .before .before .before .before .before .before .before .before .before .before .args .spans .now) (c .before .before .before .fill-with2 .result) _ (c .before .before .before .before .before .before .before .if1 .left) (c .before .before .before .fill-with2 .ensures)
+returns-3 c = split-filled 1 (c .before .before .before .before .before .before .before .before .before .before .before .args .separator .now) (c .before .before .before .before .before .before .before .before .before .before .before .args .«record» .now) (c .before .before .before .before .before .before .before .before .before .before .before .args .spans .now) (c .before .before .before .before .before .before .before .before .before .before .before .args .first) (c .before .before .before .fill-with2 .result) _ (c .before .before .before .before .before .before .before .if1 .left) (c .before .before .before .fill-with2 .ensures)
 
 pub fill-spec : {M : Type 1} → statement M
 fill-spec =

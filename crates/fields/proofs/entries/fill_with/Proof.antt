@@ -19,7 +19,7 @@ same-length c = search needs
 
 returns : tie.Need-returns
 returns c =
-    filled-none (c .before .before .before .before .before .before .before .before .before .before .args .«record» .now) (separatorOf (c .before .before .before .before .before .before .before .before .before .before .args .edition .number) (c .before .before .before .before .before .before .before .before .before .before .args .separator .now)) (c .before .before .before .before .before .before .before .before .before .before .args .spans .now)
+    filled-none (c .before .before .before .before .before .before .before .before .before .before .args .«record» .now) (separatorOf (c .before .before .before .before .before .before .before .before .before .before .args .edition .number) (c .before .before .before .before .before .before .before .before .before .before .args .separator .now)) (c .before .before .before .before .before .before .before .before .before .before .args .spans .now) (c .before .before .before .before .before .before .before .before .before .before .args .first)
     (subst (Tells (c .before .before .before .before .before .before .before .before .before .before .args .edition .number) (c .before .before .before .before .before .before .before .before .before .before .args .separator .now) _) (c .enum-told .given .1) (c .before .before .before .before .kind-of .ensures .0))
 
 spread-requires : tie.Need-spread-requires
@@ -34,7 +34,7 @@ same-length-3 c = search needs
 returns-2 : tie.Need-returns-2
 returns-2 c =
     let k = told (c .before .before .before .before .before .before .before .before .before .before .before .before .before .before .before .args .edition .number) (c .before .before .before .before .before .before .before .before .before .before .before .before .before .before .before .args .separator .now) _ (c .before .before .before .before .before .before .before .before .before .kind-of .result) (not-refused (c .before .before .before .before .before .before .before .before .before .kind-of .result) (c .before .before .before .before .before .before .match .keys2)) (c .before .before .before .before .before .before .before .before .before .kind-of .ensures .0) in
-    filled-many (c .before .before .before .before .before .before .before .before .before .before .before .before .before .before .before .args .«record» .now) (separatorOf (c .before .before .before .before .before .before .before .before .before .before .before .before .before .before .before .args .edition .number) (c .before .before .before .before .before .before .before .before .before .before .before .before .before .before .before .args .separator .now)) (c .before .before .before .before .before .before .before .before .before .before .before .before .before .before .before .args .spans .now) (k .0) (c .before .before .before .spread .result) _ (k .1) (c .before .before .before .spread .ensures (k .0) (k .2)) (c .if1 .taken)
+    filled-many (c .before .before .before .before .before .before .before .before .before .before .before .before .before .before .before .args .«record» .now) (separatorOf (c .before .before .before .before .before .before .before .before .before .before .before .before .before .before .before .args .edition .number) (c .before .before .before .before .before .before .before .before .before .before .before .before .before .before .before .args .separator .now)) (c .before .before .before .before .before .before .before .before .before .before .before .before .before .before .before .args .spans .now) (c .before .before .before .before .before .before .before .before .before .before .before .before .before .before .before .args .first) (k .0) (c .before .before .before .spread .result) _ (k .1) (c .before .before .before .spread .ensures (k .0) (k .2)) (c .if1 .taken)
 
 same-length-4 : tie.Need-same-length-4
 same-length-4 c = search needs
@@ -45,7 +45,7 @@ same-length-5 c = search needs
 returns-3 : tie.Need-returns-3
 returns-3 c =
     let k = told (c .before .before .before .before .before .before .before .before .before .before .before .before .before .before .before .args .edition .number) (c .before .before .before .before .before .before .before .before .before .before .before .before .before .before .before .args .separator .now) _ (c .before .before .before .before .before .before .before .before .before .kind-of .result) (not-refused (c .before .before .before .before .before .before .before .before .before .kind-of .result) (c .before .before .before .before .before .before .match .keys2)) (c .before .before .before .before .before .before .before .before .before .kind-of .ensures .0) in
-    filled-some (c .before .before .before .before .before .before .before .before .before .before .before .before .before .before .before .args .«record» .now) (separatorOf (c .before .before .before .before .before .before .before .before .before .before .before .before .before .before .before .args .edition .number) (c .before .before .before .before .before .before .before .before .before .before .before .before .before .before .before .args .separator .now)) (c .before .before .before .before .before .before .before .before .before .before .before .before .before .before .before .args .spans .now) (k .0) (c .before .before .before .spread .result) _ (k .1) (c .before .before .before .spread .ensures (k .0) (k .2)) (c .if1 .left)
+    filled-some (c .before .before .before .before .before .before .before .before .before .before .before .before .before .before .before .args .«record» .now) (separatorOf (c .before .before .before .before .before .before .before .before .before .before .before .before .before .before .before .args .edition .number) (c .before .before .before .before .before .before .before .before .before .before .before .before .before .before .before .args .separator .now)) (c .before .before .before .before .before .before .before .before .before .before .before .before .before .before .before .args .spans .now) (c .before .before .before .before .before .before .before .before .before .before .before .before .before .before .before .args .first) (k .0) (c .before .before .before .spread .result) _ (k .1) (c .before .before .before .spread .ensures (k .0) (k .2)) (c .if1 .left)
 
 pub fill-with-spec : {M : Type 1} → statement M
 fill-with-spec =

@@ -15,17 +15,17 @@ use Rattle.fields.proofs.spans.spread.Statement.{statement}
 use Rattle.fields.proofs.spans.spread.Tie as tie
 
 abbrev Inv-loop : tie.InvT-loop
-Inv-loop text kind edition t spans₀ at₀ n₀ spans at n =
-    (length spans ≡ length spans₀) × (n ≤ 129) × ((s : Separator) → Means (edition .number) t kind s → Held text s spans₀ at n spans)
+Inv-loop text kind edition t first spans₀ at₀ n₀ spans at n =
+    (length spans ≡ length spans₀) × (n ≤ 129) × ((s : Separator) → Means (edition .number) t kind s → Held text s spans₀ first at n spans)
 
 abbrev μ-loop : tie.MeasureT-loop
-μ-loop text kind edition t spans₀ at₀ n₀ spans at n = 129 - n
+μ-loop text kind edition t first spans₀ at₀ n₀ spans at n = 129 - n
 
 returns : tie.Need-returns Inv-loop μ-loop
-returns c = λ s m. spread-empty (c .before .before .before .before .args .text .now) s (c .before .before .before .before .args .spans .now) (c .if1 .taken)
+returns c = λ s m. spread-empty (c .before .before .before .before .args .text .now) s (c .before .before .before .before .args .spans .now) (c .before .before .before .before .args .first) (c .if1 .taken)
 
 loop-holds : tie.Need-loop-holds Inv-loop μ-loop
-loop-holds c = (refl, omega arith, λ s m. held-start (c .before .before .before .before .args .text .now) s (c .before .before .before .before .args .spans .now) (omega (arith, c .if1 .left)))
+loop-holds c = (refl, omega arith, λ s m. held-start (c .before .before .before .before .args .text .now) s (c .before .before .before .before .args .spans .now) (c .before .before .before .before .args .first) (omega (arith, c .if1 .left)))
 
 next-field-requires : tie.Need-next-field-requires Inv-loop μ-loop
 next-field-requires c κs = c .before .before .before .before .before .before .pre
@@ -36,7 +36,7 @@ same-length c = c .before .before .before .before .loop .inv .0
 returns-2 : tie.Need-returns-2 Inv-loop μ-loop
 returns-2 c =
     λ s m.
-    spread-end (c .before .before .before .before .before .before .before .before .before .args .text .now) s (c .before .before .before .before .before .before .before .before .before .args .spans .now) (c .before .before .before .before .loop .at) (c .before .before .before .before .loop .n) (c .before .before .before .before .loop .spans)
+    spread-end (c .before .before .before .before .before .before .before .before .before .args .text .now) s (c .before .before .before .before .before .before .before .before .before .args .spans .now) (c .before .before .before .before .before .before .before .before .before .args .first) (c .before .before .before .before .loop .at) (c .before .before .before .before .loop .n) (c .before .before .before .before .loop .spans)
     (sym (c .before .before .next-field .ensures s m) ∙ step-none (c .before .before .next-field .result) (not-true _ (c .if2 .taken)))
     (omega (arith, c .before .before .before .loop-test .taken))
     (c .before .before .before .before .loop .inv .2 s m)
@@ -55,8 +55,8 @@ loop-again c = (
   search needs,
   omega (arith, c .before .before .before .before .before .before .before .loop-test .taken),
   λ s m.
-      subst (λ (r : List ℕ). Held (c .before .before .before .before .before .before .before .before .before .before .before .before .before .args .text .now) s (c .before .before .before .before .before .before .before .before .before .before .before .before .before .args .spans .now) (c .before .before .before .before .before .before .next-field .result .after) (c .before .before .before .before .before .before .before .before .loop .n + 1) r) (sym (c .before .before .put-span .ensures))
-      (held-more (c .before .before .before .before .before .before .before .before .before .before .before .before .before .args .text .now) s (c .before .before .before .before .before .before .before .before .before .before .before .before .before .args .spans .now) (c .before .before .before .before .before .before .before .before .loop .at) (c .before .before .before .before .before .before .before .before .loop .n) (c .before .before .before .before .before .before .before .before .loop .spans) (span (c .before .before .before .before .before .before .next-field .result .start) (c .before .before .before .before .before .before .next-field .result .size)) (c .before .before .before .before .before .before .next-field .result .after)
+      subst (λ (r : List ℕ). Held (c .before .before .before .before .before .before .before .before .before .before .before .before .before .args .text .now) s (c .before .before .before .before .before .before .before .before .before .before .before .before .before .args .spans .now) (c .before .before .before .before .before .before .before .before .before .before .before .before .before .args .first) (c .before .before .before .before .before .before .next-field .result .after) (c .before .before .before .before .before .before .before .before .loop .n + 1) r) (sym (c .before .before .put-span .ensures))
+      (held-more (c .before .before .before .before .before .before .before .before .before .before .before .before .before .args .text .now) s (c .before .before .before .before .before .before .before .before .before .before .before .before .before .args .spans .now) (c .before .before .before .before .before .before .before .before .before .before .before .before .before .args .first) (c .before .before .before .before .before .before .before .before .loop .at) (c .before .before .before .before .before .before .before .before .loop .n) (c .before .before .before .before .before .before .before .before .loop .spans) (span (c .before .before .before .before .before .before .next-field .result .start) (c .before .before .before .before .before .before .next-field .result .size)) (c .before .before .before .before .before .before .next-field .result .after)
       (sym (c .before .before .before .before .before .before .next-field .ensures s m) ∙ step-found (c .before .before .before .before .before .before .next-field .result) (not-false _ (c .before .before .before .before .if2 .left)))
       (c .before .before .before .before .before .before .before .before .loop .inv .2 s m)),
 )
@@ -65,7 +65,7 @@ same-length-2 : tie.Need-same-length-2 Inv-loop μ-loop
 same-length-2 c = c .before .loop .inv .0
 
 returns-3 : tie.Need-returns-3 Inv-loop μ-loop
-returns-3 c = λ s m. spread-many (c .before .before .before .before .before .before .args .text .now) s (c .before .before .before .before .before .before .args .spans .now) (c .before .loop .at) (c .before .loop .n) (c .before .loop .spans) (omega (arith, c .before .loop .inv .1, c .loop-test .left)) (c .before .loop .inv .2 s m)
+returns-3 c = λ s m. spread-many (c .before .before .before .before .before .before .args .text .now) s (c .before .before .before .before .before .before .args .spans .now) (c .before .before .before .before .before .before .args .first) (c .before .loop .at) (c .before .loop .n) (c .before .loop .spans) (omega (arith, c .before .loop .inv .1, c .loop-test .left)) (c .before .loop .inv .2 s m)
 
 pub spread-spec : {M : Type 1} → statement M
 spread-spec =
