@@ -11,7 +11,8 @@ use lib.Dec.{eqb, leb}
 use borrow.Author.Tests.{eq-eqb, ne-eqb, eqb-true}
 use Rattle.table.specs.Table.{noPlace}
 use Rattle.automaton.specs.Walk.{step, dead, liveAt, longestTo, longestOf, note}
-use Rattle.table.proofs.Sets.{and-both, mem-none}
+use Rattle.pattern.proofs.Tests.{and-both}
+use Rattle.table.proofs.Sets.{mem-none}
 use Rattle.automaton.proofs.Steps.{step-dead}
 
 -- ---- after a set with no place in it no walk stops

@@ -15,7 +15,7 @@ use Rattle.table.specs.Nexts.{Next, stop, go, Enter, Last}
 use Rattle.table.specs.Table.{takesAt}
 use Rattle.automaton.specs.Walk.{step, liveAt, longestTo}
 use Rattle.table.specs.Wiring.{stopIn, nextIn, afterPlace, Tabled}
-use Rattle.table.proofs.Sets.{and-both, and-of}
+use Rattle.pattern.proofs.Tests.{and-both, and-of}
 use Rattle.automaton.proofs.Steps.{step-in, step-out}
 use Rattle.automaton.proofs.Walks.{From, arrive, move, Walks, walks, leads}
 

@@ -13,7 +13,8 @@ use Rattle.table.specs.Table.{mem, row, takesAt, join, noPlace}
 use Rattle.automaton.specs.Walk.{stepWord, put, step}
 use Rattle.automaton.proofs.Trailing.{tz-low, tz-high, off-low, off-high, mem-word}
 use Rattle.bits.proofs.Digits.{word-pow, bit-zero}
-use Rattle.table.proofs.Sets.{mem-none, mem-cond, or-cases, or-left, or-right, and-both, and-of}
+use Rattle.table.proofs.Sets.{mem-none, mem-cond, or-none}
+use Rattle.pattern.proofs.Tests.{or-cases, or-left, or-right, and-both, and-of}
 
 -- ---- a word's places, the lowest first
 
@@ -73,10 +74,6 @@ module _ (t : List ℕ) (b x w : ℕ) (start : List ℕ) (q : ℕ) (hq : q < 192
     where
       out : List ℕ
       out = stepWord t b x w start n
-
-      or-none : (a : Bool) → a ≡ (a || false)
-      or-none true = refl
-      or-none false = refl
 
       pick : (c : Bool) → mem (cond c (put t out b (64 * w + n)) out) q ≡ (mem out q || (c && (takesAt t (64 * w + n) b && mem (row t (64 * w + n + 2)) q)))
       pick true = mem-cond (takesAt t (64 * w + n) b) out (row t (64 * w + n + 2)) q hq

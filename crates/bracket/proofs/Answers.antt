@@ -13,7 +13,7 @@ use Rattle.bracket.specs.Words.{inClass, noByte, everyByte, withByte, wi
 use Rattle.bracket.specs.Items.{itemsOf, worded, leadsTo, Ended}
 use Rattle.bracket.specs.Answer.{BracketReads}
 use Rattle.bracket.specs.declared.brackets.Step.{Step}
-use Rattle.bracket.proofs.Tests.{or-right}
+use Rattle.pattern.proofs.Tests.{or-right}
 use Rattle.bracket.proofs.Laws.{bytes-one, four-none, four-spans, in-ranges, in-other, class-bit}
 use Rattle.bracket.proofs.Steps.{tail-drop}
 

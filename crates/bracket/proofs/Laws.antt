@@ -16,7 +16,8 @@ use borrow.Author.Tests.{eq-eqb, ne-eqb, eqb-true, le-leb, leb-true, lt-ltb, ltb
 use Rattle.pattern.specs.Tree.{Range, inRange, inSome}
 use Rattle.bits.specs.Digit.{bit}
 use Rattle.bracket.specs.Words.{inClass, noByte, everyByte, withByte, withBytes, withSpan, withSpans, otherWord, otherBytes, FourWords, ClassBit}
-use Rattle.bracket.proofs.Tests.{same-test, or-cases, or-left, or-right, and-both, and-of, or-none, or-swap, or-group, or-turned}
+use Rattle.bracket.proofs.Tests.{same-test, or-none, or-swap, or-group, or-turned}
+use Rattle.pattern.proofs.Tests.{or-cases, or-left, or-right, and-both, and-of}
 use Rattle.bits.proofs.Digits.{bit-or, bit-zero, bit-shifted, word-pow, bit-turned}
 
 bit-other : (w k : ℕ) → w < 2 ^ 64 → k < 64 → bit (otherWord w) k ≡ not (bit w k)

@@ -16,7 +16,7 @@ use Rattle.table.specs.Table.{mem, row, takesAt, begins, emptyWord}
 use Rattle.table.specs.Wiring.{stopIn, beginWords, Sealed}
 use Rattle.table.specs.Build.{entered, joinClass, gather, beginTo}
 use Rattle.bits.proofs.Digits.{bit-or}
-use Rattle.table.proofs.Sets.{or-left, or-right}
+use Rattle.pattern.proofs.Tests.{or-left, or-right}
 
 pub begin-more : (t : List ℕ) (p : ℕ) (out r : List ℕ) → out ≡ beginTo t p → r ≡ gather t out p → r ≡ beginTo t (p + 1)
 unfolding beginTo

@@ -15,7 +15,8 @@ use Rattle.bits.specs.Digit.{bit}
 use Rattle.table.specs.Table.{mem, row, join, noPlace}
 use Rattle.table.specs.Wiring.{nextIn, afterPlace}
 use Rattle.table.specs.Build.{link, withRow, linkRows, orStop, stops, endStop, single}
-use Rattle.table.proofs.Sets.{and-both, and-of, mem-none}
+use Rattle.pattern.proofs.Tests.{and-both, and-of}
+use Rattle.table.proofs.Sets.{mem-none}
 use Rattle.bits.proofs.Digits.{bit-zero, bit-pow, word-pow}
 use Rattle.table.proofs.Rows.{link-next, join-next, row-same, row-other, linked-in, linked-out}
 use Rattle.table.proofs.Parts.{Part, Same, Then, Thens, OrStop, Linked, Kept, part-same, part-cat, part-star, part-plus, part-opt, part-alt, part-bol, part-eol}

@@ -19,7 +19,8 @@ use Rattle.table.specs.Wiring.{nextIn}
 use Rattle.table.specs.Build.{link, withRow, linkRows}
 use Rattle.table.proofs.Parts.{Then}
 use Rattle.bits.proofs.Digits.{bit-or, bit-and}
-use Rattle.table.proofs.Sets.{or-cases, or-left, or-right, and-both, and-of, mem-join, or-none}
+use Rattle.pattern.proofs.Tests.{or-cases, or-left, or-right, and-both, and-of}
+use Rattle.table.proofs.Sets.{mem-join, or-none}
 
 pub link-more : (t : List ℕ) (r i : ℕ) (y now next : List ℕ) → now ≡ linkRows t r i y → next ≡ withRow now (r + i) (link (row now (r + i)) y) → next ≡ linkRows t r (i + 1) y
 unfolding linkRows
@@ -105,7 +106,7 @@ module _ (x y : List ℕ) where
 
 -- ---- rows that are set
 
-three : {a b c a′ b′ c′ : ℕ} → a ≡ a′ → b ≡ b′ → c ≡ c′ → _≡_ {A = List ℕ} (a ∷ b ∷ c ∷ []) (a′ ∷ b′ ∷ c′ ∷ [])
+pub three : {a b c a′ b′ c′ : ℕ} → a ≡ a′ → b ≡ b′ → c ≡ c′ → _≡_ {A = List ℕ} (a ∷ b ∷ c ∷ []) (a′ ∷ b′ ∷ c′ ∷ [])
 three p q r = λ i. p i ∷ q i ∷ r i ∷ []
 
 module _ (t : List ℕ) (r : ℕ) (x : List ℕ) where

@@ -1,7 +1,6 @@
 -- The laws of sets that are lists of words.
-use mathlib.Core.Path.{_≡_, refl, sym, ap, _∙_}
-use mathlib.Core.Bool.{Bool, true, false, true≢false, cond, _||_, _&&_}
-use mathlib.Core.Logic.{_⊎_, inl, inr}
+use mathlib.Core.Path.{_≡_, refl, ap, _∙_}
+use mathlib.Core.Bool.{Bool, true, false, cond, _||_, _&&_}
 use mathlib.Core.List.{List, [], _∷_}
 use Prim.Native.Nat.{ℕ, zero, suc, _/_, _%_, _<_}
 use native.Mathlib.Omega.{arith}
@@ -29,29 +28,11 @@ none-at (suc (suc (suc k))) = refl
 pub mem-none : (q : ℕ) → mem (0 ∷ 0 ∷ 0 ∷ []) q ≡ false
 mem-none q = ap (λ (w : ℕ). bit w (q % 64)) (none-at (q / 64)) ∙ bit-zero (q % 64)
 
--- ---- the tests
-
-pub or-cases : (a b : Bool) → (a || b) ≡ true → (a ≡ true) ⊎ (b ≡ true)
-or-cases true b h = inl refl
-or-cases false b h = inr h
-
-pub or-left : (a b : Bool) → a ≡ true → (a || b) ≡ true
-or-left a b h = rw h
-
-pub or-right : (a b : Bool) → b ≡ true → (a || b) ≡ true
-or-right true b h = refl
-or-right false b h = h
+-- ---- a set with another, by a test
 
 pub or-none : (a : Bool) → a ≡ (a || false)
 or-none true = refl
 or-none false = refl
-
-pub and-both : (a b : Bool) → (a && b) ≡ true → (a ≡ true) × (b ≡ true)
-and-both true b h = (refl, h)
-and-both false b h = absurd (true≢false (sym h))
-
-pub and-of : (a b : Bool) → a ≡ true → b ≡ true → (a && b) ≡ true
-and-of a b h k = rw h k
 
 -- out with a set where a test holds
 pub mem-cond : (x : Bool) (a b : List ℕ) (q : ℕ) → q < 192 → mem (cond x (join a b) a) q ≡ (mem a q || (x && mem b q))

@@ -15,10 +15,7 @@ use Rattle.bits.specs.Digit.{bit}
 use Rattle.table.specs.Table.{row, takesAt, emptyWord, tableWords}
 use Rattle.table.specs.Build.{link, withRow, linkRows, fourAt, withClass, entered, joinClass, beginTo, beginOf, emptyOf, sealed}
 use Rattle.table.specs.Wiring.{beginWords, Sealed}
-use Rattle.table.proofs.Rows.{apart}
-
-three : {a b c a′ b′ c′ : ℕ} → a ≡ a′ → b ≡ b′ → c ≡ c′ → _≡_ {A = List ℕ} (a ∷ b ∷ c ∷ []) (a′ ∷ b′ ∷ c′ ∷ [])
-three p q r = λ i. p i ∷ q i ∷ r i ∷ []
+use Rattle.table.proofs.Rows.{apart, three}
 
 -- ---- four words
 
