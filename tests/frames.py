@@ -1,11 +1,11 @@
 #!/usr/bin/env python3
-"""Prints the greatest stack use of a function of an archive, and fails if it is over a bound.
+"""Prints the greatest stack use of functions of an archive, and fails if one is over a bound.
 
-    tests/frames.py [--archive FILE] [--entry NAME] [--most BYTES]
+    tests/frames.py [--archive FILE] [--entry NAME].. [--most BYTES]
 
 Reads `objdump -dr` of FILE (default: what `rt staticlib capi` writes). A function's frame is its return address, what it pushes and what it takes off
 the stack pointer. The 128 bytes below the stack pointer, which a function may use unasked while it calls nothing, are added once, at the end.
-Calls are followed from NAME (default flowawk_match); functions that call each other in a circle count once for each level of an ERE's groups, one
+Calls are followed from NAME (default: each function of include/flowawk.h); functions that call each other in a circle count once for each level of an ERE's groups, one
 more than the edition's `ERE_GROUPS`. Only the ERE reader may be such a circle. Functions outside the archive (memset and its like) are named, and not
 counted. BYTES is 16,384 unless given. Calls through a pointer, and other changes of the stack pointer than those known here, are errors.
 """
@@ -92,22 +92,34 @@ def deepest(name, frames, calls, times):
     return own + rest, [(label, own)] + way
 
 
-def main():
-    parser = argparse.ArgumentParser()
-    parser.add_argument('--archive', default=os.path.join(ROOT, 'target', 'staticlib', 'libcapi.a'))
-    parser.add_argument('--entry', default='flowawk_match')
-    parser.add_argument('--most', type=int, default=16384)
-    options = parser.parse_args()
-    frames, calls = functions(options.archive)
-    if options.entry not in frames:
-        sys.exit('frames.py: no function %s' % options.entry)
-    total, way = deepest(options.entry, frames, calls, levels())
+def declared():
+    """The functions of the C header."""
+    with open(os.path.join(ROOT, 'include', 'flowawk.h'), encoding='utf-8') as f:
+        return re.findall(r'^uint64_t (\w+)\(', f.read(), re.M)
+
+
+def entry(name, frames, calls, most):
+    """Prints the deepest way of calls from a function; whether it stays within so many bytes."""
+    if name not in frames:
+        sys.exit('frames.py: no function %s' % name)
+    total, way = deepest(name, frames, calls, levels())
     total += RED_ZONE
     for label, own in way + [('below the stack pointer', RED_ZONE)]:
         print('%6d  %s' % (own, label))
-    outside = sorted(f for f in reached(calls, options.entry) if f not in frames)
-    print('%6d  in all, at most %d; outside the archive: %s' % (total, options.most, ', '.join(outside) or 'none'))
-    sys.exit(1 if total > options.most else 0)
+    outside = sorted(f for f in reached(calls, name) if f not in frames)
+    print('%6d  in all, at most %d; outside the archive: %s' % (total, most, ', '.join(outside) or 'none'))
+    return total <= most
+
+
+def main():
+    parser = argparse.ArgumentParser()
+    parser.add_argument('--archive', default=os.path.join(ROOT, 'target', 'staticlib', 'libcapi.a'))
+    parser.add_argument('--entry', action='append')
+    parser.add_argument('--most', type=int, default=16384)
+    options = parser.parse_args()
+    frames, calls = functions(options.archive)
+    fits = [entry(name, frames, calls, options.most) for name in options.entry or declared()]
+    sys.exit(0 if fits and all(fits) else 1)
 
 
 main()
