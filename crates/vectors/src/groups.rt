@@ -9,6 +9,8 @@ pub enum Group {
     Copies,
     Words,
     Match,
+    Split,
+    Field,
 }
 
 // Whether the case in a frame's payload passes.
@@ -23,5 +25,7 @@ pub fn passes(group: Group, p: &[u8]) -> bool {
         Group::Copies => judge_values::copies::passes(p),
         Group::Words => judge_values::words::passes(p),
         Group::Match => judge_texts::matching::passes(p),
+        Group::Split => judge_texts::split::passes(p),
+        Group::Field => judge_texts::field::passes(p),
     }
 }

@@ -19,4 +19,6 @@ fn main() {
     run(Group::Copies, b"copies");
     run(Group::Words, b"words");
     run(Group::Match, b"match");
+    run(Group::Split, b"split");
+    run(Group::Field, b"field");
 }
