@@ -6,7 +6,7 @@
 Each run writes the same bytes. What is expected comes from DIR/reference.py (default ../shared/reference, from the repository's root)
 where that has the function, and from Python's own bytes elsewhere.
 
-A group is a function below that gives its payloads, a file data/NAME, a line of stdout, and a module of crates/vectors/src. To add one,
+A group is a function below that gives its payloads, a file data/NAME, a line of stdout, and a module of a crate judge_... To add one,
 write the function under @group, in the order of the program's `main`, and the module.
 
 A file is a list of frames: the payload's length, 2 bytes, and the payload. All numbers are unsigned, the low byte first. A number of
@@ -21,6 +21,8 @@ the rules, -2^53 to 2^53, is 8 bytes: what it is above -2^53. Payloads, field by
     copies      kind 1 (0 copy, 1 copy_within, 2 fill), to 2, from 2, count 2, byte 1, room's length 2, room before, room after, source
     words       width 1 (8 or 2), index 2, number 8, room before, room after (the same length)
     match       outcome 1, found 1, start from 0 2, length 2 (both 0 where not found), length of the ERE 2, ERE, text
+    split       outcome 1, count of fields 2 (0 where the outcome is not 0), length of the separator 2, separator, record
+    field       outcome 1, count 2 (both as in split), k 8, start from 0 2, length 2, length of the separator 2, separator, record
 """
 import argparse
 import itertools
@@ -561,6 +563,174 @@ def match():
     cases += [(ere, text) for ere in anchored_eres() + chosen_eres() for text in texts]
     cases += itertools.chain(byte_cases(), sized_cases(), random_cases(r))
     return [match_case(ere, text) for ere, text in unique(cases)]
+
+
+# ------------------------------------------------------- split and field
+
+SIGNS = b'.[]()*+?{}|^$\\/-'
+LARGE = (130, 255, 256, 512, 513, 2 ** 16, 2 ** 31, 2 ** 32, 2 ** 32 + 1, BIG, 2 ** 63, 2 ** 63 + 1, 2 ** 64 - 128, 2 ** 64 - 1)
+
+
+def split_head(separator, record):
+    outcome, spans = ref.split_spans(record, separator)
+    return bytes([outcome]) + short(len(spans))
+
+
+def split_case(separator, record):
+    return split_head(separator, record) + short(len(separator)) + separator + record
+
+
+def field_case(separator, record, k):
+    start, length = ref.field(record, separator, k)
+    return split_head(separator, record) + word(k) + short(start) + short(length) + short(len(separator)) + separator + record
+
+
+def texts_over(letters, most):
+    """All texts of at most so many of the letters."""
+    return [b''.join(text) for n in range(most + 1) for text in itertools.product(letters, repeat=n)]
+
+
+def empty_separators():
+    """EREs that match the empty text, which separates nothing."""
+    return rb'x* a* a? (a|x)* x*a* (a*)+ x*|, ,*|a (^)* ($)* (^|$)+ (a|^)* .* (a|)'.split()
+
+
+def anchored_separators():
+    return rb'^a a$ ^,|, ,|a$ ^^ $$ ^$ ^a|x (^a)+ a^ $a ^. .$ (^|,)a a(,|$) ^a* a*$ ^,* ,*$ (a|^)x ^,a ,a$ ^a|a$ (^,|a$)+ ^.* (,|^)(,|a)'.split()
+
+
+def other_separators():
+    """EREs that take care of length, of blanks or of what a single byte would mean."""
+    yield from rb',+ ,, ,a ax|axa axa|ax (a|ax)(x|xaa) .. ... .+ \. \n \t+ \| [,;]+ [,] [.] [^a] [^,]+ [a-x] (,) ,|a (a|,)(x|,) (ax)+ a*x ,?a'.split()
+    yield from (b', *', b'  ', b' +', b'[ ]', b'[ \t]+', b' |\t', b',[ \t]*|[ \t]+', b'( )', b' ,', b', ', b'a\nx', b',\x00', b'[\x00-\xff]', b'[\x80-\xff]+')
+
+
+def separators():
+    return empty_separators() + anchored_separators() + list(other_separators())
+
+
+def short_splits():
+    """Every short record of few different bytes: leading, trailing and adjacent separators, and none."""
+    yield from ((b' ', record) for record in texts_over((b'a', b' ', b'\t', b'\n'), 5))
+    yield from ((separator, record) for separator in (b',', b'\t', b'\n', b'a') for record in texts_over((b'a', b',', b'\n', b'\t'), 3))
+    yield from ((b',', record) for record in texts_over((b'ab', b','), 7))
+    yield from ((separator, record) for separator in separators() for record in texts_over((b'a', b'x', b','), 3))
+    yield from ((separator, record) for separator in (b'x*', b'a*', b'^a', b'a$', b'^,|,', b'ax|axa') for record in texts_over((b'a', b'x', b','), 5))
+    yield from ((separator, record) for separator in other_separators() for record in texts_over((b'a', b' ', b', ', b'\t'), 3))
+    yield from ((bytes([b]), record) for b in SIGNS for record in texts_over((b'q', bytes([b]), b'aa', b'\\'), 3))
+
+
+def byte_splits():
+    """Each byte as the separator, and in a record that others separate."""
+    every = bytes(range(256))
+    for b in every:
+        one = bytes([b])
+        yield from ((one, every), (one, one), (one, b'q' + one + one + b'zz' + one), (one, b''), (one, noise(random.Random(b), 40)))
+        yield from ((b' ', b'q' + one + b'q'), (b' ', one), (b'[ \t]', one + b' ' + one), (b',', one + b',' + one), (b'q' + one, b'aq' + one + b'q' + one))
+    for separator in bracket_eres():
+        yield from ((separator, b'a-b]c^d[e\\f+g,h'), (separator + b'+', every[:128]))
+    yield from ((separator, every[at:at + 100]) for separator in separators() for at in (0, 78, 156))
+
+
+MADE = ((b' ', b' '), (b' ', b'\t'), (b' ', b' \t'), (b',', b','), (b'|', b'|'), (b'.', b'.'), (b'\n', b'\n'), (b'\x00', b'\x00'), (b'\xff', b'\xff'),
+        (b', *', b', '), (b', *', b','), (b'x*', b'x'), (b'x*', b'xx'), (b'^,|,', b','), (b'a$|,', b','), (b'[,;]', b';'), (b'ax|axa', b'ax'),
+        (b'ax|axa', b'axa'), (b'\\.', b'.'), (b' |\t', b' '), (b'..', b'  '), (b',|$', b','), (b'(,|;)(,|;)', b',;'))
+
+
+def many_splits():
+    """Records of as many fields as there may be, and of one or two more or less."""
+    for separator, text in MADE:
+        for n in (126, 127, 128, 129, 130):
+            yield from ((separator, record) for record in (text * n, (b'q' + text) * n, (text + b'q') * n, (b'q' + text) * n + b'q', text * n + b'q'))
+
+
+def long_splits(r):
+    """Records as long as they may be, longer, and far too long."""
+    mixes = [(b'%d,' % n) * 200 for n in (1, 12, 12345)] + [b'a, b' * 150, b'a\t b ' * 110, b'xa' * 300, b'a' * 63 + b' ']
+    for n in (511, 512, 513):
+        records = [letter * n for letter in (b'a', b' ', b',', b'\x00')] + [(mix * 80)[:n] for mix in mixes]
+        records += [edge + b'b' * (n - 2) + edge for edge in (b'a', b',', b' ', b'x')] + [noise(r, n), b'b' * (n - 1) + b',']
+        for separator in (b' ', b',', b'a', b', *', b'x*', b'^a', b'a$', b'[ab]+', b'', b'((', b'^,|,'):
+            yield from ((separator, record) for record in records)
+    yield from itertools.product((b' ', b',', b', *', b'(('), (b'a' * 514, b' ' * 1024, b',' * 1024, b'a ' * 2500, noise(r, 5000)))
+
+
+def sized_separators():
+    """Separators as long as an ERE may be and longer, and with as many places or groups and one more."""
+    for n in (2, 511, 512, 513, 600, 5000):
+        yield from (b'[' + b',' * (n - 2) + b']', b'a' * n, b',' * n, b'(' * n, b' ' * n, b'[' + b'a' * (n - 1))
+    for n in (127, 128, 129):
+        yield from (b',' * n, b'a?' * (n - 1) + b',', b',|' * (n - 1) + b'a', b'(,)*' * n, b'^' * (n - 1) + b'a')
+    for n in (15, 16, 17):
+        yield b'(' * n + b',' + b')' * n
+
+
+def refused_splits():
+    """Every pair of a record and a separator that are in order or not: 15, before 18, before 16."""
+    records = (b'', b'a', b'a,b', b' ', b',' * 127, b',' * 128, b',' * 512, b',' * 513, b'a ' * 128, b'a ' * 129, b'a' * 512, b'a' * 513, b'aa,' * 170)
+    bad = (b'', b'((', b'a**', b'[b-a]', b'\\d', b'\\,', b'a{2}', b'()', b',|', b'|,', b'[[:blank:]]', b', **', b'^*', b'a)', b'[,', b',\\')
+    yield from itertools.product(bad + (b' ', b',', b', *', b',+', b'x*', b'^,|,'), records)
+    yield from itertools.product(sized_separators(), (b'', b'a,b', b',' * 130, b',' * 513, b'a' * 300 + b',' * 100 + b'a' * 112))
+    yield from itertools.product(refused_eres(), (b'', b'ab', b':[a-b\\*()'))
+
+
+def some_record(r, separator):
+    """A record with texts of the separator's language in it, and other bytes."""
+    tree = ref._ere_node(separator) if len(separator) > 1 else None
+    parts = [bytes(r.choice(b'abc., \t\n') for _ in range(r.randrange(4))) for _ in range(r.randrange(9))]
+    if tree is None:
+        return (separator if r.random() < 0.5 else b' ').join(parts)[:512]
+    return b''.join(part + sample(r, tree)[:40] * r.choice([0, 1, 1, 2]) for part in parts)[:512]
+
+
+def random_splits(r):
+    for _ in range(900):
+        separator = some_ere(r, r.randrange(1, 5))
+        yield separator, some_record(r, separator)
+    for _ in range(200):
+        separator = r.choice([damaged(r, some_ere(r, 2)), some_bracket(r)])
+        yield separator, some_record(r, separator)
+    for _ in range(400):
+        separator = r.choice([b' ', b' ', b',', b'.', b'a', b'\t', b'\n', noise(r, 1)])
+        yield separator, some_record(r, separator)
+
+
+def splits():
+    r = random.Random('split')
+    return unique(itertools.chain(short_splits(), byte_splits(), many_splits(), long_splits(r), refused_splits(), random_splits(r)))
+
+
+@group
+def split():
+    return [split_case(separator, record) for separator, record in splits()]
+
+
+def near(count):
+    """Numbers about a count of fields and about the most that there are."""
+    return unique(k for k in (0, 1, count - 1, count, count + 1, 128, 129) if k >= 0)
+
+
+def field_numbers(r):
+    """Each kind of separator and of refusal with numbers that are small, about the count, and large."""
+    kinds = ((many_splits(), 80), (refused_splits(), 150), (short_splits(), 300), (long_splits(r), 60), (byte_splits(), 100), (random_splits(r), 300))
+    pairs = [pair for made, count in kinds for pair in r.sample(unique(made), count)]
+    for separator, record in pairs:
+        count = len(ref.split_spans(record, separator)[1])
+        yield from ((separator, record, k) for k in near(count) + [r.choice(LARGE)])
+
+
+def every_field():
+    """All fields of records with as many as there may be, some of such records with one more, and all of some short records."""
+    yield from ((separator, (b'q' + text) * 127 + b'qq', k) for separator, text in ((b' ', b'\t'), (b',', b','), (b', *', b', ')) for k in range(131))
+    yield from ((separator, (b'q' + text) * n, k) for separator, text in MADE for n in (127, 128) for k in (0, 1, 2, 77, 127, 128, 129))
+    for separator, record in ((b' ', b'  a \tb '), (b',', b',a,'), (b', *', b'a,  b,c'), (b'x*', b'xaxxa'), (b'^,|,', b',,a,'), (b' ', b''), (b'', b'a'), (b',', b'')):
+        yield from ((separator, record, k) for k in (*range(8), *LARGE))
+
+
+@group
+def field():
+    r = random.Random('field')
+    return [field_case(*case) for case in unique(itertools.chain(field_numbers(r), every_field()))]
 
 
 # ----------------------------------------------------------------- files

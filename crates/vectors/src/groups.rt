@@ -1,14 +1,4 @@
 // The groups, and which function judges a case of each.
-use crate::arithmetic;
-use crate::compare;
-use crate::copies;
-use crate::decimal;
-use crate::limits;
-use crate::matching;
-use crate::reading;
-use crate::search;
-use crate::words;
-
 pub enum Group {
     Limits,
     Arithmetic,
@@ -19,19 +9,23 @@ pub enum Group {
     Copies,
     Words,
     Match,
+    Split,
+    Field,
 }
 
-// Whether the case in a frame's payload passes. A payload that is not of the group's layout does not.
+// Whether the case in a frame's payload passes.
 pub fn passes(group: Group, p: &[u8]) -> bool {
     match group {
-        Group::Limits => limits::passes(p),
-        Group::Arithmetic => arithmetic::passes(p),
-        Group::Reading => reading::passes(p),
-        Group::Decimal => decimal::passes(p),
-        Group::Compare => compare::passes(p),
-        Group::Search => search::passes(p),
-        Group::Copies => copies::passes(p),
-        Group::Words => words::passes(p),
-        Group::Match => matching::passes(p),
+        Group::Limits => judge_values::limits::passes(p),
+        Group::Arithmetic => judge_values::arithmetic::passes(p),
+        Group::Reading => judge_values::reading::passes(p),
+        Group::Decimal => judge_values::decimal::passes(p),
+        Group::Compare => judge_values::compare::passes(p),
+        Group::Search => judge_values::search::passes(p),
+        Group::Copies => judge_values::copies::passes(p),
+        Group::Words => judge_values::words::passes(p),
+        Group::Match => judge_texts::matching::passes(p),
+        Group::Split => judge_texts::split::passes(p),
+        Group::Field => judge_texts::field::passes(p),
     }
 }

@@ -1,19 +1,10 @@
 // Runs the cases of the data files, which tests/vectors.py makes, through the proved crates, and writes a line for each group:
 // how many of how many passed.
 //
-// A group is a module here, whose function `passes` judges one case; its variant and its arm in groups.rt; its line of `main`; and a
-// function of tests/vectors.py, which makes the group's file.
-mod arithmetic;
-mod compare;
-mod copies;
-mod decimal;
+// A group is a module of a crate `judge_..`, whose function `passes` judges one case; its variant and its arm in groups.rt; its line of `main`; and a
+// function of tests/vectors.py, which makes the group's file. The judges stand in crates of their own, so that no check takes long.
 mod groups;
-mod limits;
-mod matching;
-mod reading;
-mod search;
 mod walk;
-mod words;
 
 use groups::Group;
 use walk::run;
@@ -28,4 +19,6 @@ fn main() {
     run(Group::Copies, b"copies");
     run(Group::Words, b"words");
     run(Group::Match, b"match");
+    run(Group::Split, b"split");
+    run(Group::Field, b"field");
 }
