@@ -723,8 +723,8 @@ def every_field():
     """All fields of records with as many as there may be, some of such records with one more, and all of some short records."""
     yield from ((separator, (b'q' + text) * 127 + b'qq', k) for separator, text in ((b' ', b'\t'), (b',', b','), (b', *', b', ')) for k in range(131))
     yield from ((separator, (b'q' + text) * n, k) for separator, text in MADE for n in (127, 128) for k in (0, 1, 2, 77, 127, 128, 129))
-    for separator, record in ((b' ', b'  a \tb '), (b',', b',a,'), (b', *', b'a,  b,c'), (b'x*', b'xaxxa'), (b'^,|,', b',,a,'), (b' ', b''), (b'', b'a'), (b',', b'')):
-        yield from ((separator, record, k) for k in (*range(8), *LARGE))
+    short_ones = ((b' ', b'  a \tb '), (b',', b',a,'), (b', *', b'a,  b,c'), (b'x*', b'xaxxa'), (b'^,|,', b',,a,'), (b' ', b''), (b'', b'a'), (b',', b''))
+    yield from ((separator, record, k) for separator, record in short_ones for k in (*range(8), *LARGE))
 
 
 @group
