@@ -14,12 +14,21 @@ pub data Arithmetic : Type 0 where
 pub data Comparison : Type 0 where
   less at-most equal different greater at-least : Comparison
 
+-- what goes on with values
+pub data Action : Type 0 where
+  constant get set field set-field drop : Action
+  arithmetic : Arithmetic → Action
+  negate to-number negation : Action
+  compare : Comparison → Action
+  join matches match length-of index substr print : Action
+
+-- what leads elsewhere than to the next instruction
+pub data Flow : Type 0 where
+  end jump jump-if-false next exit : Flow
+
 pub data Operation : Type 0 where
-  end constant get set field set-field drop : Operation
-  arithmetic : Arithmetic → Operation
-  negate to-number negation : Operation
-  compare : Comparison → Operation
-  join matches match length-of index substr jump jump-if-false print next exit : Operation
+  action : Action → Operation
+  flow : Flow → Operation
 
 -- what a code does, how many operands it takes and leaves, given the numbers that it names, and what these name
 pub record Code : Type 0 where
@@ -34,43 +43,43 @@ code o a b names = record { operation = o; takes = λ ns. a; leaves = λ ns. b; 
 
 -- "29 print n (n-0)"
 abbrev pub printing : Code
-printing = record { operation = print; takes = λ ns. getD ns 0 0; leaves = λ ns. 0; names = a-count ∷ [] }
+printing = record { operation = action print; takes = λ ns. getD ns 0 0; leaves = λ ns. 0; names = a-count ∷ [] }
 
 -- the codes of an edition, from 0 on
 abbrev pub codes : ℕ → List Code
 codes edition =
-    code end 0 0 []
-    ∷ code constant 0 1 (a-constant ∷ [])
-    ∷ code get 0 1 (a-variable ∷ [])
-    ∷ code set 1 1 (a-variable ∷ [])
-    ∷ code field 1 1 []
-    ∷ code set-field 2 1 []
-    ∷ code drop 1 0 []
-    ∷ code (arithmetic add) 2 1 []
-    ∷ code (arithmetic subtract) 2 1 []
-    ∷ code (arithmetic multiply) 2 1 []
-    ∷ code (arithmetic divide) 2 1 []
-    ∷ code (arithmetic remainder) 2 1 []
-    ∷ code negate 1 1 []
-    ∷ code to-number 1 1 []
-    ∷ code negation 1 1 []
-    ∷ code (compare less) 2 1 []
-    ∷ code (compare at-most) 2 1 []
-    ∷ code (compare equal) 2 1 []
-    ∷ code (compare different) 2 1 []
-    ∷ code (compare greater) 2 1 []
-    ∷ code (compare at-least) 2 1 []
-    ∷ code join 2 1 []
-    ∷ code matches 1 1 (an-ere ∷ [])
-    ∷ code match 1 1 (an-ere ∷ [])
-    ∷ code length-of 1 1 []
-    ∷ code index 2 1 []
-    ∷ code substr 3 1 []
-    ∷ code jump 0 0 (an-instruction ∷ [])
-    ∷ code jump-if-false 1 0 (an-instruction ∷ [])
+    code (flow end) 0 0 []
+    ∷ code (action constant) 0 1 (a-constant ∷ [])
+    ∷ code (action get) 0 1 (a-variable ∷ [])
+    ∷ code (action set) 1 1 (a-variable ∷ [])
+    ∷ code (action field) 1 1 []
+    ∷ code (action set-field) 2 1 []
+    ∷ code (action drop) 1 0 []
+    ∷ code (action (arithmetic add)) 2 1 []
+    ∷ code (action (arithmetic subtract)) 2 1 []
+    ∷ code (action (arithmetic multiply)) 2 1 []
+    ∷ code (action (arithmetic divide)) 2 1 []
+    ∷ code (action (arithmetic remainder)) 2 1 []
+    ∷ code (action negate) 1 1 []
+    ∷ code (action to-number) 1 1 []
+    ∷ code (action negation) 1 1 []
+    ∷ code (action (compare less)) 2 1 []
+    ∷ code (action (compare at-most)) 2 1 []
+    ∷ code (action (compare equal)) 2 1 []
+    ∷ code (action (compare different)) 2 1 []
+    ∷ code (action (compare greater)) 2 1 []
+    ∷ code (action (compare at-least)) 2 1 []
+    ∷ code (action join) 2 1 []
+    ∷ code (action matches) 1 1 (an-ere ∷ [])
+    ∷ code (action match) 1 1 (an-ere ∷ [])
+    ∷ code (action length-of) 1 1 []
+    ∷ code (action index) 2 1 []
+    ∷ code (action substr) 3 1 []
+    ∷ code (flow jump) 0 0 (an-instruction ∷ [])
+    ∷ code (flow jump-if-false) 1 0 (an-instruction ∷ [])
     ∷ printing
-    ∷ code next 0 0 []
-    ∷ code exit 0 0 []
+    ∷ code (flow next) 0 0 []
+    ∷ code (flow exit) 0 0 []
     ∷ []
 
 -- element n of a list, if it has one

@@ -7,7 +7,7 @@ use native.Mathlib.Omega.{arith}
 use lib.ListN.{length, getD, set, length-set, List·getD-eq-default}
 use lib.Seq.{getD-set-same, getD-set-other}
 use lib.Dec.{ltb, leb}
-use borrow.Author.Tests.{lt-ltb, le-leb}
+use borrow.Author.Tests.{lt-ltb, le-ltb, le-leb}
 use Rattle.edition.specs.Limits.{fieldCount}
 use Rattle.splitting.specs.Field.{Span, span}
 use Rattle.splitting.specs.Splitting.{fieldAt}
@@ -47,6 +47,18 @@ module _ (first : ℕ) where
             getD-set-other (set room at (f .start)) (at + 1) i (f .size) 0 (λ e. omega arith)
             ∙ getD-set-other room at i (f .start) 0 (λ e. omega arith)
         by false = refl
+
+    -- a room of less than two words has none for a span
+    pub no-room : length room < 2 → withSpan room first k f ≡ room
+    no-room h = by (ltb k fieldCount) (leb first k)
+      where
+        z : ltb (at + 1) (length room) ≡ false
+        z = le-ltb (at + 1) (length room) (omega arith)
+
+        by : (x y : Bool) → cond (x && (y && ltb (at + 1) (length room))) whole room ≡ room
+        by true true = rw z
+        by true false = refl
+        by false y = refl
 
     module _ (h : k < fieldCount) (g : first ≤ k) (l : at + 1 < length room) where
       written : withSpan room first k f ≡ whole

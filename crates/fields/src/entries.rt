@@ -72,8 +72,8 @@ fn fill(record: &[u8], separator: &[u8], first: usize, spans: &mut [usize]) -> S
 pub fn split(record: &[u8], separator: &[u8]) -> Splitting
     ensures { λ r. ⌜ r ≡ answer (splitOf 1 (now (separator .entry)) (now («record» .entry))) ⌝ }
 {
-    let mut spans = [0usize; 2];
-    fill(record, separator, 0, &mut spans)
+    let mut none = [0usize; 1];
+    fill(record, separator, 0, &mut none)
 }
 
 // The number before k.

@@ -15,6 +15,9 @@ fn put_span(spans: &mut [usize], first: usize, k: usize, start: usize, size: usi
     requires { ⌜ k ≤ fieldCount ⌝ }
     ensures { λ u. ⌜ now (spans .exit) ≡ withSpan (now (spans .entry)) first k (span start size) ⌝ }
 {
+    if spans.len() < 2 {
+        return;
+    }
     if Edition::FIELDS <= k {
         return;
     }

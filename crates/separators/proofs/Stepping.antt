@@ -1,5 +1,5 @@
 -- A step of the code is the next field.
-use mathlib.Core.Path.{_≡_, refl, sym, ap, _∙_}
+use mathlib.Core.Path.{_≡_, refl, sym, ap, subst, _∙_}
 use mathlib.Core.Bool.{Bool, true, false, cond, not, Bool·beq, true≢false}
 use mathlib.Core.List.{List}
 use Prim.Native.Nat.{ℕ, suc, _+_, _-_, _≤_, _<_}
@@ -18,6 +18,8 @@ use Rattle.automaton.specs.declared.search.Found.{Found}
 use Rattle.ere.specs.Answer.{Serves, Bytes}
 use Rattle.ere.proofs.Serving.{serves-answer}
 use Rattle.splitting.specs.Separator.{blank, byte, ere}
+use native.Mathlib.Numerals.{add-one}
+use Rattle.splitting.proofs.Turns.{word-more, blank-field}
 use Rattle.splitting.specs.Field.{span, Next, field, none, isIn, leading, upTo, nextField}
 
 -- a byte is not of the kind that is looked for, or is
@@ -40,12 +42,15 @@ module _ (text : List ℕ) (at : ℕ) where
   unfolding nextField
   word-none set s e h = rw (← e, le-ltb s (length text) h)
 
-  pub word-is : (set : List ℕ) (s t : ℕ) → s ≡ at + leading true set (drop at text) → s < length text → t ≡ s + leading false set (drop s text)
+  pub word-is : (set : List ℕ) (s t : ℕ) → s ≡ at + leading true set (drop at text) → s < length text → t ≡ s + 1 + leading false set (drop (s + 1) text)
       → field (span s (t - s)) t ≡ nextField text (blank set) at
-  unfolding nextField
   word-is set s t e h f =
+      let w = word-more text set at (omega arith) in
+      let q = subst (λ (n : ℕ). leading false set (drop n text) ≡ suc (leading false set (drop (suc n) text))) (sym e) w in
+      let p = ap (λ (n : ℕ). leading false set (drop n text)) (add-one s) in
       let z : t - s ≡ leading false set (drop s text) = omega arith in
-      rw (← e, lt-ltb s (length text) h, z, f)
+      let y : t ≡ s + leading false set (drop s text) = omega arith in
+      rw (z, y, e) (sym (blank-field text set at (omega arith)))
 
   -- ---- a byte
 

@@ -25,6 +25,9 @@ pub struct Step {
 fn is_blank(b: u8, edition: Edition) -> bool
     ensures { λ r. ⌜ r ≡ oneOf (blanks (edition .number)) b ⌝ }
 {
+    if 32 < b {
+        return false;
+    }
     b == 32 || b == 9
 }
 
@@ -56,7 +59,8 @@ fn next_word(text: &[u8], edition: Edition, at: usize) -> Step
             after: 0,
         };
     }
-    let end = run_end(text, edition, false, start);
+    // The byte at `start` is no blank.
+    let end = run_end(text, edition, false, start + 1);
     Step {
         found: true,
         start: start,

@@ -33,17 +33,21 @@ Goes at end (field f b) = (at ≤ f .start) × (f .start + f .size ≤ end) × (
 Goes at end none = Unit
 
 module _ (text : List ℕ) where
-  -- a field without blanks has a byte, since the blanks end at one
-  pub word-some : (set : List ℕ) (at : ℕ) → at + leading true set (drop at text) < length text
-      → 0 < leading false set (drop (at + leading true set (drop at text)) text)
-  word-some set at h =
+  -- the byte at which the blanks end is the first of a field
+  pub word-more : (set : List ℕ) (at : ℕ) → at + leading true set (drop at text) < length text
+      → let s = at + leading true set (drop at text) in
+      leading false set (drop s text) ≡ suc (leading false set (drop (suc s) text))
+  word-more set at h =
       let n = leading true set (drop at text) in
       let l = length-drop at text in
       let e = sym (getD-drop at text n 0) in
       let s = leading-stops true set (drop at text) (omega arith) in
-      let z = ap (leading false set) (drop-cons text (at + n) 0 h)
-      ∙ leading-on false set (getD text (at + n) 0) (drop (suc (at + n)) text) (not-in set (getD text (at + n) 0) (rw e s)) in
-      omega (arith, z)
+      ap (leading false set) (drop-cons text (at + n) 0 h)
+      ∙ leading-on false set (getD text (at + n) 0) (drop (suc (at + n)) text) (not-in set (getD text (at + n) 0) (rw e s))
+
+  pub word-some : (set : List ℕ) (at : ℕ) → at + leading true set (drop at text) < length text
+      → 0 < leading false set (drop (at + leading true set (drop at text)) text)
+  word-some set at h = omega (arith, word-more set at h)
 
   -- ---- what a turn answers
 

@@ -11,6 +11,9 @@ run-end-requires c κs = search needs
 returns : tie.Need-returns
 returns c = word-none (c .before .before .before .args .text .now) (c .before .before .before .args .at) (blanks (c .before .before .before .args .edition .number)) (c .before .run-end .result) (c .before .run-end .ensures) (c .if1 .taken)
 
+add-run-end : tie.Need-add-run-end
+add-run-end c = search needs
+
 run-end-requires-2 : tie.Need-run-end-requires-2
 run-end-requires-2 c κs = search needs
 
@@ -21,4 +24,5 @@ returns-2 : tie.Need-returns-2
 returns-2 c = word-is (c .before .before .before .before .args .text .now) (c .before .before .before .before .args .at) (blanks (c .before .before .before .before .args .edition .number)) (c .before .before .run-end .result) (c .run-end2 .result) (c .before .before .run-end .ensures) (c .before .if1 .left) (c .run-end2 .ensures)
 
 pub next-word-spec : {M : Type 1} → statement M
-next-word-spec = tie.close (tie.spec run-end-requires returns run-end-requires-2 sub-t6 returns-2)
+next-word-spec =
+    tie.close (tie.spec run-end-requires returns add-run-end run-end-requires-2 sub-t6 returns-2)
