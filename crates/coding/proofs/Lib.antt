@@ -1,0 +1,3 @@
+-- Laws on an image's bytes and content words.
+pub mod Numbers
+pub mod Takes

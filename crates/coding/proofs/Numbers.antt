@@ -1,0 +1,105 @@
+-- A number has one coding, which is what `coded` computes and all that `takeNumber` takes.
+use mathlib.Core.Path.{_≡_, refl, sym, ap, subst, _∙_}
+use mathlib.Core.Bool.{Bool, true, false, cond}
+use mathlib.Core.List.{List, [], _∷_, _++_, append-nil}
+use mathlib.Core.Option.{Option, some, none}
+use Prim.Native.Nat.{ℕ, zero, suc, _+_, _-_, _*_, _/_, _%_, _^_, _≤_, _<_}
+use native.Mathlib.Omega.{arith}
+use lib.Dec.{eqb, ltb, leb}
+use borrow.Author.Tests.{ltb-true, ltb-false, leb-true, eqb-false, lt-ltb, le-ltb, le-leb, ne-eqb}
+use Rattle.edition.specs.Limits.{numberBound}
+use Rattle.grammar.specs.Read.{Got, got}
+use Rattle.coding.specs.Numbers.{Coded, last, more, groups, coded, above, takeGroups, bounded, takeNumber}
+
+-- ---- what is computed is the coding
+
+-- a number below 128^k has at most k groups
+groups-coded : (k n : ℕ) → n < 128 ^ suc k → Coded n (groups (suc k) n)
+groups-coded zero n h = rw (lt-ltb n 128 (omega arith)) (last {g = n} (omega arith))
+groups-coded (suc k) n h = by (ltb n 128) refl (groups-coded k (n / 128) (omega arith))
+  where
+    by : (x : Bool) → ltb n 128 ≡ x → Coded (n / 128) (groups (suc k) (n / 128))
+        → Coded n (cond x (n ∷ []) ((128 + n % 128) ∷ groups (suc k) (n / 128)))
+    by true e r = last (ltb-true n 128 e)
+    by false e r =
+        let low : n ≡ n % 128 + 128 * (n / 128) = omega arith in
+        subst (λ (m : ℕ). Coded m ((128 + n % 128) ∷ groups (suc k) (n / 128))) (sym low) (more {g = n % 128} (omega arith) (omega (arith, ltb-false n 128 e)) r)
+
+pub coded-is : {n : ℕ} → n ≤ numberBound → Coded n (coded n)
+unfolding coded
+coded-is {n} h = groups-coded 7 n (omega arith)
+
+-- ---- a number has one coding
+
+coded-unique : {n m : ℕ} {s t : List ℕ} → Coded n s → Coded m t → n ≡ m → s ≡ t
+coded-unique (last h) (last k) e = cc
+coded-unique (last h) (more k p y) e = absurd (omega arith)
+coded-unique (more h p x) (last k) e = absurd (omega arith)
+coded-unique (more {g} {n} {t} h p x) (more {g = f} {n = m} {t = u} k q y) e =
+    let same : g ≡ f = omega arith in
+    let rest = coded-unique x y (omega arith) in
+    cc
+
+pub coded-one : {n : ℕ} {s t : List ℕ} → Coded n s → Coded n t → s ≡ t
+coded-one x y = coded-unique x y refl
+
+-- ---- the coding is taken back
+
+groups-back : {n : ℕ} {t : List ℕ} → Coded n t → (l : List ℕ) → takeGroups (t ++ l) ≡ got n l
+unfolding takeGroups
+groups-back (last {g} h) l = rw (lt-ltb g 128 h)
+groups-back (more {g} {n} {t} h p x) l =
+    let low : 128 + g - 128 ≡ g = omega arith in
+    rw (le-ltb (128 + g) 128 (omega arith), lt-ltb (128 + g) 256 (omega arith), groups-back x l, ne-eqb n 0 (omega arith), low)
+
+-- what was taken is one thing
+pub got-one : {A : Type 0} {o : Option A} {a b : A} → o ≡ some a → o ≡ some b → a ≡ b
+got-one p q = cc
+
+-- bytes are one number's
+pub coded-same : {n m : ℕ} {t : List ℕ} → Coded n t → Coded m t → n ≡ m
+coded-same {n} {m} {t} x y = ap (λ (g : Got ℕ). g .it) (got-one (groups-back x []) (groups-back y []))
+
+pub number-back : (n : ℕ) → n ≤ numberBound → (l : List ℕ) → takeNumber (coded n ++ l) ≡ got n l
+unfolding takeNumber
+number-back n h l = rw (groups-back (coded-is h) l, le-leb n numberBound h)
+
+-- ---- and nothing else is taken
+
+Fronts : List ℕ → Option (Got ℕ) → Type 0
+Fronts l none = Unit {0}
+Fronts l (some g) = (t : List ℕ) × (Coded (g .it) t) × (l ≡ t ++ g .left)
+
+groups-only : (l : List ℕ) → Fronts l (takeGroups l)
+unfolding takeGroups Fronts
+groups-only [] = tt
+groups-only (b ∷ t) = by (ltb b 128) refl (ltb b 256) refl (takeGroups t) (groups-only t)
+  where
+    on : (g : Got ℕ) (x : Bool) → eqb (g .it) 0 ≡ x → 128 ≤ b → b < 256 → Fronts t (some g)
+        → Fronts (b ∷ t) (cond x none (got (b - 128 + 128 * g .it) (g .left)))
+    on g true e h k r = tt
+    on g false e h k (s, c, q) =
+        let high : 128 + (b - 128) ≡ b = omega arith in
+        (b ∷ s, rw high at (more {g = b - 128} {n = g .it} (omega arith) (omega (arith, eqb-false (g .it) 0 e)) c), rw q)
+
+    by : (x : Bool) → ltb b 128 ≡ x → (y : Bool) → ltb b 256 ≡ y → (o : Option (Got ℕ)) → Fronts t o
+        → Fronts (b ∷ t) (cond x (got b t) (cond y (above (b - 128) o) none))
+    by true e y f o r = (b ∷ [], last (ltb-true b 128 e), refl)
+    by false e true f none r = tt
+    by false e true f (some g) r = on g (eqb (g .it) 0) refl (ltb-false b 128 e) (ltb-true b 256 f) r
+    by false e false f o r = tt
+
+pub number-only : (l : List ℕ) (g : Got ℕ) → takeNumber l ≡ some g → (g .it ≤ numberBound) × (l ≡ coded (g .it) ++ g .left)
+unfolding takeNumber Fronts
+number-only l g h = by (takeGroups l) (groups-only l) h
+  where
+    on : (r : Got ℕ) (x : Bool) → leb (r .it) numberBound ≡ x → Fronts l (some r) → cond x (some r) none ≡ some g
+        → (g .it ≤ numberBound) × (l ≡ coded (g .it) ++ g .left)
+    on r true e (t, c, q) h =
+        let same : r ≡ g = got-one refl h in
+        rw (← same) (leb-true (r .it) numberBound e, rw (coded-one (coded-is (leb-true (r .it) numberBound e)) c) q)
+    on r false e f h = absurd (let z : _≡_ {A = ℕ} 0 1 = cc in omega arith)
+
+    by : (o : Option (Got ℕ)) → Fronts l o → bounded o ≡ some g → (g .it ≤ numberBound) × (l ≡ coded (g .it) ++ g .left)
+    by none f h = absurd (let z : _≡_ {A = ℕ} 0 1 = cc in omega arith)
+    by (some r) f h = on r (leb (r .it) numberBound) refl f h
