@@ -1,7 +1,7 @@
 -- A number has one coding, which is what `coded` computes and all that `takeNumber` takes.
-use mathlib.Core.Path.{_≡_, refl, sym, ap, subst, _∙_}
+use mathlib.Core.Path.{_≡_, refl, sym, ap, subst}
 use mathlib.Core.Bool.{Bool, true, false, cond}
-use mathlib.Core.List.{List, [], _∷_, _++_, append-nil}
+use mathlib.Core.List.{List, [], _∷_, _++_}
 use mathlib.Core.Option.{Option, some, none}
 use Prim.Native.Nat.{ℕ, zero, suc, _+_, _-_, _*_, _/_, _%_, _^_, _≤_, _<_}
 use native.Mathlib.Omega.{arith}
@@ -10,6 +10,7 @@ use borrow.Author.Tests.{ltb-true, ltb-false, leb-true, eqb-false, lt-ltb, le-lt
 use Rattle.edition.specs.Limits.{numberBound}
 use Rattle.grammar.specs.Read.{Got, got}
 use Rattle.coding.specs.Numbers.{Coded, last, more, groups, coded, above, takeGroups, bounded, takeNumber}
+use Rattle.coding.proofs.Laws.{got-one, none-some}
 
 -- ---- what is computed is the coding
 
@@ -52,13 +53,9 @@ groups-back (more {g} {n} {t} h p x) l =
     let low : 128 + g - 128 ≡ g = omega arith in
     rw (le-ltb (128 + g) 128 (omega arith), lt-ltb (128 + g) 256 (omega arith), groups-back x l, ne-eqb n 0 (omega arith), low)
 
--- what was taken is one thing
-pub got-one : {A : Type 0} {o : Option A} {a b : A} → o ≡ some a → o ≡ some b → a ≡ b
-got-one p q = cc
-
 -- bytes are one number's
 pub coded-same : {n m : ℕ} {t : List ℕ} → Coded n t → Coded m t → n ≡ m
-coded-same {n} {m} {t} x y = ap (λ (g : Got ℕ). g .it) (got-one (groups-back x []) (groups-back y []))
+coded-same x y = ap (λ (g : Got ℕ). g .it) (got-one (groups-back x []) (groups-back y []))
 
 pub number-back : (n : ℕ) → n ≤ numberBound → (l : List ℕ) → takeNumber (coded n ++ l) ≡ got n l
 unfolding takeNumber
@@ -98,8 +95,8 @@ number-only l g h = by (takeGroups l) (groups-only l) h
     on r true e (t, c, q) h =
         let same : r ≡ g = got-one refl h in
         rw (← same) (leb-true (r .it) numberBound e, rw (coded-one (coded-is (leb-true (r .it) numberBound e)) c) q)
-    on r false e f h = absurd (let z : _≡_ {A = ℕ} 0 1 = cc in omega arith)
+    on r false e f h = absurd (none-some h)
 
     by : (o : Option (Got ℕ)) → Fronts l o → bounded o ≡ some g → (g .it ≤ numberBound) × (l ≡ coded (g .it) ++ g .left)
-    by none f h = absurd (let z : _≡_ {A = ℕ} 0 1 = cc in omega arith)
+    by none f h = absurd (none-some h)
     by (some r) f h = on r (leb (r .it) numberBound) refl f h
