@@ -3,18 +3,17 @@ use mathlib.Core.Path.{_≡_, refl, sym, ap, subst, _∙_}
 use mathlib.Core.Bool.{Bool, true, false, true≢false, cond}
 use mathlib.Core.List.{List, [], _∷_, _++_, append-nil}
 use mathlib.Core.Option.{Option, some, none}
-use Prim.Native.Nat.{ℕ}
+use Prim.Native.Nat.{ℕ, zero, suc}
 use native.Mathlib.Omega.{arith}
 use lib.ListN.{length}
-use lib.Dec.{eqb}
-use borrow.Author.Tests.{eqb-true, eqb-false}
-use Rattle.grammar.specs.Read.{Got}
+use borrow.Author.Tests.{eqb-true, ne-eqb}
+use Rattle.grammar.specs.Read.{Got, got}
 use Rattle.coding.specs.Codes.{Code, codeOf}
 use Rattle.coding.specs.Image.{Constant, number, text, Instruction, Image, known}
 use Rattle.coding.specs.Formed.{Every, Small, Listed, Text, FormedConstant, FormedInstruction, Formed}
 use Rattle.coding.specs.Reading.{Source, Taker, then, done, many, counted, constantOf, constant, instructionOf, instruction, parts, ended, readImage}
 use Rattle.coding.specs.Writing.{all, listed, bytes, constantIn, instructionIn, written}
-use Rattle.coding.proofs.Laws.{got-one, none-some, empty}
+use Rattle.coding.proofs.Laws.{got-one, none-some}
 use Rattle.coding.proofs.Takes.{Takes, same, nothing-takes, then-takes, made-takes, many-takes}
 use Rattle.coding.proofs.Sources.{Agrees}
 
@@ -50,9 +49,9 @@ is-text : (c : Constant) → kindOf c ≡ 1 → text (textOf c) ≡ c
 is-text (number n) e = absurd (omega arith)
 is-text (text l) e = refl
 
-kinds : (c : Constant) → (kindOf c ≡ 0 → ⊥) → (kindOf c ≡ 1 → ⊥) → ⊥
-kinds (number n) h k = h refl
-kinds (text l) h k = k refl
+two-kinds : (c : Constant) (k : ℕ) → kindOf c ≡ suc (suc k) → ⊥
+two-kinds (number n) k e = omega arith
+two-kinds (text l) k e = omega arith
 
 module _ {source : Source} {write : ℕ → List ℕ} (agrees : Agrees source write) where
   counted-takes : {A : Type 0} {one : Taker A} {P : A → Type 0} {w : A → List ℕ} → Takes one P w → Takes (counted source one) (Listed P) (listed write w)
@@ -82,16 +81,14 @@ module _ {source : Source} {write : ℕ → List ℕ} (agrees : Agrees source wr
       (λ c h. ((h .0, tt), subst FormedConstant (is c (h .0)) (h .1)))
       (λ c h. (h .0 .0, subst FormedConstant (sym (is c (h .0 .0))) (h .1))) (λ c h. ap behindKind (is c (h .0 .0)))
 
+  -- "an unknown .. kind" is refused
+  no-kind : (k : ℕ) (l : List ℕ) → constantOf source (suc (suc k)) l ≡ none
+  no-kind k l = search (ne-eqb (suc (suc k)) 0 (omega arith), ne-eqb (suc (suc k)) 1 (omega arith))
+
   constantOf-takes : (kind : ℕ) → Takes (constantOf source kind) (OfKind kind) behindKind
-  constantOf-takes kind = by (eqb kind 0) refl (eqb kind 1) refl
-    where
-      by : (x : Bool) → eqb kind 0 ≡ x → (y : Bool) → eqb kind 1 ≡ y
-          → Takes (λ l. cond x (then (source .takes l) (λ n. done (number n))) (cond y (then (counted source (source .byte) l) (λ bs. done (text bs))) none))
-          (OfKind kind) behindKind
-      by true e y f = rw (eqb-true kind 0 e) (kind-takes 0 number numberOf (agrees .numbers) (λ n. (refl, refl)) is-number)
-      by false e true f = rw (eqb-true kind 1 f) (kind-takes 1 text textOf text-takes (λ l. (refl, refl)) is-text)
-      by false e false f =
-          nothing-takes (λ c h. kinds c (λ q. eqb-false kind 0 e (sym (h .0 .0) ∙ q)) (λ q. eqb-false kind 1 f (sym (h .0 .0) ∙ q)))
+  constantOf-takes zero = kind-takes 0 number numberOf (agrees .numbers) (λ n. (refl, refl)) is-number
+  constantOf-takes (suc zero) = kind-takes 1 text textOf text-takes (λ l. (refl, refl)) is-text
+  constantOf-takes (suc (suc k)) = nothing-takes (no-kind k) (λ c h. two-kinds c k (h .0 .0))
 
   constant-takes : Takes (constant source) FormedConstant (constantIn write)
   constant-takes = same (then-takes kindOf (λ c. Unit {0}) (agrees .numbers) (λ kind h. constantOf-takes kind)) (λ c k. k .1 .1)
@@ -113,7 +110,7 @@ module _ {source : Source} {write : ℕ → List ℕ} (agrees : Agrees source wr
 
     instructionOf-takes : (c : ℕ) (o : Option Code) → codeOf edition c ≡ o
         → Takes (instructionOf source c o) (λ i. ((i .code ≡ c) × (Unit {0})) × (Behind i)) behindCode
-    instructionOf-takes c none e = nothing-takes (λ i h. none-some (sym e ∙ (rw (h .0 .0) at (h .1 .1))))
+    instructionOf-takes c none e = nothing-takes (λ l. refl) (λ i h. none-some (sym e ∙ (rw (h .0 .0) at (h .1 .1))))
     instructionOf-takes c (some k) e =
         same (then-takes (λ i. i .depth) (λ i. i .code ≡ c) (agrees .numbers) (λ d h.
         made-takes (λ i. i .named) (λ i. (i .depth ≡ d) × (i .code ≡ c)) (λ named. record { code = c; depth = d; named = named })
@@ -182,7 +179,7 @@ module _ {source : Source} {write : ℕ → List ℕ} (agrees : Agrees source wr
       let f = h .1 in
       (e, (f .users, (f .constants, (f .eres, (rw e at (f .begins), (rw e at (f .records), rw e at (f .ends))))))))
       (λ i h. refl)
-  edition-takes edition false e = nothing-takes (λ i h. true≢false (sym (h .1 .edition) ∙ (rw (h .0 .0) e)))
+  edition-takes edition false e = nothing-takes (λ l. refl) (λ i h. true≢false (sym (h .1 .edition) ∙ (rw (h .0 .0) e)))
 
   image-takes : Takes (λ l. then (source .takes l) (λ edition l. cond (known edition) (parts source edition l) none)) Formed (written write)
   unfolding written
@@ -195,19 +192,20 @@ module _ {source : Source} {write : ℕ → List ℕ} (agrees : Agrees source wr
   unfolding readImage
   read-written {i} f = rw (rw append-nil at (image-takes .back i f []))
 
+  -- "Nothing follows."
+  nothing-follows : (i : Image) (b : ℕ) (l : List ℕ) → ended source (got i (b ∷ l)) ≡ none
+  nothing-follows i b l = search (ne-eqb (suc (length l)) 0 (omega arith))
+
   -- what is read is what is written of an image that has bytes
   pub read-only : (l : List ℕ) {i : Image} → readImage source l ≡ some i → (Formed i) × (l ≡ written write i)
   unfolding readImage
   read-only l {i} h = by (then (source .takes l) (λ edition l. cond (known edition) (parts source edition l) none)) refl h
     where
-      on : (g : Got Image) (x : Bool) → eqb (length (g .left)) 0 ≡ x → (Formed (g .it)) × (l ≡ written write (g .it) ++ g .left)
-          → cond x (some (g .it)) none ≡ some i → (Formed i) × (l ≡ written write i)
-      on g true e r h =
-          let end = empty (g .left) (eqb-true (length (g .left)) 0 e) in
-          rw (← (got-one refl h)) (r .0, rw (end, append-nil) at (r .1))
-      on g false e r h = absurd (none-some h)
+      on : (j : Image) (left : List ℕ) → (Formed j) × (l ≡ written write j ++ left) → ended source (got j left) ≡ some i → (Formed i) × (l ≡ written write i)
+      on j [] r h = rw (← (got-one refl h)) (r .0, rw append-nil at (r .1))
+      on j (b ∷ t) r h = absurd (none-some (sym (nothing-follows j b t) ∙ h))
 
       by : (o : Option (Got Image)) → then (source .takes l) (λ edition l. cond (known edition) (parts source edition l) none) ≡ o → ended source o ≡ some i
           → (Formed i) × (l ≡ written write i)
       by none e h = absurd (none-some h)
-      by (some g) e h = on g (eqb (length (g .left)) 0) refl (image-takes .only l g e) h
+      by (some g) e h = on (g .it) (g .left) (image-takes .only l g e) h

@@ -1,10 +1,8 @@
 -- Small laws of what was taken, or was not.
 use mathlib.Core.Path.{_≡_}
-use mathlib.Core.List.{List, [], _∷_}
 use mathlib.Core.Option.{Option, some, none}
 use Prim.Native.Nat.{ℕ}
 use native.Mathlib.Omega.{arith}
-use lib.ListN.{length}
 
 -- what was taken is one thing
 pub got-one : {A : Type 0} {o : Option A} {a b : A} → o ≡ some a → o ≡ some b → a ≡ b
@@ -13,8 +11,3 @@ got-one p q = cc
 -- nothing was taken and something was: that is never so
 pub none-some : {A : Type 0} {a : A} → none ≡ some a → ⊥
 none-some h = let z : _≡_ {A = ℕ} 0 1 = cc in omega arith
-
--- nothing is left
-pub empty : (l : List ℕ) → length l ≡ 0 → l ≡ []
-empty [] e = cc
-empty (b ∷ l) e = absurd (omega arith)

@@ -1,12 +1,12 @@
 -- A number has one coding, which is what `coded` computes and all that `takeNumber` takes.
-use mathlib.Core.Path.{_≡_, refl, sym, ap, subst}
+use mathlib.Core.Path.{_≡_, refl, sym, ap, subst, _∙_}
 use mathlib.Core.Bool.{Bool, true, false, cond}
 use mathlib.Core.List.{List, [], _∷_, _++_}
 use mathlib.Core.Option.{Option, some, none}
 use Prim.Native.Nat.{ℕ, zero, suc, _+_, _-_, _*_, _/_, _%_, _^_, _≤_, _<_}
 use native.Mathlib.Omega.{arith}
 use lib.Dec.{eqb, ltb, leb}
-use borrow.Author.Tests.{ltb-true, ltb-false, leb-true, eqb-false, lt-ltb, le-ltb, le-leb, ne-eqb}
+use borrow.Author.Tests.{ltb-true, ltb-false, leb-true, leb-false, eqb-true, eqb-false, lt-ltb, le-ltb, le-leb, lt-leb, ne-eqb}
 use Rattle.edition.specs.Limits.{numberBound}
 use Rattle.grammar.specs.Read.{Got, got}
 use Rattle.coding.specs.Numbers.{Coded, last, more, groups, coded, above, takeGroups, bounded, takeNumber}
@@ -46,20 +46,34 @@ coded-one x y = coded-unique x y refl
 
 -- ---- the coding is taken back
 
+-- a last group of 0 is one more than needed
+needless : (g : ℕ) (r : Got ℕ) → r .it ≡ 0 → above g (some r) ≡ none
+needless g r h = rw h
+
+needed : (g : ℕ) (r : Got ℕ) → 0 < r .it → above g (some r) ≡ got (g + 128 * r .it) (r .left)
+needed g r h = search (ne-eqb (r .it) 0 (omega arith))
+
 groups-back : {n : ℕ} {t : List ℕ} → Coded n t → (l : List ℕ) → takeGroups (t ++ l) ≡ got n l
 unfolding takeGroups
 groups-back (last {g} h) l = rw (lt-ltb g 128 h)
 groups-back (more {g} {n} {t} h p x) l =
     let low : 128 + g - 128 ≡ g = omega arith in
-    rw (le-ltb (128 + g) 128 (omega arith), lt-ltb (128 + g) 256 (omega arith), groups-back x l, ne-eqb n 0 (omega arith), low)
+    rw (le-ltb (128 + g) 128 (omega arith), lt-ltb (128 + g) 256 (omega arith), groups-back x l, low) (needed g (record { it = n; left = l }) p)
 
 -- bytes are one number's
 pub coded-same : {n m : ℕ} {t : List ℕ} → Coded n t → Coded m t → n ≡ m
 coded-same x y = ap (λ (g : Got ℕ). g .it) (got-one (groups-back x []) (groups-back y []))
 
+-- "a number over 2^53" is refused
+over : (r : Got ℕ) → numberBound < r .it → bounded (some r) ≡ none
+over r h = search (lt-leb (r .it) numberBound h)
+
+within : (r : Got ℕ) → r .it ≤ numberBound → bounded (some r) ≡ some r
+within r h = search (le-leb (r .it) numberBound h)
+
 pub number-back : (n : ℕ) → n ≤ numberBound → (l : List ℕ) → takeNumber (coded n ++ l) ≡ got n l
 unfolding takeNumber
-number-back n h l = rw (groups-back (coded-is h) l, le-leb n numberBound h)
+number-back n h l = rw (groups-back (coded-is h) l) (within (record { it = n; left = l }) h)
 
 -- ---- and nothing else is taken
 
@@ -72,12 +86,12 @@ unfolding takeGroups Fronts
 groups-only [] = tt
 groups-only (b ∷ t) = by (ltb b 128) refl (ltb b 256) refl (takeGroups t) (groups-only t)
   where
-    on : (g : Got ℕ) (x : Bool) → eqb (g .it) 0 ≡ x → 128 ≤ b → b < 256 → Fronts t (some g)
-        → Fronts (b ∷ t) (cond x none (got (b - 128 + 128 * g .it) (g .left)))
-    on g true e h k r = tt
+    on : (g : Got ℕ) (x : Bool) → eqb (g .it) 0 ≡ x → 128 ≤ b → b < 256 → Fronts t (some g) → Fronts (b ∷ t) (above (b - 128) (some g))
+    on g true e h k r = subst (Fronts (b ∷ t)) (sym (needless (b - 128) g (eqb-true (g .it) 0 e))) tt
     on g false e h k (s, c, q) =
         let high : 128 + (b - 128) ≡ b = omega arith in
-        (b ∷ s, rw high at (more {g = b - 128} {n = g .it} (omega arith) (omega (arith, eqb-false (g .it) 0 e)) c), rw q)
+        let some-above : 0 < g .it = omega (arith, eqb-false (g .it) 0 e) in
+        subst (Fronts (b ∷ t)) (sym (needed (b - 128) g some-above)) (b ∷ s, rw high at (more {g = b - 128} (omega arith) some-above c), rw q)
 
     by : (x : Bool) → ltb b 128 ≡ x → (y : Bool) → ltb b 256 ≡ y → (o : Option (Got ℕ)) → Fronts t o
         → Fronts (b ∷ t) (cond x (got b t) (cond y (above (b - 128) o) none))
@@ -90,12 +104,13 @@ pub number-only : (l : List ℕ) (g : Got ℕ) → takeNumber l ≡ some g → (
 unfolding takeNumber Fronts
 number-only l g h = by (takeGroups l) (groups-only l) h
   where
-    on : (r : Got ℕ) (x : Bool) → leb (r .it) numberBound ≡ x → Fronts l (some r) → cond x (some r) none ≡ some g
+    on : (r : Got ℕ) (x : Bool) → leb (r .it) numberBound ≡ x → Fronts l (some r) → bounded (some r) ≡ some g
         → (g .it ≤ numberBound) × (l ≡ coded (g .it) ++ g .left)
     on r true e (t, c, q) h =
-        let same : r ≡ g = got-one refl h in
-        rw (← same) (leb-true (r .it) numberBound e, rw (coded-one (coded-is (leb-true (r .it) numberBound e)) c) q)
-    on r false e f h = absurd (none-some h)
+        let small = leb-true (r .it) numberBound e in
+        let same : r ≡ g = got-one (within r small) h in
+        rw (← same) (small, rw (coded-one (coded-is small) c) q)
+    on r false e f h = absurd (none-some (sym (over r (leb-false (r .it) numberBound e)) ∙ h))
 
     by : (o : Option (Got ℕ)) → Fronts l o → bounded o ≡ some g → (g .it ≤ numberBound) × (l ≡ coded (g .it) ++ g .left)
     by none f h = absurd (none-some h)

@@ -32,8 +32,8 @@ same {A} {p} {P} {Q} {v} {w} t into out e = record {
 }
 
 -- nothing, where there is nothing to take
-pub nothing-takes : {A : Type 0} {P : A → Type 0} {w : A → List ℕ} → ((a : A) → P a → ⊥) → Takes (λ l. none) P w
-nothing-takes h = record { back = λ a k l. absurd (h a k); only = λ l g k. absurd (none-some k) }
+pub nothing-takes : {A : Type 0} {p : Taker A} {P : A → Type 0} {w : A → List ℕ} → ((l : List ℕ) → p l ≡ none) → ((a : A) → P a → ⊥) → Takes p P w
+nothing-takes e h = record { back = λ a k l. absurd (h a k); only = λ l g k. absurd (none-some (rw (e l) at k)) }
 
 -- One thing a, and then, by what a is, something b that a can be told from. K is what is already known of b.
 module _ {A B : Type 0} {p : Taker A} {P : A → Type 0} {w : A → List ℕ} (first : B → A) (K : B → Type 0) where
