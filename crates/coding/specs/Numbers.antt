@@ -1,6 +1,5 @@
 -- Document 01, "The image": "Numbers are groups of seven bits, low group first, high bit set if more follow, no longer than needed"; "a number over 2^53"
 -- is malformed.
-use mathlib.Core.Path.{_≡_}
 use mathlib.Core.Bool.{cond}
 use mathlib.Core.List.{List, [], _∷_}
 use mathlib.Core.Option.{Option, some, none}

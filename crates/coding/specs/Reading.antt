@@ -5,7 +5,7 @@ use mathlib.Core.List.{List, [], _∷_}
 use mathlib.Core.Option.{Option, some, none}
 use Prim.Native.Nat.{ℕ, zero, suc}
 use lib.ListN.{length}
-use lib.Dec.{eqb, ltb, leb}
+use lib.Dec.{eqb, leb}
 use Rattle.edition.specs.Limits.{numberBound}
 use Rattle.grammar.specs.Read.{Got, got}
 use Rattle.coding.specs.Codes.{Code, codeOf}

@@ -1,0 +1,252 @@
+#!/usr/bin/env python3
+"""Compares the definitions of the crates with the reference, by theorems that the checker computes.
+
+    tests/semantics.py --reference DIR [--cases N] [--seed S] [--keep]
+
+DIR has reference.py and gen.py. Each group makes N random cases (default 100), and its hand-made cases besides. A case is a theorem
+`left ≡ right`, proved by `refl`: `left` is a definition at some input, `right` is what the reference answers there. The script copies
+crates.txt, crates/ and target/ (so that proved crates are reused) to a temporary folder, adds the theorems there as a module of the
+specs/ of the group's crate, runs `rt dev` and reports each case that the checker refuses. The repository stays as it is, and the
+temporary folder is removed; --keep keeps it and prints its name.
+
+A false theorem goes along with each group, and has to be refused: so the checker did look at the others.
+
+To add a group, write a function under @group: it takes a random.Random and a count and yields pairs (left, right) as text.
+"""
+import argparse
+import os
+import random
+import re
+import shutil
+import subprocess
+import sys
+import tempfile
+
+ROOT = os.path.dirname(os.path.dirname(os.path.abspath(__file__)))
+BIG = 2 ** 53
+GROUPS = []
+ref = gen = None
+
+
+def group(crate, uses, unfolding):
+    """The crate that the theorems go into, the `use` lines that they need, and the definitions that `refl` has to open."""
+    def add(cases):
+        GROUPS.append((cases.__name__, crate, uses, unfolding, cases))
+        return cases
+    return add
+
+
+# ---- values, as text of antt
+
+def listed(texts):
+    return '(' + ''.join(t + ' ∷ ' for t in texts) + '[])'
+
+
+def numbers(values):
+    return listed(str(v) for v in values)
+
+
+def record(**fields):
+    return '(record { ' + '; '.join(k + ' = ' + v for k, v in fields.items()) + ' })'
+
+
+# ---- images: their bytes and their content words
+
+def image_value(parts):
+    users, constants, eres, sections = parts
+
+    def instruction(i):
+        return record(code=str(i[0]), depth=str(i[1]), named=numbers([] if i[2] is None else [i[2]]))
+
+    begins, records, ends = (listed(instruction(i) for i in s) for s in sections)
+    return record(edition='1', users=str(users), constants=listed('(number %d)' % v if kind == 0 else '(text %s)' % numbers(v) for kind, v in constants),
+                  eres=listed(numbers(e) for e in eres), begins=begins, records=records, ends=ends)
+
+
+def from_bytes(image):
+    """What an image's bytes are read as; and if they are read, the content and the bytes of that."""
+    outcome, content = ref.read_image(image)
+    left = 'readImage fromBytes ' + numbers(image)
+    if outcome != 0:
+        yield left, 'none'
+        return
+    value = image_value(ref._parse_image(image)[0])
+    yield left, 'some ' + value
+    yield 'contentOf ' + value, numbers(content)
+    yield from from_words(content)
+
+
+def from_words(content):
+    """What content words are read as; and if they are read, the bytes of that."""
+    outcome, image = ref.write_image(content)
+    left = 'readImage fromWords ' + numbers(content)
+    if outcome != 0:
+        yield left, 'none'
+        return
+    value = image_value(ref._parse_image(image)[0])
+    yield left, 'some ' + value
+    yield 'bytesOf ' + value, numbers(image)
+
+
+EMPTY = bytes([1, 0, 0, 0, 0, 0, 0])
+SMALL = bytes([1, 2, 2, 0, 200, 1, 1, 2, 0, 255, 1, 1, 97, 1, 0, 0, 2, 1, 0, 1, 29, 1, 1, 1, 31, 0])
+
+
+def made_images():
+    """Bytes: each is tried by from_bytes."""
+    number = gen.encoded
+    yield from (EMPTY, SMALL, b'', EMPTY + b'\0', SMALL + b'\0', EMPTY * 2)
+    yield from (SMALL[:i] for i in range(1, len(SMALL)))
+    # the count of user variables, in each form of coding; behind 2^53 stand a number over it and one of nine groups
+    for n in (0, 1, 127, 128, 129, 16383, 16384, 2 ** 49 - 1, 2 ** 49, BIG - 1, BIG, BIG + 1, 2 ** 56, 2 ** 56 - 1, 2 ** 63):
+        yield EMPTY[:1] + number(n) + EMPTY[2:]
+    for needless in (b'\x80\0', b'\x81\0', b'\x81\x80\0', b'\xff\x80\x80\0', number(BIG)[:-1] + bytes([number(BIG)[-1] + 128, 0])):
+        yield EMPTY[:1] + needless + EMPTY[2:]
+    # the edition: 0, 2, 128, 1 with a needless group
+    for edition in (b'\0', b'\2', b'\x80\1', b'\x81\0'):
+        yield edition + EMPTY[1:]
+    # the kinds
+    for constant in (b'\0\5', b'\0' + number(BIG), b'\1\0', b'\1\1\0', b'\1\1\xff', b'\1\2a', b'\2\0', b'\2\1a', b'\x80\0\5', b'\x81\0\0', b'\x7f\0'):
+        yield b'\1\0\1' + constant + b'\0\0\0\0'
+    # each code, with no operand and with one
+    for code in list(range(34)) + [127, 128, BIG]:
+        for operand in (b'', b'\7'):
+            yield b'\1\0\0\0\1' + number(code) + b'\0' + operand + b'\0\0'
+    # counts that go past the end
+    for count in (1, 2, 128, BIG):
+        yield EMPTY[:2] + number(count) + EMPTY[3:]
+        yield EMPTY[:6] + number(count)
+    # EREs and texts are not read: any bytes
+    yield b'\1\0\0\3\0\1(\2\0\xff\0\0\0'
+
+
+def made_contents():
+    """Words: each is tried by from_words."""
+    small = ref.read_image(SMALL)[1]
+    empty = list(EMPTY)
+    yield from ([], empty, small, small + [0], empty + [1])
+    yield from (small[:i] for i in range(1, len(small)))
+    yield from ([1, n] + empty[2:] for n in (127, 128, 255, 256, BIG, BIG + 1, 2 ** 64 - 1))
+    yield from ([n] + empty[1:] for n in (0, 2, 129))
+    # a text byte, 255 and 256, in a constant and in an ERE; a number is not held to 255
+    for b in (0, 127, 128, 255, 256, BIG, 2 ** 64 - 1):
+        yield [1, 0, 1, 1, 1, b, 0, 0, 0, 0]
+        yield [1, 0, 0, 1, 1, b, 0, 0, 0]
+        yield [1, 0, 1, 0, b, 0, 0, 0, 0]
+
+
+def small_image(r):
+    """One of the generator's images that the checker computes fast. Those at the sizes of the rules are longer, and come seldom."""
+    if r.random() < .02:
+        while True:
+            image = gen.sized_image(r)
+            if len(image) < 1000:
+                return image if r.random() < .5 else gen.damaged_image(r, image)
+    while True:
+        image = gen.image(r, ref.translate)
+        if len(image) < 40:
+            return image
+
+
+def damaged_words(r, content):
+    content = list(content)
+    for _ in range(r.randrange(1, 3)):
+        i, v = r.randrange(len(content) + 1), r.choice([0, 1, 2, 27, 29, 31, 32, 127, 128, 255, 256, BIG, BIG + 1, 2 ** 64 - 1])
+        content[i:i + r.randrange(2)] = [[v], [], [v]][r.randrange(3)]
+    return content
+
+
+@group('coding', '''use mathlib.Core.Path.{_≡_, refl}
+use mathlib.Core.List.{List, [], _∷_}
+use mathlib.Core.Option.{Option, some, none}
+use Rattle.coding.specs.Codes.{nth, codeOf}
+use Rattle.coding.specs.Image.{number, text, Instruction, Image}
+use Rattle.coding.specs.Numbers.{coded, takeGroups, takeNumber}
+use Rattle.coding.specs.Reading.{fromBytes, fromWords, many, readImage}
+use Rattle.coding.specs.Writing.{all, written, bytesOf, contentOf}''', 'nth codeOf coded takeGroups takeNumber many readImage all written')
+def images(r, count):
+    for image in made_images():
+        yield from from_bytes(image)
+    for content in made_contents():
+        yield from from_words(content)
+    made = 0
+    while made < count:
+        image = small_image(r)
+        cases = list(from_bytes(image))
+        outcome, content = ref.read_image(image)
+        if outcome == 0:
+            cases += from_words(damaged_words(r, content))
+        made += len(cases)
+        yield from cases
+
+
+# ---- the checker
+
+def check(scratch, crate, groups):
+    """Writes the theorems of a crate's groups, each a module of its own, and gives what the checker says."""
+    specs = os.path.join(scratch, 'crates', crate, 'specs')
+    with open(os.path.join(specs, 'Lib.antt'), 'a') as lib:
+        for name, uses, unfolding, cases in groups:
+            module = 'Cases' + name.capitalize()
+            lib.write('pub mod %s\n' % module)
+            with open(os.path.join(specs, module + '.antt'), 'w') as f:
+                f.write(uses + '\nuse Prim.Native.Nat.{ℕ}\n')
+                for i, (left, right) in enumerate(cases):
+                    f.write('\n%s-%d : %s ≡ %s\nunfolding %s\n%s-%d = refl\n' % (name, i, left, right, unfolding, name, i))
+                f.write('\n%s-false : _≡_ {A = ℕ} 0 1\n%s-false = refl\n' % (name, name))
+    done = subprocess.run(['rt', 'dev', crate], cwd=scratch, stdout=subprocess.PIPE, stderr=subprocess.STDOUT)
+    return done.stdout.decode('utf-8', 'replace')
+
+
+def main():
+    global ref, gen
+    parser = argparse.ArgumentParser()
+    parser.add_argument('--reference', required=True)
+    parser.add_argument('--cases', type=int, default=100)
+    parser.add_argument('--seed', type=int, default=1)
+    parser.add_argument('--keep', action='store_true')
+    options = parser.parse_args()
+    sys.path.insert(0, os.path.abspath(options.reference))
+    import gen as the_gen
+    import reference as the_reference
+    ref, gen = the_reference, the_gen
+
+    scratch = tempfile.mkdtemp(prefix='semantics.')
+    failed = False
+    try:
+        for name in ('crates.txt', 'crates', 'target'):
+            source = os.path.join(ROOT, name)
+            if os.path.isdir(source):
+                shutil.copytree(source, os.path.join(scratch, name), symlinks=True)
+            elif os.path.exists(source):
+                shutil.copy(source, scratch)
+        crates = {}
+        for name, crate, uses, unfolding, cases in GROUPS:
+            made = list(dict.fromkeys(cases(random.Random('%s %d' % (name, options.seed)), options.cases)))
+            crates.setdefault(crate, []).append((name, uses, unfolding, made))
+        for crate, groups in crates.items():
+            answer = check(scratch, crate, groups)
+            refused = dict(re.findall(r'error: `([a-z]+-(?:[0-9]+|false))`: ((?:.*\n?(?!\S*antt:))*)', answer))
+            for name, _, _, cases in groups:
+                wrong = [i for i in range(len(cases)) if '%s-%d' % (name, i) in refused]
+                for i in wrong:
+                    print('%s: refused: %s ≡ %s' % (name, *cases[i]))
+                looked = name + '-false' in refused
+                if not looked:
+                    print('%s: the checker did not refuse the false theorem; it says:\n%s' % (name, answer[-4000:]))
+                failed |= bool(wrong) or not looked
+                print('%s: %d cases, %d refused' % (name, len(cases), len(wrong)))
+            strange = [line for line in answer.splitlines() if 'error' in line and not re.search(r'error: `[a-z]+-(?:[0-9]+|false)`:', line)]
+            for line in strange:
+                print('%s: %s' % (crate, line))
+            failed |= bool(strange)
+    finally:
+        if options.keep:
+            print(scratch)
+        else:
+            shutil.rmtree(scratch)
+    sys.exit(1 if failed else 0)
+
+
+if __name__ == '__main__':
+    main()
