@@ -180,6 +180,102 @@ def images(r, count):
         yield from cases
 
 
+# ---- the check and the run of an image
+
+def unfoldables(*crates):
+    """The definitions of some crates that have to be opened by name: `use` lines, with the crate before each name, and the names."""
+    uses, names = [], []
+    for crate in crates:
+        folder = os.path.join(ROOT, 'crates', crate, 'specs')
+        for module in sorted(f[:-5] for f in os.listdir(folder) if f.endswith('.antt')):
+            with open(os.path.join(folder, module + '.antt'), encoding='utf-8') as f:
+                found = re.findall(r'^ *unfoldable pub (\S+) :', f.read(), re.M)
+            if found:
+                uses.append('use Rattle.%s.%s.{%s}' % ('semantics·specs.specs' if crate == 'semantics' else crate + '.specs', module,
+                                                       ', '.join('%s as %s-%s' % (n, crate, n) for n in found)))
+                names += ['%s-%s' % (crate, n) for n in found]
+    return '\n'.join(uses), ' '.join(names)
+
+
+RUN_USES, RUN_NAMES = unfoldables('buffer', 'number', 'numeral', 'pattern', 'grammar', 'splitting', 'coding', 'values', 'semantics')
+RUN_USES = '''use mathlib.Core.Path.{_≡_, refl}
+use mathlib.Core.Bool.{true, false}
+use mathlib.Core.List.{List, [], _∷_}
+use mathlib.Core.Option.{Option, some, none}
+use Rattle.coding.specs.Image.{number, text, Instruction, Image}
+use Rattle.semantics.specs.Check.{check}
+use Rattle.semantics.specs.Run.{Answer, answerOf, run}
+''' + RUN_USES
+
+
+@group('semantics', RUN_USES, RUN_NAMES)
+def checks(r, count):
+    """Images that read: whether they pass the check."""
+    made = 0
+    while made < count:
+        image = small_image(r)
+        if ref.read_image(image)[0] == 0:
+            yield 'check ' + image_value(ref._parse_image(image)[0]), 'true' if ref.check(image) == 0 else 'false'
+            made += 1
+
+
+PROGRAMS = [
+    '{ print }', '{ print $2, $1 }', 'END { print NR }', 'BEGIN { print 1 + 2 * 3 }', '{ n = n + $1 } END { print n }', '$1 > 3', '/a+b/ { print $1 }',
+    'BEGIN { FS = "," } { print $2 }', '{ FS = "," ; print $1 }', '{ $3 = "x"; print; print NF }', '{ $0 = "p q r"; print $2 NF }', 'NR == 2 { next } { print }',
+    'NR == 2 { exit } { print } END { print "e" }', 'BEGIN { exit } { print } END { print NR }', 'END { exit; print 1 }', '{ print substr($0, 2, 3) }',
+    '{ print length($1), index($0, "b") }', '{ if (match($0, /b*c/)) print RSTART, RLENGTH; else print "no" }', '{ print -$1, !$1 }', '{ print $1 / $2 }', '{ print $1 % $2 }',
+    '{ print $1 - $2, $1 * $2 }', '{ print ($1 < $2), ($1 == $2), ($1 >= $2) }', '{ print $1 $2 }', 'BEGIN { while (i < 3) { i = i + 1; print i } }', '{ $(NF + 2) = 7; print }',
+    '{ print $129 }', '{ print $(0 - 1) }', '{ print "9007199254740992" + $1 }', '{ OFS = "-"; $1 = $1; print }', 'BEGIN { ORS = ""; print "a", "b" }', '{ FS = "" }', '{ FS = "(" } ',
+    '{ x = $1; print x == 0, x == "0" }', '{ print $1 == $9 }', 'BEGIN { print x, x + 0, x == "", x == 0 }', '{ print $1 && $2, $1 || $2 }', '!($1 ~ /^a$/)', '{}', 'END {}', 'BEGIN {}',
+]
+
+
+def lines(r):
+    text = b'\n'.join(b' '.join(r.choice([b'a', b'b', b'ab', b'abc', b'1', b'2', b'10', b'-3', b'1.5', b'0', b'a,b', b'']) for _ in range(r.randrange(4)))
+                      for _ in range(r.randrange(4)))
+    return text + r.choice([b'', b'\n'])
+
+
+def long_lines():
+    """Programs and lines at the sizes: records of 512 and 513 bytes, texts that grow past 512, 128 and 129 fields."""
+    for n in (512, 513):
+        yield '{ print }', b'a' * n + b'\n'
+    for n in (255, 256, 257):
+        yield '{ x = $0 $0; print length(x) }', b'a' * n
+    for n in (128, 129):
+        yield '{ print NF }', b'x ' * n
+        yield '{ $0 = $0 " y"; print NF }', b'x ' * (n - 1)
+    yield '{ $100 = "' + 'z' * 400 + '"; print NF }', b'q ' * 20
+    yield '{ $128 = 1; $1 = $0; print NF }', b'a'
+
+
+def run_case(image, text, room, budget):
+    o, steps, records, output = ref.run(image, text, room, budget)
+    return ('answerOf (run %s %d %s %d)' % (image_value(ref._parse_image(image)[0]), budget, numbers(text), room),
+            'some ' + record(outcome=str(o), steps=str(steps), records=str(records), output=numbers(output)))
+
+
+def translated(program):
+    outcome, _, image = ref.translate(program.encode())
+    if outcome != 0:
+        raise SystemExit('semantics.py: no program: %s' % program)
+    return image
+
+
+@group('semantics', RUN_USES, RUN_NAMES)
+def runs(r, count):
+    """Programs, lines, output rooms and budgets: the run's answer."""
+    for program, text in long_lines():
+        yield run_case(translated(program), text, 1000, 1000)
+    for program, text in (('NR == 2 { exit } { print } END { print NR }', b'a\nb\nc\n'), ('{ $2 = x; FS = "" }', b'1 2\n3'), ('END { print }', b'')):
+        image = translated(program)
+        for budget in range(ref.run(image, text, 1000, 1000)[1] + 2):
+            yield run_case(image, text, 1000, budget)
+    for made in range(count):
+        image = translated(PROGRAMS[made % len(PROGRAMS)])
+        yield run_case(image, lines(r), r.choice([1000, 1000, 1000, 3, 0]), r.choice([1000, 1000, r.randrange(40)]))
+
+
 # ---- the checker
 
 def check(scratch, crate, groups):
@@ -198,6 +294,37 @@ def check(scratch, crate, groups):
     return done.stdout.decode('utf-8', 'replace')
 
 
+def copied():
+    """A copy of the repository's crates, with what is proved of them."""
+    scratch = tempfile.mkdtemp(prefix='semantics.')
+    for name in ('crates.txt', 'crates', 'target'):
+        source = os.path.join(ROOT, name)
+        if os.path.isdir(source):
+            shutil.copytree(source, os.path.join(scratch, name), symlinks=True)
+        elif os.path.exists(source):
+            shutil.copy(source, scratch)
+    return scratch
+
+
+def judged(crate, groups, answer):
+    """Prints what the checker's answer says of each group of a crate; whether something is wrong."""
+    failed = False
+    refused = dict(re.findall(r'error: `([a-z]+-(?:[0-9]+|false))`: ((?:.*\n?(?!\S*antt:))*)', answer))
+    for name, _, _, cases in groups:
+        wrong = [i for i in range(len(cases)) if '%s-%d' % (name, i) in refused]
+        for i in wrong:
+            print('%s: refused: %s ≡ %s' % (name, *cases[i]))
+        looked = name + '-false' in refused
+        if not looked:
+            print('%s: the checker did not refuse the false theorem; it says:\n%s' % (name, answer[-4000:]))
+        failed |= bool(wrong) or not looked
+        print('%s: %d cases, %d refused' % (name, len(cases), len(wrong)))
+    strange = [line for line in answer.splitlines() if 'error' in line and not re.search(r'error: `[a-z]+-(?:[0-9]+|false)`:', line)]
+    for line in strange:
+        print('%s: %s' % (crate, line))
+    return failed or bool(strange)
+
+
 def main():
     global ref, gen
     parser = argparse.ArgumentParser()
@@ -211,40 +338,21 @@ def main():
     import reference as the_reference
     ref, gen = the_reference, the_gen
 
-    scratch = tempfile.mkdtemp(prefix='semantics.')
+    crates = {}
+    for name, crate, uses, unfolding, cases in GROUPS:
+        made = list(dict.fromkeys(cases(random.Random('%s %d' % (name, options.seed)), options.cases)))
+        crates.setdefault(crate, []).append((name, uses, unfolding, made))
     failed = False
-    try:
-        for name in ('crates.txt', 'crates', 'target'):
-            source = os.path.join(ROOT, name)
-            if os.path.isdir(source):
-                shutil.copytree(source, os.path.join(scratch, name), symlinks=True)
-            elif os.path.exists(source):
-                shutil.copy(source, scratch)
-        crates = {}
-        for name, crate, uses, unfolding, cases in GROUPS:
-            made = list(dict.fromkeys(cases(random.Random('%s %d' % (name, options.seed)), options.cases)))
-            crates.setdefault(crate, []).append((name, uses, unfolding, made))
-        for crate, groups in crates.items():
-            answer = check(scratch, crate, groups)
-            refused = dict(re.findall(r'error: `([a-z]+-(?:[0-9]+|false))`: ((?:.*\n?(?!\S*antt:))*)', answer))
-            for name, _, _, cases in groups:
-                wrong = [i for i in range(len(cases)) if '%s-%d' % (name, i) in refused]
-                for i in wrong:
-                    print('%s: refused: %s ≡ %s' % (name, *cases[i]))
-                looked = name + '-false' in refused
-                if not looked:
-                    print('%s: the checker did not refuse the false theorem; it says:\n%s' % (name, answer[-4000:]))
-                failed |= bool(wrong) or not looked
-                print('%s: %d cases, %d refused' % (name, len(cases), len(wrong)))
-            strange = [line for line in answer.splitlines() if 'error' in line and not re.search(r'error: `[a-z]+-(?:[0-9]+|false)`:', line)]
-            for line in strange:
-                print('%s: %s' % (crate, line))
-            failed |= bool(strange)
-    finally:
-        if options.keep:
-            print(scratch)
-        else:
-            shutil.rmtree(scratch)
+    for crate, groups in crates.items():
+        # a copy for each crate: the false theorem of one would leave those above it unproved
+        scratch = copied()
+        try:
+            failed |= judged(crate, groups, check(scratch, crate, groups))
+        finally:
+            if options.keep:
+                print(scratch)
+            else:
+                shutil.rmtree(scratch)
     sys.exit(1 if failed else 0)
 
 

@@ -1,0 +1,153 @@
+-- Document 01, "The image": the check. "sizes; every number named exists; EREs read; code 0 last in its section and only there; depth 0 at its start, at 0, 30
+-- and 31, and at most 32; each successor inside the section and its depth as the instruction leaves it; enough operands; print's n from 1; no set of 0, 1, 5,
+-- 6; 30 only in the record section."
+use mathlib.Core.Bool.{Bool, true, false, not, cond, _&&_, _||_}
+use mathlib.Core.List.{List, [], _∷_}
+use mathlib.Core.Option.{Option, some, none}
+use Prim.Native.Nat.{ℕ, zero, suc, _+_, _-_}
+use lib.ListN.{length}
+use lib.Dec.{eqb, ltb, leb}
+use Rattle.edition.specs.Limits.{textBytes, userNames, constantCount, ereCount, instructionCount, operandDepth}
+use Rattle.grammar.specs.Read.{readEre}
+use Rattle.coding.specs.Codes.{nth, Named, a-constant, a-variable, an-ere, an-instruction, a-count, Code, codeOf, Operation, action, flow, Action, constant, get, set, field, set-field, drop, arithmetic, negate, to-number, negation, compare, join, matches, match, length-of, index, substr, print, Flow, end, jump, jump-if-false, next, exit}
+use Rattle.coding.specs.Image.{Constant, number, text, Instruction, Image, known}
+use Rattle.semantics.specs.Variables.{specials, assignable}
+use Rattle.semantics.specs.Moves.{Section, begin, each, finish, sectionOf, isEnd}
+
+abbrev pub all : {A : Type 0} → (A → Bool) → List A → Bool
+all f [] = true
+all f (a ∷ l) = f a && all f l
+
+-- each element with its number, the first of which is n
+abbrev pub allFrom : {A : Type 0} → (ℕ → A → Bool) → ℕ → List A → Bool
+allFrom f n [] = true
+allFrom f n (a ∷ l) = f n a && allFrom f (suc n) l
+
+abbrev pub isSome : {A : Type 0} → Option A → Bool
+isSome none = false
+isSome (some a) = true
+
+-- both or neither
+abbrev pub same : Bool → Bool → Bool
+same a b = cond a b (not b)
+
+module _ (i : Image) where
+  -- ---- sizes, and EREs
+
+  abbrev pub smallConstant : Constant → Bool
+  smallConstant (number n) = true
+  smallConstant (text l) = leb (length l) textBytes
+
+  abbrev pub eresRead : Bool
+  eresRead = all (λ l. isSome (readEre (i .edition) l)) (i .eres)
+
+  abbrev pub sizes : Bool
+  sizes =
+      leb (i .users) userNames
+      && (leb (length (i .constants)) constantCount && (all smallConstant (i .constants) && leb (length (i .eres)) ereCount))
+
+  module _ (s : Section) where
+    -- ---- one instruction
+
+    -- "every number named exists"; a count names nothing, and an instruction is judged as a successor
+    abbrev pub exists : Named → ℕ → Bool
+    exists a-constant n = ltb n (length (i .constants))
+    exists a-variable n = ltb n (length (specials (i .edition)) + i .users)
+    exists an-ere n = ltb n (length (i .eres))
+    exists an-instruction n = ltb n (length (sectionOf i s))
+    exists a-count n = true
+
+    abbrev pub allExist : List Named → List ℕ → Bool
+    allExist [] [] = true
+    allExist [] (n ∷ ns) = false
+    allExist (k ∷ ks) [] = false
+    allExist (k ∷ ks) (n ∷ ns) = exists k n && allExist ks ns
+
+    -- "depth 0 .. at 0, 30 and 31": a section, a record or the run is over there
+    abbrev pub leaves : Operation → Bool
+    leaves (action a) = false
+    leaves (flow end) = true
+    leaves (flow jump) = false
+    leaves (flow jump-if-false) = false
+    leaves (flow next) = true
+    leaves (flow exit) = true
+
+    -- where instruction n leads, in the section
+    abbrev pub successors : Operation → ℕ → List ℕ → List ℕ
+    successors (action a) n ns = suc n ∷ []
+    successors (flow end) n ns = []
+    successors (flow jump) n ns = ns
+    successors (flow jump-if-false) n ns = suc n ∷ ns
+    successors (flow next) n ns = []
+    successors (flow exit) n ns = []
+
+    abbrev pub depthIs : ℕ → Option Instruction → Bool
+    depthIs d none = false
+    depthIs d (some j) = eqb (j .depth) d
+
+    -- "print's n from 1; no set of 0, 1, 5, 6"
+    abbrev pub actionAllowed : Action → List ℕ → Bool
+    actionAllowed set ns = all (assignable (i .edition)) ns
+    actionAllowed print ns = all (leb 1) ns
+    actionAllowed constant ns = true
+    actionAllowed get ns = true
+    actionAllowed field ns = true
+    actionAllowed set-field ns = true
+    actionAllowed drop ns = true
+    actionAllowed (arithmetic o) ns = true
+    actionAllowed negate ns = true
+    actionAllowed to-number ns = true
+    actionAllowed negation ns = true
+    actionAllowed (compare o) ns = true
+    actionAllowed join ns = true
+    actionAllowed matches ns = true
+    actionAllowed match ns = true
+    actionAllowed length-of ns = true
+    actionAllowed index ns = true
+    actionAllowed substr ns = true
+
+    -- "30 only in the record section"
+    abbrev pub flowAllowed : Flow → Bool
+    flowAllowed end = true
+    flowAllowed jump = true
+    flowAllowed jump-if-false = true
+    flowAllowed next = inRecords s
+      where
+        inRecords : Section → Bool
+        inRecords begin = false
+        inRecords each = true
+        inRecords finish = false
+    flowAllowed exit = true
+
+    abbrev pub allowed : Operation → List ℕ → Bool
+    allowed (action a) ns = actionAllowed a ns
+    allowed (flow f) ns = flowAllowed f
+
+    -- the clauses on one instruction, by its code
+    unfoldable pub holdsFor : ℕ → Instruction → Code → Bool
+    holdsFor n j k =
+        let ns = j .named in
+        let d = j .depth in
+        allExist (k .names) ns
+        && (same (isEnd i (k .operation)) (eqb (suc n) (length (sectionOf i s)))
+        && ((not (eqb n 0) || eqb d 0)
+        && ((not (leaves (k .operation)) || eqb d 0)
+        && (leb d operandDepth
+        && (leb ((k .takes) ns) d
+        && (all (λ m. depthIs (d - (k .takes) ns + (k .leaves) ns) (nth (sectionOf i s) m)) (successors (k .operation) n ns)
+        && allowed (k .operation) ns))))))
+
+    abbrev pub byCode : ℕ → Instruction → Option Code → Bool
+    byCode n j none = false
+    byCode n j (some k) = holdsFor n j k
+
+    abbrev pub instructionChecks : ℕ → Instruction → Bool
+    instructionChecks n j = byCode n j (codeOf (i .edition) (j .code))
+
+    -- a section has its code 0, so it isn't empty
+    abbrev pub sectionChecks : Bool
+    sectionChecks =
+        leb 1 (length (sectionOf i s)) && (leb (length (sectionOf i s)) instructionCount && allFrom instructionChecks 0 (sectionOf i s))
+
+  unfoldable pub check : Bool
+  check = sizes && (eresRead && (sectionChecks begin && (sectionChecks each && sectionChecks finish)))

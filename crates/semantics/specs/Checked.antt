@@ -1,0 +1,64 @@
+-- The check as a statement: for every section and every instruction 01's clauses, in order; unreachable instructions too.
+use mathlib.Core.Path.{_≡_}
+use mathlib.Core.Bool.{true, false}
+use mathlib.Core.Logic.{_↔_}
+use mathlib.Core.List.{List, [], _∷_}
+use mathlib.Core.Option.{Option, some, none}
+use Prim.Native.Nat.{ℕ, suc, _+_, _-_, _≤_, _<_}
+use lib.ListN.{length, getD}
+use Rattle.edition.specs.Limits.{textBytes, userNames, constantCount, ereCount, instructionCount, operandDepth}
+use Rattle.pattern.specs.Tree.{Class, Ere}
+use Rattle.grammar.specs.Read.{readEre}
+use Rattle.coding.specs.Codes.{nth, Named, a-constant, a-variable, an-ere, an-instruction, a-count, Code, codeOf, action, flow, set, print, end, next, exit}
+use Rattle.coding.specs.Image.{Constant, number, text, Instruction, Image}
+use Rattle.semantics.specs.Variables.{specials, assignable}
+use Rattle.semantics.specs.Moves.{Section, each, sectionOf}
+use Rattle.semantics.specs.Check.{successors}
+
+module _ (i : Image) where
+  -- a number names something
+  abbrev pub Exists : Section → Named → ℕ → Type 0
+  Exists s a-constant n = n < length (i .constants)
+  Exists s a-variable n = n < length (specials (i .edition)) + i .users
+  Exists s an-ere n = n < length (i .eres)
+  Exists s an-instruction n = n < length (sectionOf i s)
+  Exists s a-count n = Unit
+
+  abbrev pub AllExist : Section → List Named → List ℕ → Type 0
+  AllExist s [] [] = Unit
+  AllExist s [] (n ∷ ns) = ⊥
+  AllExist s (k ∷ ks) [] = ⊥
+  AllExist s (k ∷ ks) (n ∷ ns) = (Exists s k n) × (AllExist s ks ns)
+
+  -- instruction n of a section
+  pub record Allowed (s : Section) (n : ℕ) (j : Instruction) : Type 0 where
+    pub row : Code
+    pub code : codeOf (i .edition) (j .code) ≡ some row
+    pub exist : AllExist s (row .names) (j .named)
+    pub last : (row .operation ≡ flow end) ↔ (suc n ≡ length (sectionOf i s))
+    pub start : n ≡ 0 → j .depth ≡ 0
+    pub at-end : row .operation ≡ flow end → j .depth ≡ 0
+    pub at-next : row .operation ≡ flow next → j .depth ≡ 0
+    pub at-exit : row .operation ≡ flow exit → j .depth ≡ 0
+    pub deep : j .depth ≤ operandDepth
+    pub enough : (row .takes) (j .named) ≤ j .depth
+    pub leads : (k : ℕ) → k < length (successors i s (row .operation) n (j .named))
+        → (d : Instruction) × (nth (sectionOf i s) (getD (successors i s (row .operation) n (j .named)) k 0) ≡ some d)
+        × (d .depth ≡ j .depth - (row .takes) (j .named) + (row .leaves) (j .named))
+    pub prints : row .operation ≡ action print → 1 ≤ getD (j .named) 0 0
+    pub sets : row .operation ≡ action set → assignable (i .edition) (getD (j .named) 0 0) ≡ true
+    pub nexts : row .operation ≡ flow next → s ≡ each
+
+  abbrev pub Short : Constant → Type 0
+  Short (number n) = Unit
+  Short (text l) = length l ≤ textBytes
+
+  pub record Checked : Type 0 where
+    pub users : i .users ≤ userNames
+    pub constants : length (i .constants) ≤ constantCount
+    pub texts : (n : ℕ) (a : Constant) → nth (i .constants) n ≡ some a → Short a
+    pub eres : length (i .eres) ≤ ereCount
+    pub reads : (n : ℕ) (l : List ℕ) → nth (i .eres) n ≡ some l → (e : Ere Class) × (readEre (i .edition) l ≡ some e)
+    pub some-code : (s : Section) → 1 ≤ length (sectionOf i s)
+    pub few : (s : Section) → length (sectionOf i s) ≤ instructionCount
+    pub each-one : (s : Section) (n : ℕ) (j : Instruction) → nth (sectionOf i s) n ≡ some j → Allowed s n j

@@ -1,0 +1,3 @@
+-- Values, and what the operations answer.
+pub mod Value
+pub mod Operations

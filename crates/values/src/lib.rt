@@ -1,0 +1,1 @@
+// Values and the operations on them. Definitions and theorems, no code.
