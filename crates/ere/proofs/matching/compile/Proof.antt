@@ -15,8 +15,6 @@ use borrow.Author.Needs.{needs}
 use Rattle.ere.proofs.matching.compile.Statement.{statement}
 use Rattle.ere.proofs.matching.compile.Tie as tie
 
--- `compile`: too long, not read, not read to the end, or a table that serves.
-
 returns : tie.Need-returns
 returns c = compiles-none (ere-long (c .before .before .before .args .edition .number) (c .before .before .before .args .ere .now) (c .if1 .taken))
 

@@ -3,15 +3,11 @@ use mathlib.Core.Path.{sym, ap, subst, _∙_}
 use borrow.Author.Tests.{not-true, not-false}
 use Rattle.automaton.specs.Find.{matchOf}
 use Rattle.automaton.specs.declared.search.Found.{Found}
-use Rattle.ere.specs.Answer.{matched, Compiles, Compiles}
+use Rattle.ere.specs.Answer.{matched, Compiles}
 use Rattle.ere.proofs.Serving.{searched-bad, searched-long, searched-found}
 use borrow.Author.Needs.{needs}
 use Rattle.ere.proofs.matching.search.Statement.{statement}
 use Rattle.ere.proofs.matching.search.Tie as tie
-
--- `search`: by what `compile` and `find_from` answer.
-
--- `search`: by what `compile` and `find_from` answer.
 
 slice-aggregate-compile : tie.Need-slice-aggregate-compile
 slice-aggregate-compile c = search needs

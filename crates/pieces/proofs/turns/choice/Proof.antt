@@ -7,8 +7,6 @@ use borrow.Author.Needs.{needs}
 use Rattle.pieces.proofs.turns.choice.Statement.{statement}
 use Rattle.pieces.proofs.turns.choice.Tie as tie
 
--- `choice`: by whether the sequence has a piece.
-
 refused-requires : tie.Need-refused-requires
 refused-requires c κs = search needs
 
