@@ -1,0 +1,2 @@
+-- Laws on the groups of a number.
+pub mod Groups

@@ -1,0 +1,2 @@
+-- What is taken off an image's bytes.
+pub mod Take
