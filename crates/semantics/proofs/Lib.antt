@@ -1,0 +1,4 @@
+-- Laws on the check and the run of an image.
+pub mod Tables
+pub mod Says
+pub mod Checks
