@@ -1,21 +1,19 @@
 -- The check is true exactly if its clauses hold.
 use mathlib.Core.Path.{_≡_, refl, sym, ap, subst, _∙_}
-use mathlib.Core.Bool.{Bool, true, false, true≢false, false≢true, not, _&&_}
+use mathlib.Core.Bool.{true, false≢true}
 use mathlib.Core.Logic.{_↔_, _⊎_, inl, inr}
 use mathlib.Core.List.{List, [], _∷_}
 use mathlib.Core.Option.{Option, some, none}
-use Prim.Native.Nat.{ℕ, zero, suc, _+_, _-_, _≤_, _<_}
+use Prim.Native.Nat.{ℕ, suc, _+_, _-_, _≤_, _<_}
 use native.Mathlib.Omega.{arith}
 use lib.ListN.{length, getD}
-use lib.Dec.{eqb, leb}
 use Rattle.edition.specs.Limits.{textBytes, userNames, constantCount, ereCount, instructionCount, operandDepth}
-use Rattle.pattern.specs.Tree.{Class, Ere}
 use Rattle.grammar.specs.Read.{readEre}
-use Rattle.coding.specs.Codes.{nth, Named, a-constant, a-variable, an-ere, an-instruction, a-count, Code, codeOf, Operation, action, flow, Action, constant, get, set, field, set-field, drop, arithmetic, negate, to-number, negation, compare, join, matches, match, length-of, index, substr, print, Flow, end, jump, jump-if-false, next, exit}
+use Rattle.coding.specs.Codes.{nth, Named, a-constant, a-variable, an-ere, an-instruction, a-count, Code, codeOf, Operation, action, flow, constant, get, set, field, set-field, drop, arithmetic, negate, to-number, negation, compare, join, matches, match, length-of, index, substr, print, end, jump, jump-if-false, next, exit}
 use Rattle.coding.specs.Image.{Constant, number, text, Instruction, Image}
 use Rattle.semantics.specs.Variables.{assignable}
 use Rattle.semantics.specs.Moves.{Section, begin, each, finish, sectionOf, isEnd}
-use Rattle.semantics.specs.Check.{all, exists, smallConstant, sizes, eresRead, allExist, leaves, successors, depthIs, flowAllowed, allowed, holdsFor, byCode, instructionChecks, sectionChecks, check}
+use Rattle.semantics.specs.Check.{exists, smallConstant, allExist, leaves, successors, depthIs, flowAllowed, allowed, holdsFor, byCode, instructionChecks, sectionChecks, check}
 use Rattle.semantics.specs.Checked.{Exists, AllExist, Allowed, Short, Checked}
 use Rattle.semantics.proofs.Tables.{got-one, none-some, rowOf, row-is}
 use Rattle.semantics.proofs.Says.{Says, restated, true-says, leb-says, ltb-says, eqb-says, and-then, and-says, same-says, if-says, isSome-says, all-says, all-places, numbered-says}

@@ -2,3 +2,5 @@
 pub mod Tables
 pub mod Says
 pub mod Checks
+pub mod Actions
+pub mod NeverStuck

@@ -5,7 +5,7 @@ use mathlib.Core.Option.{Option, some, none}
 use Prim.Native.Nat.{ℕ, zero, suc, _<_}
 use native.Mathlib.Omega.{arith}
 use lib.ListN.{length}
-use Rattle.coding.specs.Codes.{nth, Named, a-constant, a-variable, an-ere, an-instruction, Code, code, printing, codes, codeOf, Operation, action, flow, Action, constant, get, set, field, set-field, drop, arithmetic, negate, to-number, negation, compare, join, matches, match, length-of, index, substr, print, Flow, end, jump, jump-if-false, next, exit}
+use Rattle.coding.specs.Codes.{nth, a-constant, a-variable, an-ere, an-instruction, Code, code, printing, codes, codeOf, Operation, action, flow, constant, get, set, field, set-field, drop, arithmetic, negate, to-number, negation, compare, join, matches, match, length-of, index, substr, print, end, jump, jump-if-false, next, exit}
 
 -- what is there is one thing
 pub got-one : {A : Type 0} {o : Option A} {a b : A} → o ≡ some a → o ≡ some b → a ≡ b
