@@ -11,11 +11,12 @@ use Rattle.edition.specs.Limits.{textBytes, userNames, constantCount, ereCount,
 use Rattle.grammar.specs.Read.{readEre}
 use Rattle.coding.specs.Codes.{nth, Named, a-constant, a-variable, an-ere, an-instruction, a-count, Code, codeOf, Operation, action, flow, constant, get, set, field, set-field, drop, arithmetic, negate, to-number, negation, compare, join, matches, match, length-of, index, substr, print, end, jump, jump-if-false, next, exit}
 use Rattle.coding.specs.Image.{Constant, number, text, Instruction, Image}
+use Rattle.coding.proofs.Laws.{got-one, none-some}
 use Rattle.semantics.specs.Variables.{assignable}
 use Rattle.semantics.specs.Moves.{Section, begin, each, finish, sectionOf, isEnd}
 use Rattle.semantics.specs.Check.{exists, smallConstant, allExist, leaves, successors, depthIs, flowAllowed, allowed, holdsFor, byCode, instructionChecks, sectionChecks, check}
 use Rattle.semantics.specs.Checked.{Exists, AllExist, Allowed, Short, Checked}
-use Rattle.semantics.proofs.Tables.{got-one, none-some, rowOf, row-is}
+use Rattle.semantics.proofs.Tables.{rowOf, row-is}
 use Rattle.semantics.proofs.Says.{Says, restated, true-says, leb-says, ltb-says, eqb-says, and-then, and-says, same-says, if-says, isSome-says, all-says, all-places, numbered-says}
 
 -- ---- which clause of its own an operation has

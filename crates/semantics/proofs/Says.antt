@@ -10,8 +10,8 @@ use lib.ListN.{length, getD}
 use lib.Dec.{eqb, ltb, leb}
 use borrow.Author.Tests.{ltb-true, leb-true, eqb-true, lt-ltb, le-leb, eq-eqb}
 use Rattle.coding.specs.Codes.{nth}
+use Rattle.coding.proofs.Laws.{got-one, none-some}
 use Rattle.semantics.specs.Check.{all, allFrom, isSome, same}
-use Rattle.semantics.proofs.Tables.{got-one, none-some}
 
 abbrev pub Says : Bool → Type 0 → Type 0
 Says b P = (b ≡ true) ↔ P

@@ -1,19 +1,12 @@
 -- The table of codes has one row for each operation, so that a row is told from its operation; and laws on what stands in a list.
 use mathlib.Core.Path.{_≡_, refl}
 use mathlib.Core.List.{List, [], _∷_}
-use mathlib.Core.Option.{Option, some, none}
+use mathlib.Core.Option.{some}
 use Prim.Native.Nat.{ℕ, zero, suc, _<_}
 use native.Mathlib.Omega.{arith}
 use lib.ListN.{length}
 use Rattle.coding.specs.Codes.{nth, a-constant, a-variable, an-ere, an-instruction, Code, code, printing, codes, codeOf, Operation, action, flow, constant, get, set, field, set-field, drop, arithmetic, negate, to-number, negation, compare, join, matches, match, length-of, index, substr, print, end, jump, jump-if-false, next, exit}
-
--- what is there is one thing
-pub got-one : {A : Type 0} {o : Option A} {a b : A} → o ≡ some a → o ≡ some b → a ≡ b
-got-one p q = cc
-
--- nothing is there and something is: that is never so
-pub none-some : {A : Type 0} {a : A} → none ≡ some a → ⊥
-none-some h = let z : _≡_ {A = ℕ} 0 1 = cc in omega arith
+use Rattle.coding.proofs.Laws.{got-one, none-some}
 
 -- each element
 abbrev pub AllOf : {A : Type 0} → (A → Type 0) → List A → Type 0
