@@ -1,0 +1,280 @@
+-- The check is true exactly if its clauses hold.
+use mathlib.Core.Path.{_≡_, refl, sym, ap, subst, _∙_}
+use mathlib.Core.Bool.{true, false≢true}
+use mathlib.Core.Logic.{_↔_, _⊎_, inl, inr}
+use mathlib.Core.List.{List, [], _∷_}
+use mathlib.Core.Option.{Option, some, none}
+use Prim.Native.Nat.{ℕ, suc, _+_, _-_, _≤_, _<_}
+use native.Mathlib.Omega.{arith}
+use lib.ListN.{length, getD}
+use Rattle.edition.specs.Limits.{textBytes, userNames, constantCount, ereCount, instructionCount, operandDepth}
+use Rattle.grammar.specs.Read.{readEre}
+use Rattle.coding.specs.Codes.{nth, Named, a-constant, a-variable, an-ere, an-instruction, a-count, Code, codeOf, Operation, action, flow, constant, get, set, field, set-field, drop, arithmetic, negate, to-number, negation, compare, join, matches, match, length-of, index, substr, print, end, jump, jump-if-false, next, exit}
+use Rattle.coding.specs.Image.{Constant, number, text, Instruction, Image}
+use Rattle.coding.proofs.Laws.{got-one, none-some}
+use Rattle.semantics.specs.Variables.{assignable}
+use Rattle.semantics.specs.Moves.{Section, begin, each, finish, sectionOf, isEnd}
+use Rattle.semantics.specs.Check.{exists, smallConstant, allExist, leaves, successors, depthIs, flowAllowed, allowed, holdsFor, byCode, instructionChecks, sectionChecks, check}
+use Rattle.semantics.specs.Checked.{Exists, AllExist, Allowed, Short, Checked}
+use Rattle.semantics.proofs.Tables.{rowOf, row-is}
+use Rattle.semantics.proofs.Says.{Says, restated, true-says, leb-says, ltb-says, eqb-says, and-then, and-says, same-says, if-says, isSome-says, all-says, all-places, numbered-says}
+
+-- ---- which clause of its own an operation has
+
+-- print's, set's, next's, or none
+abbrev clauseOf : Operation → ℕ
+clauseOf (action print) = 1
+clauseOf (action set) = 2
+clauseOf (flow next) = 3
+clauseOf (action constant) = 0
+clauseOf (action get) = 0
+clauseOf (action field) = 0
+clauseOf (action set-field) = 0
+clauseOf (action drop) = 0
+clauseOf (action (arithmetic o)) = 0
+clauseOf (action negate) = 0
+clauseOf (action to-number) = 0
+clauseOf (action negation) = 0
+clauseOf (action (compare o)) = 0
+clauseOf (action join) = 0
+clauseOf (action matches) = 0
+clauseOf (action match) = 0
+clauseOf (action length-of) = 0
+clauseOf (action index) = 0
+clauseOf (action substr) = 0
+clauseOf (flow end) = 0
+clauseOf (flow jump) = 0
+clauseOf (flow jump-if-false) = 0
+clauseOf (flow exit) = 0
+
+-- at which operations the depth is 0: end, next, exit
+abbrev Over : Operation → Type 0
+Over o = (o ≡ flow end) ⊎ ((o ≡ flow next) ⊎ (o ≡ flow exit))
+
+module _ (i : Image) where
+  small-says : (a : Constant) → Says (smallConstant i a) (Short i a)
+  small-says (number n) = (λ h. tt, λ h. refl)
+  small-says (text l) = leb-says (length l) textBytes
+
+  isEnd-says : (o : Operation) → Says (isEnd i o) (o ≡ flow end)
+  isEnd-says o = (is o, λ e. ap (isEnd i) e)
+    where
+      is : (o : Operation) → isEnd i o ≡ true → o ≡ flow end
+      is (action a) h = absurd (false≢true h)
+      is (flow end) h = refl
+      is (flow jump) h = absurd (false≢true h)
+      is (flow jump-if-false) h = absurd (false≢true h)
+      is (flow next) h = absurd (false≢true h)
+      is (flow exit) h = absurd (false≢true h)
+
+  module _ (s : Section) where
+    exists-says : (k : Named) (n : ℕ) → Says (exists i s k n) (Exists i s k n)
+    exists-says a-constant n = ltb-says _ _
+    exists-says a-variable n = ltb-says _ _
+    exists-says an-ere n = ltb-says _ _
+    exists-says an-instruction n = ltb-says _ _
+    exists-says a-count n = (λ h. tt, λ h. refl)
+
+    allExist-says : (ks : List Named) (ns : List ℕ) → Says (allExist i s ks ns) (AllExist i s ks ns)
+    allExist-says [] [] = (λ h. tt, λ h. refl)
+    allExist-says [] (n ∷ ns) = (λ h. false≢true h, λ h. absurd h)
+    allExist-says (k ∷ ks) [] = (λ h. false≢true h, λ h. absurd h)
+    allExist-says (k ∷ ks) (n ∷ ns) = and-says (exists-says k n) (allExist-says ks ns)
+
+    -- a code that names one thing has one number, and that thing exists
+    pub single : (k : Named) (ns : List ℕ) → AllExist i s (k ∷ []) ns → (n : ℕ) × (ns ≡ n ∷ []) × (Exists i s k n)
+    single k [] x = absurd x
+    single k (n ∷ []) x = (n, refl, x .0)
+    single k (n ∷ m ∷ l) x = absurd (x .1)
+
+    leaves-says : (o : Operation) → Says (leaves i s o) (Over o)
+    leaves-says o = (is o, back)
+      where
+        is : (o : Operation) → leaves i s o ≡ true → Over o
+        is (action a) h = absurd (false≢true h)
+        is (flow end) h = inl refl
+        is (flow jump) h = absurd (false≢true h)
+        is (flow jump-if-false) h = absurd (false≢true h)
+        is (flow next) h = inr (inl refl)
+        is (flow exit) h = inr (inr refl)
+
+        back : Over o → leaves i s o ≡ true
+        back (inl e) = ap (leaves i s) e
+        back (inr (inl e)) = ap (leaves i s) e
+        back (inr (inr e)) = ap (leaves i s) e
+
+    depthIs-says : (d : ℕ) (o : Option Instruction) → Says (depthIs i s d o) ((j : Instruction) × (o ≡ some j) × (j .depth ≡ d))
+    depthIs-says d none = (λ h. absurd (false≢true h), λ x. absurd (none-some (x .1)))
+    depthIs-says d (some j) = restated (eqb-says (j .depth) d) (λ e. (j, refl, e)) (λ x. ap (λ (j : Instruction). j .depth) (got-one refl (x .1)) ∙ x .2)
+
+    -- ---- the clauses of print, set and next
+
+    abbrev Own : Operation → List ℕ → Type 0
+    Own o ns = (o ≡ action print → 1 ≤ getD ns 0 0) × (o ≡ action set → assignable (i .edition) (getD ns 0 0) ≡ true) × (o ≡ flow next → s ≡ each)
+
+    no-clause : (o : Operation) (ns : List ℕ) → clauseOf o ≡ 0 → Says true (Own o ns)
+    no-clause o ns z = (
+      λ h. (
+        λ e. absurd (omega (arith, z, ap clauseOf e)),
+        λ e. absurd (omega (arith, z, ap clauseOf e)),
+        λ e. absurd (omega (arith, z, ap clauseOf e)),
+      ),
+      λ h. refl,
+    )
+
+    print-says : (ns : List ℕ) → AllExist i s (a-count ∷ []) ns → Says (allowed i s (action print) ns) (Own (action print) ns)
+    print-says ns x =
+        let r = single a-count ns x in
+        rw (r .1)
+        (restated (and-says (leb-says 1 (r .0)) true-says)
+        (λ p. (λ e. p .0, λ e. absurd (omega (arith, ap clauseOf e)), λ e. absurd (omega (arith, ap clauseOf e)))) (λ p. (p .0 refl, tt)))
+
+    set-says : (ns : List ℕ) → AllExist i s (a-variable ∷ []) ns → Says (allowed i s (action set) ns) (Own (action set) ns)
+    set-says ns x =
+        let r = single a-variable ns x in
+        rw (r .1)
+        (restated (and-says {P = assignable (i .edition) (r .0) ≡ true} (λ h. h, λ h. h) true-says)
+        (λ p. (λ e. absurd (omega (arith, ap clauseOf e)), λ e. p .0, λ e. absurd (omega (arith, ap clauseOf e)))) (λ p. (p .1 refl, tt)))
+
+  inRecords-says : (s : Section) → Says (flowAllowed i s next) (s ≡ each)
+  inRecords-says s = (is s, λ e. ap (λ (s : Section). flowAllowed i s next) e)
+    where
+      is : (s : Section) → flowAllowed i s next ≡ true → s ≡ each
+      is begin h = absurd (false≢true h)
+      is each h = refl
+      is finish h = absurd (false≢true h)
+
+  module _ (s : Section) where
+    allowed-says : (o : Operation) (ns : List ℕ) → AllExist i s (rowOf o .names) ns → Says (allowed i s o ns) (Own s o ns)
+    allowed-says (action print) ns x = print-says s ns x
+    allowed-says (action set) ns x = set-says s ns x
+    allowed-says (flow next) ns x =
+        restated (inRecords-says s)
+        (λ p. (λ e. absurd (omega (arith, ap clauseOf e)), λ e. absurd (omega (arith, ap clauseOf e)), λ e. p)) (λ p. p .2 refl)
+    allowed-says (action constant) ns x = no-clause s _ ns refl
+    allowed-says (action get) ns x = no-clause s _ ns refl
+    allowed-says (action field) ns x = no-clause s _ ns refl
+    allowed-says (action set-field) ns x = no-clause s _ ns refl
+    allowed-says (action drop) ns x = no-clause s _ ns refl
+    allowed-says (action (arithmetic o)) ns x = no-clause s _ ns refl
+    allowed-says (action negate) ns x = no-clause s _ ns refl
+    allowed-says (action to-number) ns x = no-clause s _ ns refl
+    allowed-says (action negation) ns x = no-clause s _ ns refl
+    allowed-says (action (compare o)) ns x = no-clause s _ ns refl
+    allowed-says (action join) ns x = no-clause s _ ns refl
+    allowed-says (action matches) ns x = no-clause s _ ns refl
+    allowed-says (action match) ns x = no-clause s _ ns refl
+    allowed-says (action length-of) ns x = no-clause s _ ns refl
+    allowed-says (action index) ns x = no-clause s _ ns refl
+    allowed-says (action substr) ns x = no-clause s _ ns refl
+    allowed-says (flow end) ns x = no-clause s _ ns refl
+    allowed-says (flow jump) ns x = no-clause s _ ns refl
+    allowed-says (flow jump-if-false) ns x = no-clause s _ ns refl
+    allowed-says (flow exit) ns x = no-clause s _ ns refl
+
+    -- ---- one instruction
+
+    abbrev Leads : ℕ → Instruction → Code → Type 0
+    Leads n j k =
+        (m : ℕ) → m < length (successors i s (k .operation) n (j .named))
+        → (d : Instruction) × (nth (sectionOf i s) (getD (successors i s (k .operation) n (j .named)) m 0) ≡ some d)
+        × (d .depth ≡ j .depth - (k .takes) (j .named) + (k .leaves) (j .named))
+
+    -- the clauses in the check's order
+    abbrev Holds : ℕ → Instruction → Code → Type 0
+    Holds n j k =
+        (AllExist i s (k .names) (j .named))
+        × (((k .operation ≡ flow end) ↔ (suc n ≡ length (sectionOf i s)))
+        × ((n ≡ 0 → j .depth ≡ 0)
+        × ((Over (k .operation) → j .depth ≡ 0)
+        × ((j .depth ≤ operandDepth) × (((k .takes) (j .named) ≤ j .depth) × ((Leads n j k) × (Own s (k .operation) (j .named))))))))
+
+    holds-says : (n : ℕ) (j : Instruction) (k : Code) → k ≡ rowOf (k .operation) → Says (holdsFor i s n j k) (Holds n j k)
+    unfolding holdsFor
+    holds-says n j k e =
+        and-then (allExist-says s (k .names) (j .named)) (λ x.
+        and-says (same-says (isEnd-says (k .operation)) (eqb-says (suc n) (length (sectionOf i s))))
+        (and-says (if-says (eqb-says n 0) (eqb-says (j .depth) 0))
+        (and-says (if-says (leaves-says s (k .operation)) (eqb-says (j .depth) 0))
+        (and-says (leb-says (j .depth) operandDepth)
+        (and-says (leb-says ((k .takes) (j .named)) (j .depth))
+        (and-says (all-places (λ (m : ℕ). depthIs-says s _ (nth (sectionOf i s) m)) 0 (successors i s (k .operation) n (j .named)))
+        (allowed-says (k .operation) (j .named) (rw e at x))))))))
+
+    allowed-holds : (n : ℕ) (j : Instruction) (a : Allowed i s n j) → Holds n j (a .row)
+    allowed-holds n j a =
+        (a .exist, (a .last, (a .start, (over, (a .deep, (a .enough, (a .leads, (a .prints, a .sets, a .nexts))))))))
+      where
+        over : Over (a .row .operation) → j .depth ≡ 0
+        over (inl e) = a .at-end e
+        over (inr (inl e)) = a .at-next e
+        over (inr (inr e)) = a .at-exit e
+
+    instruction-says : (n : ℕ) (j : Instruction) → Says (instructionChecks i s n j) (Allowed i s n j)
+    instruction-says n j = by (codeOf (i .edition) (j .code)) refl
+      where
+        by : (o : Option Code) → codeOf (i .edition) (j .code) ≡ o → Says (byCode i s n j o) (Allowed i s n j)
+        by none e = (λ h. absurd (false≢true h), λ a. absurd (none-some (sym e ∙ a .code)))
+        by (some k) e =
+            restated (holds-says n j k (row-is (i .edition) (j .code) k e))
+            (λ h. record {
+              row = k;
+              code = e;
+              exist = h .0;
+              last = h .1 .0;
+              start = h .1 .1 .0;
+              at-end = λ q. h .1 .1 .1 .0 (inl q);
+              at-next = λ q. h .1 .1 .1 .0 (inr (inl q));
+              at-exit = λ q. h .1 .1 .1 .0 (inr (inr q));
+              deep = h .1 .1 .1 .1 .0;
+              enough = h .1 .1 .1 .1 .1 .0;
+              leads = h .1 .1 .1 .1 .1 .1 .0;
+              prints = h .1 .1 .1 .1 .1 .1 .1 .0;
+              sets = h .1 .1 .1 .1 .1 .1 .1 .1;
+              nexts = h .1 .1 .1 .1 .1 .1 .1 .2;
+            }) (λ a. subst (λ (k : Code). Holds n j k) (got-one (a .code) e) (allowed-holds n j a))
+
+    -- ---- a section
+
+    abbrev Section-holds : Type 0
+    Section-holds =
+        (1 ≤ length (sectionOf i s))
+        × ((length (sectionOf i s) ≤ instructionCount) × ((n : ℕ) (j : Instruction) → nth (sectionOf i s) n ≡ some j → Allowed i s n j))
+
+    section-says : Says (sectionChecks i s) Section-holds
+    section-says =
+        and-says (leb-says 1 (length (sectionOf i s)))
+        (and-says (leb-says (length (sectionOf i s)) instructionCount) (numbered-says instruction-says (sectionOf i s)))
+
+  -- ---- the image
+
+  every-section : (Section-holds begin) × ((Section-holds each) × (Section-holds finish)) → (s : Section) → Section-holds s
+  every-section h begin = h .0
+  every-section h each = h .1 .0
+  every-section h finish = h .1 .1
+
+  -- the check of an image is true exactly if 01's clauses hold
+  pub check-exactly : (check i ≡ true) ↔ Checked i
+  unfolding check
+  check-exactly =
+      restated
+      (and-says (and-says (leb-says (i .users) userNames) (and-says (leb-says (length (i .constants)) constantCount)
+      (and-says (all-says small-says (i .constants)) (leb-says (length (i .eres)) ereCount))))
+      (and-says (all-says (λ (l : List ℕ). isSome-says (readEre (i .edition) l)) (i .eres))
+      (and-says (section-says begin) (and-says (section-says each) (section-says finish)))))
+      (λ h. record {
+        users = h .0 .0;
+        constants = h .0 .1 .0;
+        texts = h .0 .1 .1 .0;
+        eres = h .0 .1 .1 .1;
+        reads = h .1 .0;
+        some-code = λ s. every-section (h .1 .1) s .0;
+        few = λ s. every-section (h .1 .1) s .1 .0;
+        each-one = λ s. every-section (h .1 .1) s .1 .1;
+      }) (λ c. (
+        (c .users, (c .constants, (c .texts, c .eres))),
+        (c .reads, (section c begin, (section c each, section c finish))),
+      ))
+    where
+      section : Checked i → (s : Section) → Section-holds s
+      section c s = (c .some-code s, (c .few s, c .each-one s))

@@ -1,0 +1,6 @@
+-- Laws on the check and the run of an image.
+pub mod Tables
+pub mod Says
+pub mod Checks
+pub mod Actions
+pub mod NeverStuck
