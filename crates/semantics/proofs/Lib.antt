@@ -1,0 +1,2 @@
+-- Laws on the check and the run of an image.
+pub mod Budget
