@@ -4,3 +4,5 @@ pub mod Says
 pub mod Checks
 pub mod Actions
 pub mod NeverStuck
+pub mod Budget
+pub mod ImageSizes
