@@ -1,0 +1,3 @@
+-- Laws of the run of an image.
+pub mod Walks
+pub mod Frames
