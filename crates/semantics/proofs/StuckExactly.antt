@@ -1,6 +1,6 @@
 -- Document 01, "Running": a run is stuck exactly in the cases that are named, whatever the image.
 use mathlib.Core.Path.{_≡_, refl, ap, sym, subst, _∙_}
-use mathlib.Core.Bool.{Bool, true, false, true≢false, cond, _&&_}
+use mathlib.Core.Bool.{Bool, true, false, true≢false, cond}
 use mathlib.Core.Logic.{_⊎_, inl, inr, ⊎-elim, _↔_}
 use mathlib.Core.List.{List, [], _∷_, reverse}
 use mathlib.Core.Option.{Option, some, none}
@@ -15,8 +15,8 @@ use Rattle.coding.specs.Image.{Constant, Instruction, Image}
 use Rattle.coding.proofs.Laws.{none-some}
 use Rattle.values.specs.Value.{Value, Result, gives, stops, truthOf}
 use Rattle.semantics.specs.Variables.{assignable}
-use Rattle.semantics.specs.World.{World, valueAt, withVariable, readRecord}
-use Rattle.semantics.specs.Operations.{Effect, effect, constantAt, pushed, setVariable, byEre, ereAt, matchFound, matchMarked, printValues}
+use Rattle.semantics.specs.World.{World, valueAt, readRecord}
+use Rattle.semantics.specs.Operations.{Effect, constantAt, pushed, setVariable, byEre, ereAt, matchFound, matchMarked, printValues}
 use Rattle.semantics.specs.Moves.{Section, begin, each, finish, Place, at, between, Config, Move, goes, finishes, stops-at, stuck, sectionOf, unary, applied, went, inFinish, inEach, effected, branched, orStuck, flowed, performed, withOperands, withNumbers, byCode, byInstruction, silent, recordRead, fromBetween, fromPlace, move}
 use Rattle.semantics.specs.Stuck.{There, Ready, Stuck, no-instruction, no-code, no-number, no-operand, no-constant, no-variable, no-variable-to-set, not-assignable, no-ere, unread-ere, print-nothing, next-elsewhere}
 use Rattle.semantics.proofs.Walks.{cond-all, unary-all}
@@ -47,24 +47,23 @@ constant-none (some k) h = absurd (some-none h)
 
 -- a variable that there isn't can't be set, and one that can't be assigned can't; every other one can
 set-missing : (edition v : ℕ) (a : Value) (w : World) → length (w .variables) ≤ v → setVariable edition v a w ≡ none
-set-missing edition v a w h = by (assignable edition v)
+set-missing edition v a w h = by (assignable edition v) refl
   where
-    by : (x : Bool) → cond (x && ltb v (length (w .variables))) (some (gives (effect (a ∷ []) (withVariable edition w v a)))) none ≡ none
-    by true = rw (le-ltb v (length (w .variables)) h)
-    by false = refl
+    by : (x : Bool) → assignable edition v ≡ x → setVariable edition v a w ≡ none
+    by true e = rw (e, le-ltb v (length (w .variables)) h)
+    by false e = rw e
 
 set-fixed : (edition v : ℕ) (a : Value) (w : World) → assignable edition v ≡ false → setVariable edition v a w ≡ none
 set-fixed edition v a w h = rw h
 
 set-none : (edition v : ℕ) (a : Value) (w : World) → setVariable edition v a w ≡ none → (length (w .variables) ≤ v) ⊎ (assignable edition v ≡ false)
-set-none edition v a w h = by (assignable edition v) refl (ltb v (length (w .variables))) refl h
+set-none edition v a w h = by (assignable edition v) refl (ltb v (length (w .variables))) refl
   where
     by : (x : Bool) → assignable edition v ≡ x → (y : Bool) → ltb v (length (w .variables)) ≡ y
-        → cond (x && y) (some (gives (effect (a ∷ []) (withVariable edition w v a)))) none ≡ none
         → (length (w .variables) ≤ v) ⊎ (assignable edition v ≡ false)
-    by true e true f h = absurd (some-none h)
-    by true e false f h = inl (ltb-false v (length (w .variables)) f)
-    by false e y f h = inr e
+    by true e true f = absurd (some-none (rw (e, f) at h))
+    by true e false f = inl (ltb-false v (length (w .variables)) f)
+    by false e y f = inr e
 
 ere-none : (edition : ℕ) (f : World → Match → Result Effect) (x : Option (Ere Class)) (a : Value) (w : World) → byEre edition f x a w ≡ none → x ≡ none
 ere-none edition f none a w h = refl
@@ -154,7 +153,7 @@ module _ (i : Image) (c : Config) where
   stuck-move (not-assignable {v} r e n h) = names-stuck r set v e n (λ vs. unary-none vs (λ a. set-fixed (i .edition) v a (c .world) h))
   stuck-move (no-ere {v} r e n h) = ere-stuck r v e n (ap (ereAt (i .edition)) h)
   stuck-move (unread-ere {v} r e n g h) = ere-stuck r v e n (ap (ereAt (i .edition)) g ∙ h)
-  stuck-move (print-nothing {j} r e z) = none-stuck r print e (ap (λ (m : ℕ). applied i print (j .named) (take m (c .control .operands)) (c .world)) z)
+  stuck-move (print-nothing r e z) = none-stuck r print e (rw z)
   stuck-move (next-elsewhere r e n) = next-stuck r e n
 
   -- ---- where the move has no rule, the case is named
