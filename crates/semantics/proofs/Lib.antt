@@ -6,3 +6,8 @@ pub mod Actions
 pub mod NeverStuck
 pub mod Budget
 pub mod ImageSizes
+pub mod Walks
+pub mod Frames
+pub mod Outcomes
+pub mod Shapes
+pub mod StuckExactly
