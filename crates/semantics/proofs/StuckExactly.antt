@@ -163,8 +163,8 @@ module _ (i : Image) (c : Config) where
     Why x = x ≡ none → Stuck i c
 
     -- the ERE is missing or doesn't read
-    ere-why : (v : ℕ) → (k .operation ≡ action matches) ⊎ (k .operation ≡ action match) → j .named ≡ v ∷ [] → (x : Option (List ℕ)) → nth (i .eres) v ≡ x
-        → ereAt (i .edition) x ≡ none → Stuck i c
+    ere-why : (v : ℕ) → (k .operation ≡ action matches) ⊎ (k .operation ≡ action match) → j .named ≡ v ∷ [] → (x : Option (List ℕ))
+        → nth (i .eres) v ≡ x → ereAt (i .edition) x ≡ none → Stuck i c
     ere-why v e n none g h = no-ere r e n g
     ere-why v e n (some l) g h = unread-ere r e n g h
 
@@ -173,7 +173,8 @@ module _ (i : Image) (c : Config) where
         → applied i a ns vs (c .world) ≡ none → Stuck i c
     unfolding Why
     action-why constant e ns q l vs m t =
-        one-total Why ns l (λ v p h. no-constant r e (q ∙ p) (constant-none (nth (i .constants) v) (pushed-none (c .world) (constantAt (nth (i .constants) v)) h)))
+        one-total Why ns l (λ v p h.
+        no-constant r e (q ∙ p) (constant-none (nth (i .constants) v) (pushed-none (c .world) (constantAt (nth (i .constants) v)) h)))
     action-why get e ns q l vs m t = one-total Why ns l (λ v p h. no-variable r e (q ∙ p) (pushed-none (c .world) (valueAt (i .edition) (c .world) v) h))
     action-why set e ns q l vs m t =
         one-total Why ns l (λ v p.
