@@ -1,2 +1,3 @@
 -- What is taken off an image's bytes.
 pub mod Take
+pub mod Walk
