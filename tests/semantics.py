@@ -227,6 +227,7 @@ PROGRAMS = [
     '{ print $1 - $2, $1 * $2 }', '{ print ($1 < $2), ($1 == $2), ($1 >= $2) }', '{ print $1 $2 }', 'BEGIN { while (i < 3) { i = i + 1; print i } }', '{ $(NF + 2) = 7; print }',
     '{ print $129 }', '{ print $(0 - 1) }', '{ print "9007199254740992" + $1 }', '{ OFS = "-"; $1 = $1; print }', 'BEGIN { ORS = ""; print "a", "b" }', '{ FS = "" }', '{ FS = "(" } ',
     '{ x = $1; print x == 0, x == "0" }', '{ print $1 == $9 }', 'BEGIN { print x, x + 0, x == "", x == 0 }', '{ print $1 && $2, $1 || $2 }', '!($1 ~ /^a$/)', '{}', 'END {}', 'BEGIN {}',
+    '{ print +$1 }', '{ print ($1 <= $2), ($1 != $2), ($1 > $2) }', '{ if ($1 ~ /b/) next; else print }', '{ if ($1) print "t"; else print "f" }',
 ]
 
 
@@ -249,8 +250,14 @@ def long_lines():
     yield '{ $128 = 1; $1 = $0; print NF }', b'a'
 
 
+# what the runs have shown: codes of their images, and outcomes
+SHOWN = set()
+
+
 def run_case(image, text, room, budget):
     o, steps, records, output = ref.run(image, text, room, budget)
+    SHOWN.add('outcome %d' % o)
+    SHOWN.update('code %d' % i[0] for section in ref._parse_image(image)[0][3] for i in section)
     return ('answerOf (run %s %d %s %d)' % (image_value(ref._parse_image(image)[0]), budget, numbers(text), room),
             'some ' + record(outcome=str(o), steps=str(steps), records=str(records), output=numbers(output)))
 
@@ -274,6 +281,9 @@ def runs(r, count):
     for made in range(count):
         image = translated(PROGRAMS[made % len(PROGRAMS)])
         yield run_case(image, lines(r), r.choice([1000, 1000, 1000, 3, 0]), r.choice([1000, 1000, r.randrange(40)]))
+    missing = [name for name in ['code %d' % c for c in range(32)] + ['outcome %d' % o for o in [0] + list(range(10, 19))] if name not in SHOWN]
+    if missing:
+        raise SystemExit('semantics.py: no run has ' + ', '.join(missing))
 
 
 # ---- the checker
