@@ -237,6 +237,11 @@ def lines(r):
     return text + r.choice([b'', b'\n'])
 
 
+# each stop of a run but those of long lines, in an output room of 5 bytes
+STOPS = [('{ print "9007199254740992" + $1 }', b'1'), ('{ print $1 + 1 }', b'1.5'), ('{ print $1 / $2 }', b'1 2'), ('{ print $1 / $2 }', b'1 0'), ('{ print $1 % $2 }', b'1 0'),
+         ('{ print $129 }', b'a'), ('{ print $(0 - 1) }', b'a'), ('{ print "abcdef" }', b'a'), ('{ FS = "" }', b'a\nb'), ('{ FS = "(("; $0 = "a" }', b'a')]
+
+
 def long_lines():
     """Programs and lines at the sizes: records of 512 and 513 bytes, texts that grow past 512, 128 and 129 fields."""
     for n in (512, 513):
@@ -274,6 +279,8 @@ def runs(r, count):
     """Programs, lines, output rooms and budgets: the run's answer."""
     for program, text in long_lines():
         yield run_case(translated(program), text, 1000, 1000)
+    for program, text in STOPS:
+        yield run_case(translated(program), text, 5, 1000)
     for program, text in (('NR == 2 { exit } { print } END { print NR }', b'a\nb\nc\n'), ('{ $2 = x; FS = "" }', b'1 2\n3'), ('END { print }', b'')):
         image = translated(program)
         for budget in range(ref.run(image, text, 1000, 1000)[1] + 2):
