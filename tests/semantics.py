@@ -63,29 +63,30 @@ def image_value(parts):
                   eres=listed(numbers(e) for e in eres), begins=begins, records=records, ends=ends)
 
 
+def reading(source, data, outcome, image):
+    """What bytes or words are read as: the case, and the image's value, or None if they are refused. The image's own bytes tell the value."""
+    left = 'readImage %s %s' % (source, numbers(data))
+    value = None if outcome else image_value(ref._parse_image(image)[0])
+    return (left, 'some ' + value if value else 'none'), value
+
+
 def from_bytes(image):
     """What an image's bytes are read as; and if they are read, the content and the bytes of that."""
     outcome, content = ref.read_image(image)
-    left = 'readImage fromBytes ' + numbers(image)
-    if outcome != 0:
-        yield left, 'none'
-        return
-    value = image_value(ref._parse_image(image)[0])
-    yield left, 'some ' + value
-    yield 'contentOf ' + value, numbers(content)
-    yield from from_words(content)
+    case, value = reading('fromBytes', image, outcome, image)
+    yield case
+    if value:
+        yield 'contentOf ' + value, numbers(content)
+        yield from from_words(content)
 
 
 def from_words(content):
     """What content words are read as; and if they are read, the bytes of that."""
     outcome, image = ref.write_image(content)
-    left = 'readImage fromWords ' + numbers(content)
-    if outcome != 0:
-        yield left, 'none'
-        return
-    value = image_value(ref._parse_image(image)[0])
-    yield left, 'some ' + value
-    yield 'bytesOf ' + value, numbers(image)
+    case, value = reading('fromWords', content, outcome, image)
+    yield case
+    if value:
+        yield 'bytesOf ' + value, numbers(image)
 
 
 EMPTY = bytes([1, 0, 0, 0, 0, 0, 0])
