@@ -18,7 +18,7 @@ use Rattle.coding.proofs.Takes.{Takes, same, nothing-takes, then-takes,
 use Rattle.coding.proofs.Sources.{Agrees}
 
 -- a list of bytes, each as it is
-all-bytes : (l : List ℕ) → all (λ b. b ∷ []) l ≡ l
+pub all-bytes : (l : List ℕ) → all (λ b. b ∷ []) l ≡ l
 unfolding all
 all-bytes [] = refl
 all-bytes (b ∷ l) = rw (all-bytes l)

@@ -2,6 +2,7 @@
 pub mod Laws
 pub mod Numbers
 pub mod Takes
+pub mod Many
 pub mod Sources
 pub mod Images
 pub mod Consequences

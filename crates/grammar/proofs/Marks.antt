@@ -13,11 +13,11 @@ use Rattle.grammar.specs.Bytes.{oneOf, marks, Escape, lookup}
 use Rattle.grammar.proofs.Laws.{clash, and-true}
 
 -- a test that passes at each number below n
-all : (ℕ → Bool) → ℕ → Bool
+unfoldable pub all : (ℕ → Bool) → ℕ → Bool
 all f zero = true
 all f (suc n) = f n && all f n
 
-all-at : (f : ℕ → Bool) (n : ℕ) → all f n ≡ true → (k : ℕ) → k < n → f k ≡ true
+pub all-at : (f : ℕ → Bool) (n : ℕ) → all f n ≡ true → (k : ℕ) → k < n → f k ≡ true
 unfolding all
 all-at f zero h k l = absurd (omega arith)
 all-at f (suc n) h k l = go (eqb k n) refl (all-at f n (and-true (f n) (all f n) h .1) k)

@@ -1,0 +1,2 @@
+-- The table of codes, as numbers.
+pub mod Rows
