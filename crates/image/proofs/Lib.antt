@@ -1,5 +1,5 @@
--- Laws on the groups of a number.
-pub mod Groups
-pub mod Words
-pub mod Walking
-pub mod Constants
+-- Laws on passes, and on what reader and writer answer.
+pub mod Stage
+pub mod Turned
+pub mod Ended
+pub mod Copies

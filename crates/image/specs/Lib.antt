@@ -1,3 +1,4 @@
--- What is taken off an image's bytes.
-pub mod Take
-pub mod Walk
+-- The meaning of the reader and the writer, and of a pass.
+pub mod Laid
+pub mod Pass
+pub mod Copy

@@ -1,11 +1,10 @@
-// Images: their numbers, taken off their bytes.
-mod numbers;
-mod walk;
+// Images: reading one to its content words, and writing one from them.
+mod copied;
+mod passes;
+mod reading;
+mod writing;
 
-pub use numbers::Taken;
-pub use numbers::take_number;
-pub use walk::Walked;
-pub use walk::bytes;
-pub use walk::constant;
-pub use walk::number;
-pub use walk::text;
+pub use copied::Copied;
+pub use reading::is_image;
+pub use reading::read;
+pub use writing::write;
