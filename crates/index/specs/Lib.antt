@@ -1,0 +1,3 @@
+-- What stands where in an image's bytes, and an index of it.
+pub mod Stands
+pub mod Lists
