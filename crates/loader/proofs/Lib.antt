@@ -1,0 +1,2 @@
+-- Laws of the walk from list to list.
+pub mod Walking
