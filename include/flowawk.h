@@ -49,6 +49,31 @@ uint64_t flowawk_split(const uint8_t *record, size_t record_length, const uint8_
  */
 uint64_t flowawk_field(const uint8_t *record, size_t record_length, const uint8_t *fs, size_t fs_length, uint64_t k, uint64_t *start, uint64_t *length);
 
+/*
+ * An image's content: its numbers and text bytes in order, a word each.
+ *
+ * Outcome 8 if the bytes are no image's: a number that is longer than needed, over 2^53 or cut off, an unknown edition, kind or code, a list that is cut off, or bytes
+ * behind the end. Else 7 if the content has more than content_words words. Else 0, and the content stands at the front of the room.
+ *
+ * *written is stored on every call: the words of the content, 0 with outcomes 8 and 7. The words behind them, and with outcomes 8 and 7 all of them, are as they were.
+ */
+uint64_t flowawk_read(const uint8_t *image, size_t image_length, uint64_t *content, size_t content_words, uint64_t *written);
+
+/*
+ * An image, from its content.
+ *
+ * Outcome 8 if `flowawk_read` gives these words for no image. Else 7 if the image has more than image_length bytes. Else 0, and the image stands at the front of the
+ * room. Reading it gives the same words again, and writing what was read gives the same bytes.
+ *
+ * *written is stored on every call: the bytes of the image, 0 with outcomes 8 and 7. The bytes behind them, and with outcomes 8 and 7 all of them, are as they were.
+ */
+uint64_t flowawk_write(const uint64_t *content, size_t content_words, uint8_t *image, size_t image_length, uint64_t *written);
+
+/*
+ * The check of an image: 8 if the bytes are no image's, as for `flowawk_read`; else 9 if it fails the check; else 0. An image that passes never gets stuck in a run.
+ */
+uint64_t flowawk_check(const uint8_t *image, size_t image_length);
+
 #ifdef __cplusplus
 }
 #endif

@@ -1,3 +1,4 @@
 -- Laws on what the C functions answer.
 pub mod Within
 pub mod Splits
+pub mod Copying

@@ -1,3 +1,4 @@
 -- What the C functions answer and store.
 pub mod Match
 pub mod Split
+pub mod Images
