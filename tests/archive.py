@@ -1,4 +1,4 @@
-"""Compares C functions of the archive of `capi` with a reference, on random cases: what tests/match.py and tests/split.py share.
+"""Compares C functions of the archive of `capi` with a reference, on random cases: what tests/match.py, tests/split.py and tests/images.py share.
 
     tests/NAME.py [--reference DIR] [--cases N] [--seed S] [--archive FILE] [--sanitize]
 
@@ -15,31 +15,19 @@ import subprocess
 import sys
 import tempfile
 
-ROOT = os.path.dirname(os.path.dirname(os.path.abspath(__file__)))
+import building
+
 BATCH = 5000
 
 
 def arguments():
     parser = argparse.ArgumentParser()
-    parser.add_argument('--reference', default=os.path.join(ROOT, '..', 'shared', 'reference'))
+    parser.add_argument('--reference', default=os.path.join(building.ROOT, '..', 'shared', 'reference'))
     parser.add_argument('--cases', type=int, default=100000)
     parser.add_argument('--seed', type=int, default=1)
     parser.add_argument('--archive')
     parser.add_argument('--sanitize', action='store_true')
     return parser.parse_args()
-
-
-def archive():
-    subprocess.run(['rt', 'staticlib', 'capi'], cwd=ROOT, check=True, stdout=subprocess.DEVNULL)
-    return os.path.join(ROOT, 'target', 'staticlib', 'libcapi.a')
-
-
-def build(name, library, directory, sanitize):
-    program = os.path.join(directory, name)
-    checks = ['-fsanitize=address'] if sanitize else []
-    subprocess.run([os.environ.get('CC', 'cc'), '-std=c99', '-O2', '-Wall', '-Wextra', '-Werror', *checks, '-I', os.path.join(ROOT, 'include'),
-                    os.path.join(ROOT, 'tests', name + '.c'), library, '-o', program], check=True)
-    return program
 
 
 def answers(program, cases, packed):
@@ -62,7 +50,8 @@ def compare(name, draw, packed, kinds_of, shown):
     r = random.Random(options.seed)
     kinds, wrong = collections.Counter(), []
     with tempfile.TemporaryDirectory() as directory:
-        program = build(name, options.archive or archive(), directory, options.sanitize)
+        checks = ['-fsanitize=address'] if options.sanitize else []
+        program = building.program('tests', name, directory, options.archive or building.archive('capi'), *checks)
         for done in range(0, options.cases, BATCH):
             drawn = [draw(r, gen, reference) for _ in range(min(BATCH, options.cases - done))]
             for (case, expected), got in zip(drawn, answers(program, [case for case, _ in drawn], packed)):

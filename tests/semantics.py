@@ -22,6 +22,8 @@ import subprocess
 import sys
 import tempfile
 
+import image_cases
+
 ROOT = os.path.dirname(os.path.dirname(os.path.abspath(__file__)))
 BIG = 2 ** 53
 GROUPS = []
@@ -89,53 +91,6 @@ def from_words(content):
         yield 'bytesOf ' + value, numbers(image)
 
 
-EMPTY = bytes([1, 0, 0, 0, 0, 0, 0])
-SMALL = bytes([1, 2, 2, 0, 200, 1, 1, 2, 0, 255, 1, 1, 97, 1, 0, 0, 2, 1, 0, 1, 29, 1, 1, 1, 31, 0])
-
-
-def made_images():
-    """Bytes: each is tried by from_bytes."""
-    number = gen.encoded
-    yield from (EMPTY, SMALL, b'', EMPTY + b'\0', SMALL + b'\0', EMPTY * 2)
-    yield from (SMALL[:i] for i in range(1, len(SMALL)))
-    # the count of user variables, in each form of coding; behind 2^53 stand a number over it and one of nine groups
-    for n in (0, 1, 127, 128, 129, 16383, 16384, 2 ** 49 - 1, 2 ** 49, BIG - 1, BIG, BIG + 1, 2 ** 56, 2 ** 56 - 1, 2 ** 63):
-        yield EMPTY[:1] + number(n) + EMPTY[2:]
-    for needless in (b'\x80\0', b'\x81\0', b'\x81\x80\0', b'\xff\x80\x80\0', number(BIG)[:-1] + bytes([number(BIG)[-1] + 128, 0])):
-        yield EMPTY[:1] + needless + EMPTY[2:]
-    # the edition: 0, 2, 128, 1 with a needless group
-    for edition in (b'\0', b'\2', b'\x80\1', b'\x81\0'):
-        yield edition + EMPTY[1:]
-    # the kinds
-    for constant in (b'\0\5', b'\0' + number(BIG), b'\1\0', b'\1\1\0', b'\1\1\xff', b'\1\2a', b'\2\0', b'\2\1a', b'\x80\0\5', b'\x81\0\0', b'\x7f\0'):
-        yield b'\1\0\1' + constant + b'\0\0\0\0'
-    # each code, with no operand and with one
-    for code in list(range(34)) + [127, 128, BIG]:
-        for operand in (b'', b'\7'):
-            yield b'\1\0\0\0\1' + number(code) + b'\0' + operand + b'\0\0'
-    # counts that go past the end
-    for count in (1, 2, 128, BIG):
-        yield EMPTY[:2] + number(count) + EMPTY[3:]
-        yield EMPTY[:6] + number(count)
-    # EREs and texts are not read: any bytes
-    yield b'\1\0\0\3\0\1(\2\0\xff\0\0\0'
-
-
-def made_contents():
-    """Words: each is tried by from_words."""
-    small = ref.read_image(SMALL)[1]
-    empty = list(EMPTY)
-    yield from ([], empty, small, small + [0], empty + [1])
-    yield from (small[:i] for i in range(1, len(small)))
-    yield from ([1, n] + empty[2:] for n in (127, 128, 255, 256, BIG, BIG + 1, 2 ** 64 - 1))
-    yield from ([n] + empty[1:] for n in (0, 2, 129))
-    # a text byte, 255 and 256, in a constant and in an ERE; a number is not held to 255
-    for b in (0, 127, 128, 255, 256, BIG, 2 ** 64 - 1):
-        yield [1, 0, 1, 1, 1, b, 0, 0, 0, 0]
-        yield [1, 0, 0, 1, 1, b, 0, 0, 0]
-        yield [1, 0, 1, 0, b, 0, 0, 0, 0]
-
-
 def small_image(r):
     """One of the generator's images that the checker computes fast. Those at the sizes of the rules are longer, and come seldom."""
     if r.random() < .02:
@@ -149,14 +104,6 @@ def small_image(r):
             return image
 
 
-def damaged_words(r, content):
-    content = list(content)
-    for _ in range(r.randrange(1, 3)):
-        i, v = r.randrange(len(content) + 1), r.choice([0, 1, 2, 27, 29, 31, 32, 127, 128, 255, 256, BIG, BIG + 1, 2 ** 64 - 1])
-        content[i:i + r.randrange(2)] = [[v], [], [v]][r.randrange(3)]
-    return content
-
-
 @group('coding', '''use mathlib.Core.Path.{_≡_, refl}
 use mathlib.Core.List.{List, [], _∷_}
 use mathlib.Core.Option.{Option, some, none}
@@ -166,9 +113,9 @@ use Rattle.coding.specs.Numbers.{coded, takeGroups, takeNumber}
 use Rattle.coding.specs.Reading.{fromBytes, fromWords, many, readImage}
 use Rattle.coding.specs.Writing.{all, written, bytesOf, contentOf}''', 'nth codeOf coded takeGroups takeNumber many readImage all written')
 def images(r, count):
-    for image in made_images():
+    for image in image_cases.formed_images():
         yield from from_bytes(image)
-    for content in made_contents():
+    for content in image_cases.formed_contents(ref):
         yield from from_words(content)
     made = 0
     while made < count:
@@ -176,7 +123,7 @@ def images(r, count):
         cases = list(from_bytes(image))
         outcome, content = ref.read_image(image)
         if outcome == 0:
-            cases += from_words(damaged_words(r, content))
+            cases += from_words(image_cases.damaged_words(r, content))
         made += len(cases)
         yield from cases
 

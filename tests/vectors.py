@@ -9,6 +9,8 @@ where that has the function, and from Python's own bytes elsewhere.
 A group is a function below that gives its payloads, a file data/NAME, a line of stdout, and a module of a crate judge_... To add one,
 write the function under @group, in the order of the program's `main`, and the module.
 
+Beside data/NAME stands data/wrong_NAME: some of its cases, each with another byte in what is expected. None of them may pass.
+
 A file is a list of frames: the payload's length, 2 bytes, and the payload. All numbers are unsigned, the low byte first. A number of
 the rules, -2^53 to 2^53, is 8 bytes: what it is above -2^53. Payloads, field by field, with the bytes of each:
 
@@ -23,6 +25,9 @@ the rules, -2^53 to 2^53, is 8 bytes: what it is above -2^53. Payloads, field by
     match       outcome 1, found 1, start from 0 2, length 2 (both 0 where not found), length of the ERE 2, ERE, text
     split       outcome 1, count of fields 2 (0 where the outcome is not 0), length of the separator 2, separator, record
     field       outcome 1, count 2 (both as in split), k 8, start from 0 2, length 2, length of the separator 2, separator, record
+    read        outcome 1, words of the room 2, words of the content 2 (0 where the outcome is not 0), content 8 each, image
+    write       outcome 1, bytes of the room 2, bytes of the image 2 (0 where the outcome is not 0), image, content 8 each
+    check       outcome 1, image
 """
 import argparse
 import itertools
@@ -31,10 +36,12 @@ import random
 import struct
 import sys
 
+import image_cases
+
 ROOT = os.path.dirname(os.path.dirname(os.path.abspath(__file__)))
 BIG = 2 ** 53
 GROUPS = []
-ref = None
+ref = gen = None
 
 
 def group(payloads):
@@ -733,10 +740,107 @@ def field():
     return [field_case(*case) for case in unique(itertools.chain(field_numbers(r), every_field()))]
 
 
+# ------------------------------------------------- read, write and check
+
+def rooms(r, n):
+    """Rooms for n elements: just enough, one too small, and another."""
+    return unique(k for k in (n, n - 1, r.choice([0, n // 2, n + 1, n + 40])) if k >= 0)
+
+
+def read_case(image, room):
+    outcome, content = ref.read_image(image, room)
+    return bytes([outcome]) + short(room) + short(len(content)) + b''.join(map(word, content)) + image
+
+
+def write_case(content, room):
+    outcome, image = ref.write_image(content, room)
+    return bytes([outcome]) + short(room) + short(len(image)) + image + b''.join(map(word, content))
+
+
+def drawn_images(r, count):
+    """Images of the reference's translator, images at the limits, and both damaged."""
+    yield from (image_cases.translated(r, ref, gen) for _ in range(count // 4))
+    yield from (gen.image(r, ref.translate) for _ in range(count))
+
+
+def short_images(r, drawn, most):
+    """Images of which a few are long: a word of content has eight bytes here."""
+    made = unique(itertools.chain(image_cases.formed_images(), image_cases.checked_images(), drawn_images(r, drawn)))
+    longer = [image for image in made if len(image) >= 300]
+    return [image for image in made if len(image) < 300] + r.sample(longer, most)
+
+
+def contents(r):
+    """The contents of images, and those damaged."""
+    yield from map(tuple, image_cases.formed_contents(ref))
+    for image in short_images(r, 250, 6):
+        outcome, content = ref.read_image(image)
+        if outcome == 0:
+            yield tuple(content)
+            yield tuple(image_cases.damaged_words(r, content))
+
+
+@group
+def read():
+    r = random.Random('read')
+    return [read_case(image, room) for image in short_images(r, 600, 12) for room in rooms(r, len(ref.read_image(image)[1]))]
+
+
+@group
+def write():
+    r = random.Random('write')
+    return [write_case(content, room) for content in unique(contents(r)) for room in rooms(r, len(ref.write_image(content)[1]))]
+
+
+@group
+def check():
+    r = random.Random('check')
+    made = unique(itertools.chain(image_cases.formed_images(), image_cases.checked_images(), drawn_images(r, 1500)))
+    return [bytes([ref.check(image)]) + image for image in made]
+
+
+# ---------------------------------------------------- wrong expectations
+
+# for each group, where a payload has what is expected
+EXPECTED = {
+    'limits': lambda p: range(2, 10),
+    'arithmetic': lambda p: range(17, 18 if p[17] else 26),
+    'reading': lambda p: [0, *range(9 if p[0] else 1, 12)],
+    'decimal': lambda p: range(12 + (len(p) - 12) // 2, len(p)),
+    'compare': lambda p: [0],
+    'search': lambda p: [1, 2, 3] if p[0] else [2, 3],
+    'copies': lambda p: range(10 + two(p, 8), 10 + 2 * two(p, 8)),
+    'words': lambda p: range(11 + (len(p) - 11) // 2, len(p)),
+    'match': lambda p: range(6),
+    'split': lambda p: range(3),
+    'field': lambda p: [0, 1, 2, *range(11, 15)],
+    'read': lambda p: [0, *range(5, 5 + 8 * two(p, 3))],
+    'write': lambda p: [0, *range(5, 5 + two(p, 3))],
+    'check': lambda p: [0],
+}
+
+
+def two(p, at):
+    return struct.unpack_from('<H', p, at)[0]
+
+
+def changed(r, name, payload):
+    """The payload, with another byte where it says what is expected."""
+    at = r.choice(list(EXPECTED[name](payload)))
+    return payload[:at] + bytes([(payload[at] + r.randrange(1, 256)) % 256]) + payload[at + 1:]
+
+
+def wrong(name, cases):
+    """Cases that must not pass: so each judge is seen to refuse."""
+    r = random.Random('wrong ' + name)
+    some = [p for p in cases if len(p) < 600 and EXPECTED[name](p)]
+    return [changed(r, name, p) for p in r.sample(some, min(len(some), 60))]
+
+
 # ----------------------------------------------------------------- files
 
 def main():
-    global ref
+    global ref, gen
     parser = argparse.ArgumentParser(description=__doc__.split('\n')[0])
     parser.add_argument('--reference', default=os.path.join(ROOT, '..', 'shared', 'reference'), help='the folder of reference.py')
     folder = parser.parse_args().reference
@@ -744,16 +848,18 @@ def main():
     sys.dont_write_bytecode = True
     if hasattr(sys, 'set_int_max_str_digits'):
         sys.set_int_max_str_digits(0)  # the long texts have thousands of digits
+    import gen as generator
     import reference
-    ref = reference
+    ref, gen = reference, generator
     crate = os.path.join(ROOT, 'crates', 'vectors')
     os.makedirs(os.path.join(crate, 'data'), exist_ok=True)
     lines = []
     for payloads in GROUPS:
         name, cases = payloads.__name__, payloads()
-        with open(os.path.join(crate, 'data', name), 'wb') as f:
-            f.writelines(short(len(p)) + p for p in cases)
-        lines.append('%s: %d of %d\n' % (name, len(cases), len(cases)))
+        for file, made, passed in ((name, cases, len(cases)), ('wrong_' + name, wrong(name, cases), 0)):
+            with open(os.path.join(crate, 'data', file), 'wb') as f:
+                f.writelines(short(len(p)) + p for p in made)
+            lines.append('%s: %d of %d\n' % (file, passed, len(made)))
     with open(os.path.join(crate, 'stdout'), 'w') as f:
         f.writelines(lines)
     sys.stdout.writelines(lines)

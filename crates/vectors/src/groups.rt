@@ -11,6 +11,9 @@ pub enum Group {
     Match,
     Split,
     Field,
+    Read,
+    Write,
+    Check,
 }
 
 // Whether the case in a frame's payload passes.
@@ -27,5 +30,8 @@ pub fn passes(group: Group, p: &[u8]) -> bool {
         Group::Match => judge_texts::matching::passes(p),
         Group::Split => judge_texts::split::passes(p),
         Group::Field => judge_texts::field::passes(p),
+        Group::Read => judge_images::reading::passes(p),
+        Group::Write => judge_images::writing::passes(p),
+        Group::Check => judge_images::checking::passes(p),
     }
 }
