@@ -18,7 +18,9 @@ import sys
 import tempfile
 import time
 
-ROOT = os.path.dirname(os.path.dirname(os.path.abspath(__file__)))
+sys.path.insert(0, os.path.join(os.path.dirname(os.path.dirname(os.path.abspath(__file__))), 'tests'))
+import building  # noqa: E402
+
 ERES = [('(tcp|udp) (443|80)$', False), ('^port(0[1-9]|1[0-9])$', True), ('[A-Za-z0-9_]+=scaled', False), ('a.*b.*c', False)]
 AWKS = ['mawk', 'gawk']
 
@@ -36,19 +38,6 @@ def flow_line(r):
 
 def field(r):
     return r.choice(['port%02d' % r.randrange(24), 'tcp', 'rate=scaled', 'port', 'port123'])
-
-
-def build(directory, name, *archives):
-    """A program of this folder."""
-    program = os.path.join(directory, name)
-    subprocess.run(['cc', '-std=gnu99', '-O2', '-Wall', '-Wextra', '-Werror', os.path.join(ROOT, 'bench', name + '.c'), *archives, '-o', program],
-                   check=True)
-    return program
-
-
-def prepared():
-    subprocess.run(['rt', 'staticlib', 'prepared'], cwd=ROOT, check=True, stdout=subprocess.DEVNULL)
-    return os.path.join(ROOT, 'target', 'staticlib', 'libprepared.a')
 
 
 def write_lines(path, of_field, count):
@@ -87,7 +76,7 @@ def main():
     print('| ERE | ours, ns | regexec | ' + ' | '.join(awks) + ' |\n|---|--:|' + '--:|' * (1 + len(awks)))
     with tempfile.TemporaryDirectory() as directory:
         path = os.path.join(directory, 'lines')
-        program = build(directory, 'match', prepared())
+        program = building.program('bench', 'match', directory, building.archive('prepared'))
         for ere, of_field in ERES:
             write_lines(path, of_field, options.lines)
             ours, regexec, matches = numbers(program, path, ere, str(options.turns))
@@ -95,7 +84,7 @@ def main():
             shown = ere.replace('|', '\\|')
             print('| `%s` | %.0f | ' % (shown, ours) + ' | '.join('%.0f (x %.1f)' % (t, t / ours) for t in [regexec] + others) + ' |')
         write_lines(path, False, options.lines)
-        print('\nA byte against `[A-Za-z0-9_]`: %.2f ns by its ranges, %.2f ns by one bit.' % tuple(numbers(build(directory, 'bracket'), path, str(options.turns))))
+        print('\nA byte against `[A-Za-z0-9_]`: %.2f ns by its ranges, %.2f ns by one bit.' % tuple(numbers(building.program('bench', 'bracket', directory), path, str(options.turns))))
 
 
 main()

@@ -18,30 +18,20 @@ import sys
 import tempfile
 import time
 
-ROOT = os.path.dirname(os.path.dirname(os.path.abspath(__file__)))
+sys.path.insert(0, os.path.join(os.path.dirname(os.path.dirname(os.path.abspath(__file__))), 'tests'))
+import building  # noqa: E402
+
 AWKS = ['mawk', 'gawk']
 SEPARATORS = [('blanks', ' '), ('`,`', ',')]
 
 
 def arguments():
     parser = argparse.ArgumentParser()
-    parser.add_argument('--reference', default=os.path.join(ROOT, '..', 'shared', 'reference'))
+    parser.add_argument('--reference', default=os.path.join(building.ROOT, '..', 'shared', 'reference'))
     parser.add_argument('--lines', type=int, default=2000000)
     parser.add_argument('--runs', type=int, default=15)
     parser.add_argument('--archive')
     return parser.parse_args()
-
-
-def archive():
-    subprocess.run(['rt', 'staticlib', 'capi'], cwd=ROOT, check=True, stdout=subprocess.DEVNULL)
-    return os.path.join(ROOT, 'target', 'staticlib', 'libcapi.a')
-
-
-def build(library, directory):
-    program = os.path.join(directory, 'split')
-    subprocess.run(['cc', '-std=gnu99', '-O2', '-Wall', '-Wextra', '-Werror', '-I', os.path.join(ROOT, 'include'), os.path.join(ROOT, 'bench', 'split.c'),
-                    library, '-o', program], check=True)
-    return program
 
 
 def write_lines(path, lines, separator):
@@ -93,12 +83,12 @@ def main():
     import flows
     awks = [awk for awk in AWKS if shutil.which(awk)]
     lines = list(flows.flows(options.lines))
-    library = options.archive or archive()
+    library = options.archive or building.archive('capi')
     print('%d lines, %.1f bytes each without the newline' % (len(lines), sum(map(len, lines)) / len(lines) - 1))
     print('| million fields for a second | ours | ' + ' | '.join(awks) + ' |\n|---|--:|' + '--:|' * len(awks))
     with tempfile.TemporaryDirectory() as directory:
         path = os.path.join(directory, 'lines')
-        program = build(library, directory)
+        program = building.program('bench', 'split', directory, library)
         for title, separator in SEPARATORS:
             write_lines(path, lines, separator)
             fields, times = measured(commands(program, awks, separator), path, len(lines), options.runs)
