@@ -1,5 +1,6 @@
 -- The laws of the walk.
 pub mod Answers
+pub mod Anywhere
 pub mod Finds
 pub mod Meets
 pub mod Skips

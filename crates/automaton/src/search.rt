@@ -19,7 +19,7 @@ pub enum Found {
 }
 
 // Whether a walk may stop at the set.
-fn stops(s: [u64; 3], at_end: bool) -> bool
+pub fn stops(s: [u64; 3], at_end: bool) -> bool
     ensures { λ r. ⌜ r ≡ stopIn s «at_end» ⌝ }
 {
     if at_end {
@@ -29,7 +29,7 @@ fn stops(s: [u64; 3], at_end: bool) -> bool
 }
 
 // Whether no place is in the set.
-fn dead(s: [u64; 3]) -> bool
+pub fn dead(s: [u64; 3]) -> bool
     ensures { λ r. ⌜ r ≡ deadSet s ⌝ }
 {
     s[0] == 0 && s[1] == 0
@@ -82,7 +82,7 @@ fn longest_from(t: &[u64], rest: &[u8], at: usize, least: usize, s: usize) -> us
 }
 
 // Whether a match of at least so many bytes may be empty.
-fn may_be_empty(t: &[u64], least: usize) -> bool
+pub fn may_be_empty(t: &[u64], least: usize) -> bool
     requires { ⌜ length (now t) ≡ tableWords ⌝ }
     ensures { λ r. ⌜ r ≡ openTo (now (t .entry)) least ⌝ }
 {
@@ -93,7 +93,7 @@ fn may_be_empty(t: &[u64], least: usize) -> bool
 }
 
 // Whether a match may begin with the byte b.
-fn may_begin(t: &[u64], b: u8, empty: bool) -> bool
+pub fn may_begin(t: &[u64], b: u8, empty: bool) -> bool
     requires { ⌜ length (now t) ≡ tableWords ⌝ }
     ensures { λ r. ⌜ r ≡ mayBegin (now (t .entry)) b empty ⌝ }
 {

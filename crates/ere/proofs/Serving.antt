@@ -13,6 +13,7 @@ use Rattle.pattern.specs.Search.{bestFrom, bestOf}
 use Rattle.pattern.proofs.Moving.{repeated-move, same-answer}
 use Rattle.table.specs.Table.{takesAt}
 use Rattle.automaton.specs.Find.{matchOf, Finds}
+use Rattle.automaton.specs.Any.{isMatch, Exists}
 use Rattle.automaton.specs.declared.search.Found.{Found}
 use Rattle.automaton.proofs.Answers.{answer}
 use Rattle.compiler.specs.Built.{Agrees, at-place, at-bol, at-eol, in-cat, in-alt, in-star, in-plus, in-opt}
@@ -52,6 +53,14 @@ serves-answer t rest at least r e text s f bytes h d =
     answer t rest at least r f (s .tree) text (s .tabled) h d
     ∙ same-answer (takesAt t) takes text (s .tree) e
     (λ i j. (to-class t text bytes 0 erePlaces (s .agrees) i j, from-class t text bytes 0 erePlaces (s .agrees) i j)) at least
+
+-- what `exists` says of a text, with such a table
+pub serves-exists : (t : List ℕ) (r : Bool) (e : Ere Class) (text : List ℕ) → Serves t e → Exists t text r → Bytes text → r ≡ isMatch (bestOf takes text e)
+unfolding bestOf
+serves-exists t r e text s f bytes =
+    f (s .tree) (s .tabled)
+    ∙ ap isMatch (same-answer (takesAt t) takes text (s .tree) e
+    (λ i j. (to-class t text bytes 0 erePlaces (s .agrees) i j, from-class t text bytes 0 erePlaces (s .agrees) i j)) 0 0)
 
 -- ---- the answers of a search
 

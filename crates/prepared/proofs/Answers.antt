@@ -1,21 +1,23 @@
 -- What the two functions answer, from what `compile` and `find_from` do.
 use mathlib.Core.Path.{_≡_, refl, sym, ap, subst, _∙_}
-use mathlib.Core.Bool.{true, false}
+use mathlib.Core.Bool.{Bool, true, false, cond}
 use mathlib.Core.List.{List}
 use mathlib.Core.Option.{none}
 use Prim.Native.Nat.{ℕ, _+_, _≤_, zero-le}
 use native.Mathlib.Omega.{arith}
 use lib.ListN.{length}
+use Rattle.edition.specs.Limits.{textBytes}
 use Rattle.pattern.specs.Tree.{Class, takes, Ere}
 use Rattle.pattern.specs.Search.{bestOf}
 use Rattle.grammar.specs.Read.{readEre}
 use Rattle.table.specs.Table.{tableWords}
+use Rattle.automaton.specs.Any.{Exists}
 use Rattle.automaton.specs.Find.{matchOf, Inside, Finds}
 use Rattle.automaton.specs.declared.search.Found.{Found}
 use Rattle.automaton.specs.declared.search.Found.the-variants.{At, Nowhere}
 use Rattle.ere.specs.Answer.{Serves, Compiles, Bytes}
-use Rattle.ere.proofs.Serving.{serves-answer}
-use Rattle.prepared.specs.Answer.{Prepares, lengthOf}
+use Rattle.ere.proofs.Serving.{serves-answer, serves-exists}
+use Rattle.prepared.specs.Answer.{Prepares, lengthOf, Tells}
 
 pub prepares-unsized : (ere t : List ℕ) → (length t ≡ tableWords → ⊥) → Prepares ere t t 0
 prepares-unsized ere t n =
@@ -36,3 +38,11 @@ module _ (t text : List ℕ) (r : Found) (f : Finds t text 0 0 r) where
 
   pub found-inside : (s n : ℕ) → r ≡ At s n → n ≤ length text
   found-inside s n e = let h = subst (Inside 0 (length text)) e (f .inside) in omega (arith, h .1)
+
+pub tells : (t text : List ℕ) (r x : Bool) → length t ≡ tableWords → length text ≤ textBytes → Exists t text r → Bytes text → r ≡ x → Tells t text (cond x 1 0)
+tells t text r x l h f bytes e =
+    record {
+      unsized = λ n. absurd (n l);
+      long = λ g. absurd (omega arith);
+      any = λ p s k g. ap (λ (b : Bool). cond b 1 0) (sym e ∙ serves-exists t r p text s f bytes);
+    }

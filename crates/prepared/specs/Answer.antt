@@ -1,5 +1,6 @@
 -- What the C functions over a compiled ERE answer.
 use mathlib.Core.Path.{_≡_}
+use mathlib.Core.Bool.{cond}
 use mathlib.Core.List.{List}
 use mathlib.Core.Option.{some, none}
 use Prim.Native.Nat.{ℕ, _+_, _≤_, _<_}
@@ -10,6 +11,7 @@ use Rattle.pattern.specs.Meaning.{Match, found, nowhere}
 use Rattle.pattern.specs.Search.{bestOf}
 use Rattle.grammar.specs.Read.{readEre}
 use Rattle.table.specs.Table.{tableWords}
+use Rattle.automaton.specs.Any.{isMatch}
 use Rattle.ere.specs.Answer.{Serves}
 
 -- The table was t₀ and is t. 1: the bytes are an ERE, and the table serves it; 0: they are none, or the table has another size, and is as it was.
@@ -29,3 +31,9 @@ pub record Searches (t text : List ℕ) (r : ℕ) : Type 0 where
   pub unsized : (length t ≡ tableWords → ⊥) → r ≡ 0
   pub long : textBytes < length text → r ≡ 0
   pub best : (e : Ere Class) → Serves t e → length t ≡ tableWords → length text ≤ textBytes → r ≡ lengthOf (bestOf takes text e)
+
+-- 1 if the text has a match, 0 if not; 0 if the table has another size or the text is too long
+pub record Tells (t text : List ℕ) (r : ℕ) : Type 0 where
+  pub unsized : (length t ≡ tableWords → ⊥) → r ≡ 0
+  pub long : textBytes < length text → r ≡ 0
+  pub any : (e : Ere Class) → Serves t e → length t ≡ tableWords → length text ≤ textBytes → r ≡ cond (isMatch (bestOf takes text e)) 1 0

@@ -1,5 +1,5 @@
 // An ERE compiled once for many texts, for C: what `bench/match` measures.
-ghost use Rattle.prepared.specs.Answer.{Prepares, Searches};
+ghost use Rattle.prepared.specs.Answer.{Prepares, Searches, Tells};
 use automaton::Found;
 use edition::Edition;
 
@@ -33,4 +33,21 @@ pub extern "C" fn prepared_find(table: &[u64], text: &[u8]) -> u64
         Found::At(start, length) => length as u64 + 1,
         Found::Nowhere => 0,
     }
+}
+
+// 1 if there is a match in a text; 0 if there is none, or the text is too long.
+#[no_mangle]
+pub extern "C" fn prepared_exists(table: &[u64], text: &[u8]) -> u64
+    ensures { λ r. ⌜ Tells (now (table .entry)) (now (text .entry)) r ⌝ }
+{
+    if table.len() != table::TABLE {
+        return 0;
+    }
+    if Edition::TEXT < text.len() {
+        return 0;
+    }
+    if automaton::exists(table, text) {
+        return 1;
+    }
+    0
 }
