@@ -9,11 +9,11 @@ use lib.ListN.{length}
 use lib.Dec.{leb}
 use borrow.Author.Tests.{leb-true}
 use Rattle.edition.specs.Limits.{textBytes}
-use Rattle.pattern.specs.Tree.{Class, takes, Ere}
-use Rattle.pattern.specs.Meaning.{Match, found, nowhere, Best}
-use Rattle.pattern.specs.Search.{bestOf}
-use Rattle.pattern.proofs.Answers.{best}
-use Rattle.grammar.specs.Read.{readEre}
+use Rattle.ere_meaning.specs.Tree.{Class, takes, Ere}
+use Rattle.ere_meaning.specs.Meaning.{Match, found, nowhere, Best}
+use Rattle.ere_meaning.specs.Search.{bestOf}
+use Rattle.ere_meaning.proofs.Answers.{best}
+use Rattle.ere_grammar.specs.Read.{readEre}
 use Rattle.ere.specs.Answer.{matched, judged, searchOf}
 use Rattle.ere.specs.declared.matching.Matched.{Matched}
 use Rattle.ere.specs.declared.matching.Matched.the-variants.{At, LongText}

@@ -1,9 +1,9 @@
 // Reading, writing and checking images, for C.
 ghost use mathlib.Core.Path.{_≡_};
 ghost use Rattle.image.specs.Copy.{copying, readOf, writtenOf};
-ghost use Rattle.checker.specs.Verdict.{outcomeOf, checkOf};
+ghost use Rattle.image_check.specs.Verdict.{outcomeOf, checkOf};
 ghost use Rattle.capi.specs.Images.{outcomeIn, lengthIn};
-use checker::Verdict;
+use image_check::Verdict;
 use edition::Outcome;
 use image::Copied;
 
@@ -65,5 +65,5 @@ fn verdict_of(v: Verdict) -> u64
 pub extern "C" fn flowawk_check(image: &[u8]) -> u64
     ensures { λ r. ⌜ r ≡ checkOf (now (image .entry)) ⌝ }
 {
-    verdict_of(checker::check(image))
+    verdict_of(image_check::check(image))
 }

@@ -7,16 +7,16 @@ use Prim.Native.Nat.{ℕ, _≤_, _<_, zero-le}
 use lib.ListN.{length, getD, drop}
 use borrow.Author.Tests.{le-leb, lt-leb}
 use Rattle.edition.specs.Limits.{textBytes, erePlaces}
-use Rattle.pattern.specs.Tree.{Class, takes, Ere}
-use Rattle.pattern.specs.Meaning.{Leads}
-use Rattle.pattern.specs.Search.{bestFrom, bestOf}
-use Rattle.pattern.proofs.Moving.{repeated-move, same-answer}
-use Rattle.table.specs.Table.{takesAt}
-use Rattle.automaton.specs.Find.{matchOf, Finds}
-use Rattle.automaton.specs.Any.{isMatch, Exists}
-use Rattle.automaton.specs.declared.search.Found.{Found}
-use Rattle.automaton.proofs.Answers.{answer}
-use Rattle.compiler.specs.Built.{Agrees, at-place, at-bol, at-eol, in-cat, in-alt, in-star, in-plus, in-opt}
+use Rattle.ere_meaning.specs.Tree.{Class, takes, Ere}
+use Rattle.ere_meaning.specs.Meaning.{Leads}
+use Rattle.ere_meaning.specs.Search.{bestFrom, bestOf}
+use Rattle.ere_meaning.proofs.Moving.{repeated-move, same-answer}
+use Rattle.ere_table.specs.Table.{takesAt}
+use Rattle.ere_search.specs.Find.{matchOf, Finds}
+use Rattle.ere_search.specs.Any.{isMatch, Exists}
+use Rattle.ere_search.specs.declared.search.Found.{Found}
+use Rattle.ere_search.proofs.Answers.{answer}
+use Rattle.ere_parser.specs.Built.{Agrees, at-place, at-bol, at-eol, in-cat, in-alt, in-star, in-plus, in-opt}
 use Rattle.ere.specs.Answer.{matched, judged, searchOf, Serves, Compiles, Bytes}
 use Rattle.ere.specs.declared.matching.Matched.the-variants.{BadEre, LongText}
 

@@ -8,17 +8,17 @@ use native.Mathlib.Omega.{arith}
 use lib.ListN.{length, getD, drop}
 use borrow.Author.Tests.{le-leb, lt-leb}
 use Rattle.edition.specs.Limits.{erePlaces, ereBytes, ereGroups}
-use Rattle.pattern.specs.Tree.{Class, Ere, places}
-use Rattle.grammar.specs.Read.{got, readRest, whole, readEre}
-use Rattle.table.specs.Table.{tableWords}
-use Rattle.table.proofs.Tables.{finished, finished-class, tabled}
-use Rattle.compiler.specs.Reading.{restFrom}
-use Rattle.compiler.specs.Standing.{Refuses, unread, many, baseOf, GroupReads}
+use Rattle.ere_meaning.specs.Tree.{Class, Ere, places}
+use Rattle.ere_grammar.specs.Read.{got, readRest, whole, readEre}
+use Rattle.ere_table.specs.Table.{tableWords}
+use Rattle.ere_table.proofs.Tables.{finished, finished-class, tabled}
+use Rattle.ere_parser.specs.Reading.{restFrom}
+use Rattle.ere_parser.specs.Standing.{Refuses, unread, many, baseOf, GroupReads}
 use Rattle.ere.specs.Answer.{Serves, Compiles}
-use Rattle.pieces.specs.declared.rows.Piece.{Piece}
-use Rattle.compiler.proofs.Built.{agrees-move}
-use Rattle.compiler.proofs.Moving.{opened}
-use Rattle.compiler.proofs.Items.{drop-all}
+use Rattle.ere_parser.specs.declared.rows.Piece.{Piece}
+use Rattle.ere_parser.proofs.Built.{agrees-move}
+use Rattle.ere_parser.proofs.Moving.{opened}
+use Rattle.ere_parser.proofs.Items.{drop-all}
 
 -- too long, or what is read from the start
 pub ere-long : (edition : ℕ) (l : List ℕ) → ereBytes < length l → readEre edition l ≡ none

@@ -7,12 +7,12 @@ use Prim.Native.Nat.{ℕ, _<_}
 use lib.ListN.{length, getD}
 use lib.Dec.{leb}
 use Rattle.edition.specs.Limits.{textBytes, erePlaces}
-use Rattle.pattern.specs.Tree.{Class, takes, Ere}
-use Rattle.pattern.specs.Meaning.{Match, found, nowhere}
-use Rattle.pattern.specs.Search.{bestOf}
-use Rattle.grammar.specs.Read.{readEre}
-use Rattle.table.specs.Wiring.{Tabled}
-use Rattle.compiler.specs.Built.{Agrees}
+use Rattle.ere_meaning.specs.Tree.{Class, takes, Ere}
+use Rattle.ere_meaning.specs.Meaning.{Match, found, nowhere}
+use Rattle.ere_meaning.specs.Search.{bestOf}
+use Rattle.ere_grammar.specs.Read.{readEre}
+use Rattle.ere_table.specs.Wiring.{Tabled}
+use Rattle.ere_parser.specs.Built.{Agrees}
 use Rattle.ere.specs.declared.matching.Matched.{Matched}
 use Rattle.ere.specs.declared.matching.Matched.the-variants.{At, Nothing, BadEre, LongText}
 

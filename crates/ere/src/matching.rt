@@ -1,9 +1,9 @@
 // EREs as tables, and the match of an ERE in a text.
 ghost use mathlib.Core.Path.{_≡_};
 ghost use lib.ListN.{length};
-ghost use Rattle.table.specs.Table.{tableWords};
+ghost use Rattle.ere_table.specs.Table.{tableWords};
 ghost use Rattle.ere.specs.Answer.{searchOf, Compiles};
-use automaton::Found;
+use ere_search::Found;
 use edition::Edition;
 
 // What a search answers: a start from 0 and a length, or why there is none.
@@ -14,7 +14,7 @@ pub enum Matched {
     LongText,
 }
 
-// Reads an ERE into a table, for `automaton::find_from`; whether it is one.
+// Reads an ERE into a table, for `ere_search::find_from`; whether it is one.
 pub fn compile(ere: &[u8], edition: Edition, t: &mut [u64]) -> bool
     requires { ⌜ length (now t) ≡ tableWords ⌝ }
     ensures { λ r. ⌜ Compiles (edition .number) (now (ere .entry)) (now (t .exit)) r ⌝ }
@@ -23,7 +23,7 @@ pub fn compile(ere: &[u8], edition: Edition, t: &mut [u64]) -> bool
     if Edition::ERE_BYTES < end {
         return false;
     }
-    let g = compiler::read_group(ere, Edition::ERE_GROUPS, 0, 0, 0, t);
+    let g = ere_parser::read_group(ere, Edition::ERE_GROUPS, 0, 0, 0, t);
     if !g.ok {
         return false;
     }
@@ -33,9 +33,9 @@ pub fn compile(ere: &[u8], edition: Edition, t: &mut [u64]) -> bool
     let e = g.entry;
     let first = e.first;
     let later = e.later;
-    table::put_row(t, 0, first);
-    table::put_row(t, 1, later);
-    table::seal(t);
+    ere_table::put_row(t, 0, first);
+    ere_table::put_row(t, 1, later);
+    ere_table::seal(t);
     true
 }
 
@@ -43,7 +43,7 @@ pub fn compile(ere: &[u8], edition: Edition, t: &mut [u64]) -> bool
 pub fn search(ere: &[u8], text: &[u8]) -> Matched
     ensures { λ r. ⌜ r ≡ searchOf 1 (now (ere .entry)) (now (text .entry)) ⌝ }
 {
-    let mut t = [0u64; table::TABLE];
+    let mut t = [0u64; ere_table::TABLE];
     let edition = Edition { number: 1 };
     if !compile(ere, edition, &mut t) {
         return Matched::BadEre;
@@ -51,7 +51,7 @@ pub fn search(ere: &[u8], text: &[u8]) -> Matched
     if Edition::TEXT < text.len() {
         return Matched::LongText;
     }
-    match automaton::find_from(&t, text, 0, 0) {
+    match ere_search::find_from(&t, text, 0, 0) {
         Found::At(start, length) => Matched::At(start, length),
         Found::Nowhere => Matched::Nothing,
     }

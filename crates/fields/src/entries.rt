@@ -2,7 +2,7 @@
 ghost use mathlib.Core.Path.{_≡_};
 ghost use Prim.Native.Nat.{_<_, _-_};
 ghost use lib.ListN.{length};
-ghost use Rattle.table.specs.Table.{tableWords};
+ghost use Rattle.ere_table.specs.Table.{tableWords};
 ghost use Rattle.splitting.specs.Separator.{separatorOf};
 ghost use Rattle.splitting.specs.Field.{span};
 ghost use Rattle.splitting.specs.Splitting.{separated, splitOf, spanOf, textOf};
@@ -61,7 +61,7 @@ fn fill(record: &[u8], separator: &[u8], first: usize, spans: &mut [usize]) -> S
         return Splitting::LongRecord;
     }
     if 1 < separator.len() {
-        let mut t = [0u64; table::TABLE];
+        let mut t = [0u64; ere_table::TABLE];
         return fill_with(record, separator, edition, &mut t, first, spans);
     }
     let mut t = [0u64; 1];

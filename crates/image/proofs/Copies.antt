@@ -10,15 +10,15 @@ use lib.ListN.{length, drop}
 use lib.Dec.{eqb}
 use borrow.Author.Tests.{le-leb, lt-leb, ne-eqb}
 use Rattle.edition.specs.Outcomes.{done, roomTooSmall, imageMalformed}
-use Rattle.grammar.specs.Read.{Got}
-use Rattle.coding.specs.Image.{Image}
-use Rattle.coding.specs.Reading.{Source, readImage}
-use Rattle.coding.specs.Writing.{written}
-use Rattle.coding.proofs.Laws.{got-one, none-some}
+use Rattle.ere_grammar.specs.Read.{Got}
+use Rattle.image_format.specs.Image.{Image}
+use Rattle.image_format.specs.Reading.{Source, readImage}
+use Rattle.image_format.specs.Writing.{written}
+use Rattle.image_format.proofs.Laws.{got-one, none-some}
 use Rattle.varint.specs.Room.{withAll}
 use Rattle.varint.proofs.Words.{all-fits}
-use Rattle.layout.specs.Transcript.{transcript, endedWith, mapped}
-use Rattle.layout.proofs.Tellings.{whole-transcript}
+use Rattle.image_stages.specs.Transcript.{transcript, endedWith, mapped}
+use Rattle.image_stages.proofs.Tellings.{whole-transcript}
 use Rattle.image.specs.Laid.{Laid, laid}
 use Rattle.image.specs.Pass.{nothingLeft, passOf, Passes}
 use Rattle.image.specs.Copy.{copying, given, isImage}

@@ -9,12 +9,12 @@ use native.Mathlib.Nat.{add-zero}
 use lib.ListN.{length, drop, length-drop, drop-of-length-le}
 use lib.Dec.{eqb}
 use borrow.Author.Tests.{eqb-true, eqb-false, ne-eqb}
-use Rattle.grammar.specs.Read.{got}
-use Rattle.coding.specs.Reading.{Source}
+use Rattle.ere_grammar.specs.Read.{got}
+use Rattle.image_format.specs.Reading.{Source}
 use Rattle.varint.specs.Room.{withAll}
-use Rattle.layout.specs.Transcript.{transcript}
-use Rattle.layout.specs.Stages.{start, isOpen, isEnd}
-use Rattle.layout.proofs.Steps.{rest-start, rest-closed}
+use Rattle.image_stages.specs.Transcript.{transcript}
+use Rattle.image_stages.specs.Stages.{start, isOpen, isEnd}
+use Rattle.image_stages.proofs.Steps.{rest-start, rest-closed}
 use Rattle.image.specs.Laid.{laid}
 use Rattle.image.specs.Pass.{nothingLeft, comesTo, passOf, Within, Turns, Passes}
 use Rattle.image.specs.declared.passes.Pass.{Pass}

@@ -11,12 +11,12 @@ use lib.Seq.{drop-cons}
 use lib.Dec.{leb}
 use borrow.Author.Tests.{le-leb, lt-leb, leb-true}
 use Rattle.edition.specs.Limits.{numberBound}
-use Rattle.grammar.specs.Read.{Got, got}
-use Rattle.coding.specs.Numbers.{coded}
-use Rattle.coding.specs.Reading.{Source, upTo, fromBytes, fromWords}
-use Rattle.coding.proofs.Laws.{got-one, none-some}
-use Rattle.layout.specs.Stages.{isByte, mostAt, takenAt, writtenAt}
-use Rattle.layout.specs.declared.stages.Stage.{Stage}
+use Rattle.ere_grammar.specs.Read.{Got, got}
+use Rattle.image_format.specs.Numbers.{coded}
+use Rattle.image_format.specs.Reading.{Source, upTo, fromBytes, fromWords}
+use Rattle.image_format.proofs.Laws.{got-one, none-some}
+use Rattle.image_stages.specs.Stages.{isByte, mostAt, takenAt, writtenAt}
+use Rattle.image_stages.specs.declared.stages.Stage.{Stage}
 use Rattle.varint.specs.Take.{TakesAt}
 use Rattle.varint.specs.declared.numbers.Taken.{Taken}
 use Rattle.varint.specs.declared.numbers.Taken.the-variants.{Number, Nothing}

@@ -7,15 +7,15 @@ use Prim.Native.Nat.{ℕ, suc, _+_, _*_, _-_, _≤_, _<_}
 use native.Mathlib.Omega.{arith}
 use native.Mathlib.Nat.{mul-suc, mul-le-mul}
 use lib.ListN.{length, drop, length-append}
-use Rattle.grammar.specs.Read.{Got, got}
-use Rattle.coding.specs.Reading.{Source, then}
+use Rattle.ere_grammar.specs.Read.{Got, got}
+use Rattle.image_format.specs.Reading.{Source, then}
 use Rattle.varint.specs.Room.{withAll}
 use Rattle.varint.specs.declared.numbers.Taken.the-variants.{Number}
 use Rattle.varint.proofs.Words.{all-append}
-use Rattle.layout.specs.Transcript.{before}
-use Rattle.layout.specs.Stages.{takenAt, writtenAt, rest, isOpen, after, refusal}
-use Rattle.layout.specs.declared.stages.State.{State}
-use Rattle.layout.proofs.Steps.{rest-step, rest-closed}
+use Rattle.image_stages.specs.Transcript.{before}
+use Rattle.image_stages.specs.Stages.{takenAt, writtenAt, rest, isOpen, after, refusal}
+use Rattle.image_stages.specs.declared.stages.State.{State}
+use Rattle.image_stages.proofs.Steps.{rest-step, rest-closed}
 use Rattle.image.specs.Laid.{Laid, laid}
 use Rattle.image.specs.Pass.{TakesStage, comesTo, Within, leftOf, Turns}
 use Rattle.image.specs.declared.passes.Pass.{Pass}

@@ -7,9 +7,9 @@ use Prim.Native.Nat.{ℕ}
 use lib.ListN.{length, drop}
 use lib.Dec.{leb}
 use Rattle.edition.specs.Outcomes.{done, roomTooSmall, imageMalformed}
-use Rattle.coding.specs.Image.{Image}
-use Rattle.coding.specs.Reading.{readImage, fromBytes, fromWords}
-use Rattle.coding.specs.Writing.{bytesOf, contentOf}
+use Rattle.image_format.specs.Image.{Image}
+use Rattle.image_format.specs.Reading.{readImage, fromBytes, fromWords}
+use Rattle.image_format.specs.Writing.{bytesOf, contentOf}
 use Rattle.image.specs.declared.copied.Copied.{Copied}
 use Rattle.image.specs.declared.copied.Copied.the-variants.{Written, Malformed, NoRoom}
 

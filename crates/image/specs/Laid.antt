@@ -3,7 +3,7 @@ use mathlib.Core.List.{List}
 use mathlib.Core.Option.{Option, some, none}
 use Prim.Native.Nat.{ℕ, _+_}
 use lib.ListN.{length}
-use Rattle.grammar.specs.Read.{Got}
+use Rattle.ere_grammar.specs.Read.{Got}
 use Rattle.varint.specs.Room.{withAll}
 
 -- how many elements there are, what the room has then, and what is left of the source

@@ -6,14 +6,14 @@ use mathlib.Core.Option.{Option, some, none}
 use Prim.Native.Nat.{ℕ, suc, _*_, _-_, _≤_, _<_}
 use lib.ListN.{length, drop}
 use lib.Dec.{eqb}
-use Rattle.grammar.specs.Read.{got}
-use Rattle.coding.specs.Reading.{Source}
+use Rattle.ere_grammar.specs.Read.{got}
+use Rattle.image_format.specs.Reading.{Source}
 use Rattle.image.specs.Laid.{Laid, laid}
-use Rattle.layout.specs.Transcript.{transcript}
-use Rattle.layout.specs.Stages.{takenAt, rest, isOpen}
+use Rattle.image_stages.specs.Transcript.{transcript}
+use Rattle.image_stages.specs.Stages.{takenAt, rest, isOpen}
 use Rattle.varint.specs.declared.numbers.Taken.{Taken}
 use Rattle.varint.specs.declared.numbers.Taken.the-variants.{Number, Nothing}
-use Rattle.layout.specs.declared.stages.Stage.{Stage}
+use Rattle.image_stages.specs.declared.stages.Stage.{Stage}
 use Rattle.image.specs.declared.passes.Pass.{Pass}
 use Rattle.image.specs.declared.passes.Passed.{Passed}
 

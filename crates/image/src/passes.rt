@@ -2,8 +2,8 @@
 ghost use mathlib.Core.Path.{_≡_};
 ghost use lib.Dec.{eqb};
 ghost use mathlib.Core.Bool.{_&&_};
-ghost use Rattle.layout.specs.Stages.{start, refusal, isOpen, isEnd};
-use layout::State;
+ghost use Rattle.image_stages.specs.Stages.{start, refusal, isOpen, isEnd};
+use image_stages::State;
 
 // Where a pass is in the form of the image and in what it reads, and how much it has written.
 pub struct Pass {
@@ -22,7 +22,7 @@ pub struct Passed {
 pub fn started() -> Pass
     ensures { λ r. ⌜ (r .state ≡ start) × (r .at ≡ 0) × (r .count ≡ 0) ⌝ }
 {
-    let s = layout::start();
+    let s = image_stages::start();
     Pass {
         state: s,
         at: 0,
@@ -34,7 +34,7 @@ pub fn started() -> Pass
 pub fn refused(p: Pass) -> Pass
     ensures { λ r. ⌜ (r .state ≡ refusal (p .state)) × (r .at ≡ p .at) × (r .count ≡ p .count) ⌝ }
 {
-    let s = layout::refusal(p.state);
+    let s = image_stages::refusal(p.state);
     Pass {
         state: s,
         at: p.at,
@@ -48,7 +48,7 @@ pub fn goes_on(p: Pass) -> bool
 {
     let s = p.state;
     let stage = s.stage;
-    layout::is_open(stage)
+    image_stages::is_open(stage)
 }
 
 // The answer of a pass over `length` elements that doesn't go on: nothing may follow an image.
@@ -58,7 +58,7 @@ pub fn ended(p: Pass, length: usize) -> Passed
     let s = p.state;
     let stage = s.stage;
     Passed {
-        ok: layout::is_end(stage) && p.at == length,
+        ok: image_stages::is_end(stage) && p.at == length,
         count: p.count,
     }
 }

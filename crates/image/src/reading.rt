@@ -4,8 +4,8 @@ ghost use mathlib.Core.Bool.{true};
 ghost use mathlib.Core.List.{[], _∷_};
 ghost use Prim.Native.Nat.{_≤_};
 ghost use lib.ListN.{length};
-ghost use Rattle.coding.specs.Reading.{readImage, fromBytes};
-ghost use Rattle.layout.specs.Stages.{isOpen};
+ghost use Rattle.image_format.specs.Reading.{readImage, fromBytes};
+ghost use Rattle.image_stages.specs.Stages.{isOpen};
 ghost use Rattle.varint.specs.Room.{withOne};
 ghost use Rattle.image.specs.Pass.{TakesStage, Within, Turns, passOf, Passes};
 ghost use Rattle.image.specs.Copy.{copyingOf, readOf, isImage};
@@ -13,7 +13,7 @@ use crate::copied::Copied;
 use crate::passes;
 use crate::passes::Pass;
 use crate::passes::Passed;
-use layout::Stage;
+use image_stages::Stage;
 use varint::Taken;
 
 // What comes at a stage, off the bytes from a place on: a text byte or a number.
@@ -21,7 +21,7 @@ fn take(image: &[u8], stage: Stage, at: usize) -> Taken
     requires { ⌜ at ≤ length (now image) ⌝ }
     ensures { λ r. ⌜ TakesStage fromBytes (now (image .entry)) stage at r ⌝ }
 {
-    if !layout::is_byte(stage) {
+    if !image_stages::is_byte(stage) {
         return varint::take_number(image, at);
     }
     if at < image.len() {
@@ -51,7 +51,7 @@ fn turn(image: &[u8], p: Pass, words: &mut [u64]) -> Pass
         return passes::refused(p);
     };
     put_word(words, k, v);
-    let next = layout::after(s, v);
+    let next = image_stages::after(s, v);
     Pass {
         state: next,
         at,

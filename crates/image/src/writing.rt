@@ -3,10 +3,10 @@ ghost use mathlib.Core.Path.{_≡_};
 ghost use mathlib.Core.Bool.{true};
 ghost use Prim.Native.Nat.{_+_, _≤_, _<_, _^_};
 ghost use lib.ListN.{length};
-ghost use Rattle.coding.specs.Numbers.{coded};
-ghost use Rattle.coding.specs.Reading.{fromWords};
+ghost use Rattle.image_format.specs.Numbers.{coded};
+ghost use Rattle.image_format.specs.Reading.{fromWords};
 ghost use Rattle.varint.specs.Room.{withAll};
-ghost use Rattle.layout.specs.Stages.{isOpen, mostAt, writtenAt};
+ghost use Rattle.image_stages.specs.Stages.{isOpen, mostAt, writtenAt};
 ghost use Rattle.image.specs.Pass.{TakesStage, Within, Turns, passOf, Passes};
 ghost use Rattle.image.specs.Copy.{copyingOf, writtenOf};
 use crate::copied::Copied;
@@ -14,7 +14,7 @@ use crate::passes;
 use crate::passes::Pass;
 use crate::passes::Passed;
 use edition::Edition;
-use layout::Stage;
+use image_stages::Stage;
 use varint::Taken;
 
 // The greatest text byte.
@@ -24,7 +24,7 @@ const BYTE: u64 = 255;
 fn most(stage: Stage) -> u64
     ensures { λ r. ⌜ r ≡ mostAt stage ⌝ }
 {
-    if layout::is_byte(stage) {
+    if image_stages::is_byte(stage) {
         return BYTE;
     }
     Edition::NUMBER
@@ -50,7 +50,7 @@ fn put(bytes: &mut [u8], stage: Stage, k: usize, v: u64) -> usize
     requires { ⌜ (v ≤ mostAt stage) × (k + 8 < 2 ^ 64) ⌝ }
     ensures { λ r. ⌜ (r ≡ k + length (writtenAt fromWords coded stage v)) × (now (bytes .exit) ≡ withAll (now (bytes .entry)) k (writtenAt fromWords coded stage v)) ⌝ }
 {
-    if layout::is_byte(stage) {
+    if image_stages::is_byte(stage) {
         varint::put_byte(bytes, k, v as u8);
         return k + 1;
     }
@@ -68,7 +68,7 @@ fn turn(content: &[u64], p: Pass, bytes: &mut [u8]) -> Pass
         return passes::refused(p);
     };
     let count = put(bytes, stage, p.count, v);
-    let next = layout::after(s, v);
+    let next = image_stages::after(s, v);
     Pass {
         state: next,
         at,

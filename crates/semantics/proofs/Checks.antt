@@ -8,10 +8,10 @@ use Prim.Native.Nat.{ℕ, suc, _+_, _-_, _≤_, _<_}
 use native.Mathlib.Omega.{arith}
 use lib.ListN.{length, getD}
 use Rattle.edition.specs.Limits.{textBytes, userNames, constantCount, ereCount, instructionCount, operandDepth}
-use Rattle.grammar.specs.Read.{readEre}
-use Rattle.coding.specs.Codes.{nth, Named, a-constant, a-variable, an-ere, an-instruction, a-count, Code, codeOf, Operation, action, flow, constant, get, set, field, set-field, drop, arithmetic, negate, to-number, negation, compare, join, matches, match, length-of, index, substr, print, end, jump, jump-if-false, next, exit}
-use Rattle.coding.specs.Image.{Constant, number, text, Instruction, Image}
-use Rattle.coding.proofs.Laws.{got-one, none-some}
+use Rattle.ere_grammar.specs.Read.{readEre}
+use Rattle.image_format.specs.Codes.{nth, Named, a-constant, a-variable, an-ere, an-instruction, a-count, Code, codeOf, Operation, action, flow, constant, get, set, field, set-field, drop, arithmetic, negate, to-number, negation, compare, join, matches, match, length-of, index, substr, print, end, jump, jump-if-false, next, exit}
+use Rattle.image_format.specs.Image.{Constant, number, text, Instruction, Image}
+use Rattle.image_format.proofs.Laws.{got-one, none-some}
 use Rattle.semantics.specs.Variables.{assignable}
 use Rattle.semantics.specs.Moves.{Section, begin, each, finish, sectionOf, isEnd}
 use Rattle.semantics.specs.Check.{exists, smallConstant, allExist, leaves, successors, depthIs, flowAllowed, allowed, holdsFor, byCode, instructionChecks, sectionChecks, check}

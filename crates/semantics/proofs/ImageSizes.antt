@@ -10,13 +10,13 @@ use lib.ListN.{length, length-append}
 use lib.Dec.{ltb}
 use borrow.Author.Tests.{lt-ltb}
 use Rattle.edition.specs.Limits.{instructionCount, operandDepth, ereBytes}
-use Rattle.grammar.proofs.Reading.{read-sound}
-use Rattle.coding.specs.Codes.{nth, Named, a-constant, a-variable, an-ere, an-instruction, a-count, Code, codes, codeOf}
-use Rattle.coding.specs.Image.{Constant, number, text, Instruction, Image}
-use Rattle.coding.specs.Formed.{Every, none as no-more, both}
-use Rattle.coding.specs.Numbers.{groups, coded}
-use Rattle.coding.specs.Writing.{all, listed, bytes, constantIn, instructionIn, written, bytesOf}
-use Rattle.coding.proofs.Laws.{got-one, none-some}
+use Rattle.ere_grammar.proofs.Reading.{read-sound}
+use Rattle.image_format.specs.Codes.{nth, Named, a-constant, a-variable, an-ere, an-instruction, a-count, Code, codes, codeOf}
+use Rattle.image_format.specs.Image.{Constant, number, text, Instruction, Image}
+use Rattle.image_format.specs.Formed.{Every, none as no-more, both}
+use Rattle.image_format.specs.Numbers.{groups, coded}
+use Rattle.image_format.specs.Writing.{all, listed, bytes, constantIn, instructionIn, written, bytesOf}
+use Rattle.image_format.proofs.Laws.{got-one, none-some}
 use Rattle.semantics.specs.Moves.{Section, begin, each, finish, sectionOf}
 use Rattle.semantics.specs.Checked.{Exists, AllExist, Short, Checked}
 

@@ -9,8 +9,8 @@ use native.Mathlib.Omega.{arith}
 use lib.ListN.{length, getD}
 use lib.Dec.{eqb, ltb, leb}
 use borrow.Author.Tests.{ltb-true, leb-true, eqb-true, lt-ltb, le-leb, eq-eqb}
-use Rattle.coding.specs.Codes.{nth}
-use Rattle.coding.proofs.Laws.{got-one, none-some}
+use Rattle.image_format.specs.Codes.{nth}
+use Rattle.image_format.proofs.Laws.{got-one, none-some}
 use Rattle.semantics.specs.Check.{all, allFrom, isSome, same}
 
 abbrev pub Says : Bool → Type 0 → Type 0

@@ -6,8 +6,8 @@ use mathlib.Core.Option.{Option, some}
 use Prim.Native.Nat.{ℕ, zero, suc, _≤_}
 use native.Mathlib.Omega.{arith}
 use lib.ListN.{length, take}
-use Rattle.coding.specs.Codes.{nth, Code, codes, codeOf, Operation, action, flow, constant, get, set, field, set-field, drop, arithmetic, negate, to-number, negation, compare, join, matches, match, length-of, index, substr, print, end, jump, jump-if-false, next, exit}
-use Rattle.coding.proofs.Laws.{got-one, none-some}
+use Rattle.image_format.specs.Codes.{nth, Code, codes, codeOf, Operation, action, flow, constant, get, set, field, set-field, drop, arithmetic, negate, to-number, negation, compare, join, matches, match, length-of, index, substr, print, end, jump, jump-if-false, next, exit}
+use Rattle.image_format.proofs.Laws.{got-one, none-some}
 use Rattle.values.specs.Value.{Value}
 use Rattle.semantics.specs.Moves.{one, unary, binary, ternary}
 

@@ -8,11 +8,11 @@ use Prim.Native.Nat.{ℕ, _≤_}
 use lib.ListN.{length, take, drop as dropped}
 use lib.Dec.{eqb, ltb, leb}
 use borrow.Author.Tests.{ltb-false, leb-true, leb-false, le-leb, lt-leb, le-ltb, eqb-true, eqb-false, eq-eqb, ne-eqb}
-use Rattle.pattern.specs.Tree.{Class, Ere}
-use Rattle.pattern.specs.Meaning.{Match}
-use Rattle.coding.specs.Codes.{nth, Code, codeOf, Operation, action, flow, Action, constant, get, set, field, set-field, drop, arithmetic, negate, to-number, negation, compare, join, matches, match, length-of, index, substr, print, Flow, end, jump, jump-if-false, next, exit}
-use Rattle.coding.specs.Image.{Constant, Instruction, Image}
-use Rattle.coding.proofs.Laws.{none-some}
+use Rattle.ere_meaning.specs.Tree.{Class, Ere}
+use Rattle.ere_meaning.specs.Meaning.{Match}
+use Rattle.image_format.specs.Codes.{nth, Code, codeOf, Operation, action, flow, Action, constant, get, set, field, set-field, drop, arithmetic, negate, to-number, negation, compare, join, matches, match, length-of, index, substr, print, Flow, end, jump, jump-if-false, next, exit}
+use Rattle.image_format.specs.Image.{Constant, Instruction, Image}
+use Rattle.image_format.proofs.Laws.{none-some}
 use Rattle.values.specs.Value.{Value, Result, gives, stops, truthOf}
 use Rattle.semantics.specs.Variables.{assignable}
 use Rattle.semantics.specs.World.{World, valueAt, readRecord}

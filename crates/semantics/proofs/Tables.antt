@@ -5,8 +5,8 @@ use mathlib.Core.Option.{some}
 use Prim.Native.Nat.{ℕ, zero, suc, _<_}
 use native.Mathlib.Omega.{arith}
 use lib.ListN.{length}
-use Rattle.coding.specs.Codes.{nth, a-constant, a-variable, an-ere, an-instruction, Code, code, printing, codes, codeOf, Operation, action, flow, constant, get, set, field, set-field, drop, arithmetic, negate, to-number, negation, compare, join, matches, match, length-of, index, substr, print, end, jump, jump-if-false, next, exit}
-use Rattle.coding.proofs.Laws.{got-one, none-some}
+use Rattle.image_format.specs.Codes.{nth, a-constant, a-variable, an-ere, an-instruction, Code, code, printing, codes, codeOf, Operation, action, flow, constant, get, set, field, set-field, drop, arithmetic, negate, to-number, negation, compare, join, matches, match, length-of, index, substr, print, end, jump, jump-if-false, next, exit}
+use Rattle.image_format.proofs.Laws.{got-one, none-some}
 
 -- each element
 abbrev pub AllOf : {A : Type 0} → (A → Type 0) → List A → Type 0

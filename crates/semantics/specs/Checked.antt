@@ -7,10 +7,10 @@ use mathlib.Core.Option.{Option, some, none}
 use Prim.Native.Nat.{ℕ, suc, _+_, _-_, _≤_, _<_}
 use lib.ListN.{length, getD}
 use Rattle.edition.specs.Limits.{textBytes, userNames, constantCount, ereCount, instructionCount, operandDepth}
-use Rattle.pattern.specs.Tree.{Class, Ere}
-use Rattle.grammar.specs.Read.{readEre}
-use Rattle.coding.specs.Codes.{nth, Named, a-constant, a-variable, an-ere, an-instruction, a-count, Code, codeOf, action, flow, set, print, end, next, exit}
-use Rattle.coding.specs.Image.{Constant, number, text, Instruction, Image}
+use Rattle.ere_meaning.specs.Tree.{Class, Ere}
+use Rattle.ere_grammar.specs.Read.{readEre}
+use Rattle.image_format.specs.Codes.{nth, Named, a-constant, a-variable, an-ere, an-instruction, a-count, Code, codeOf, action, flow, set, print, end, next, exit}
+use Rattle.image_format.specs.Image.{Constant, number, text, Instruction, Image}
 use Rattle.semantics.specs.Variables.{specials, assignable}
 use Rattle.semantics.specs.Moves.{Section, each, sectionOf}
 use Rattle.semantics.specs.Check.{successors}

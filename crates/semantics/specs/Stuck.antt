@@ -7,9 +7,9 @@ use mathlib.Core.List.{List, [], _∷_}
 use mathlib.Core.Option.{some, none}
 use Prim.Native.Nat.{ℕ, _≤_, _<_}
 use lib.ListN.{length}
-use Rattle.grammar.specs.Read.{readEre}
-use Rattle.coding.specs.Codes.{nth, Code, codeOf, action, flow, constant, get, set, matches, match, print, next}
-use Rattle.coding.specs.Image.{Instruction, Image}
+use Rattle.ere_grammar.specs.Read.{readEre}
+use Rattle.image_format.specs.Codes.{nth, Code, codeOf, action, flow, constant, get, set, matches, match, print, next}
+use Rattle.image_format.specs.Image.{Instruction, Image}
 use Rattle.semantics.specs.Variables.{assignable}
 use Rattle.semantics.specs.World.{World, valueAt}
 use Rattle.semantics.specs.Moves.{Section, begin, each, finish, Place, at, between, Control, Config, sectionOf}

@@ -6,8 +6,8 @@ use Prim.Native.Nat.{ℕ, zero, suc, _<_}
 use native.Mathlib.Omega.{arith}
 use lib.ListN.{length, getD}
 use borrow.Author.Tests.{eq-eqb, ne-eqb}
-use Rattle.pattern.specs.Tree.{Class, Ere}
-use Rattle.grammar.specs.Read.{readEre}
+use Rattle.ere_meaning.specs.Tree.{Class, Ere}
+use Rattle.ere_grammar.specs.Read.{readEre}
 use types.Run.{OneOf, miss}
 use denote.Enum.Declared.{tagOf}
 use Rattle.separators.specs.Kinds.{Told, Tells}

@@ -10,11 +10,11 @@ use borrow.Author.Tests.{lt-ltb, le-ltb, le-leb}
 use Rattle.buffer.specs.First.{firstByte}
 use Rattle.buffer.proofs.First.{first-byte-most}
 use Rattle.buffer.proofs.Lent.{tail-lent}
-use Rattle.pattern.specs.Tree.{Class, takes, Ere}
-use Rattle.pattern.specs.Meaning.{Match}
-use Rattle.grammar.specs.Bytes.{oneOf}
-use Rattle.automaton.specs.Find.{Finds, matchOf}
-use Rattle.automaton.specs.declared.search.Found.{Found}
+use Rattle.ere_meaning.specs.Tree.{Class, takes, Ere}
+use Rattle.ere_meaning.specs.Meaning.{Match}
+use Rattle.ere_grammar.specs.Bytes.{oneOf}
+use Rattle.ere_search.specs.Find.{Finds, matchOf}
+use Rattle.ere_search.specs.declared.search.Found.{Found}
 use Rattle.ere.specs.Answer.{Serves, Bytes}
 use Rattle.ere.proofs.Serving.{serves-answer}
 use Rattle.splitting.specs.Separator.{blank, byte, ere}

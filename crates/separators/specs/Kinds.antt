@@ -5,8 +5,8 @@ use mathlib.Core.List.{List}
 use mathlib.Core.Option.{Option, some, none}
 use Prim.Native.Nat.{ℕ}
 use lib.ListN.{length}
-use Rattle.pattern.specs.Tree.{Class, Ere}
-use Rattle.table.specs.Table.{tableWords}
+use Rattle.ere_meaning.specs.Tree.{Class, Ere}
+use Rattle.ere_table.specs.Table.{tableWords}
 use Rattle.ere.specs.Answer.{Serves}
 use Rattle.splitting.specs.Separator.{Separator, blanks, blank, byte, ere, separatorOf}
 use Rattle.splitting.specs.Field.{span, Next, field, none as nothing}

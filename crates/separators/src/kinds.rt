@@ -2,7 +2,7 @@
 ghost use mathlib.Core.Path.{_≡_};
 ghost use Prim.Native.Nat.{_<_};
 ghost use lib.ListN.{length};
-ghost use Rattle.table.specs.Table.{tableWords};
+ghost use Rattle.ere_table.specs.Table.{tableWords};
 ghost use Rattle.separators.specs.Kinds.{Sized, Tells};
 use edition::Edition;
 

@@ -2,15 +2,15 @@
 ghost use mathlib.Core.Path.{_≡_};
 ghost use Prim.Native.Nat.{_+_, _≤_};
 ghost use lib.ListN.{length, drop};
-ghost use Rattle.pattern.specs.Tree.{Class, Ere};
-ghost use Rattle.grammar.specs.Bytes.{oneOf};
-ghost use Rattle.table.specs.Table.{tableWords};
+ghost use Rattle.ere_meaning.specs.Tree.{Class, Ere};
+ghost use Rattle.ere_grammar.specs.Bytes.{oneOf};
+ghost use Rattle.ere_table.specs.Table.{tableWords};
 ghost use Rattle.ere.specs.Answer.{Serves};
 ghost use Rattle.splitting.specs.Separator.{Separator, blanks, blank, byte, ere};
 ghost use Rattle.splitting.specs.Field.{leading, nextField};
 ghost use Rattle.separators.specs.Kinds.{Sized, Means, nextOf};
 use crate::kinds::Kind;
-use automaton::Found;
+use ere_search::Found;
 use edition::Edition;
 
 // The next field, and the place from which on the one behind it is looked for; unless `found`, there is none. Numbers instead of an enum with a part:
@@ -87,7 +87,7 @@ fn next_by_pattern(t: &[u64], text: &[u8], at: usize) -> Step
     ensures { λ r. ⌜ ((e : Ere Class) → Serves (now (t .entry)) e → nextOf r ≡ nextField (now (text .entry)) (ere e) at) ⌝ }
 {
     let end = text.len();
-    match automaton::find_from(t, &text[at..], at, 1) {
+    match ere_search::find_from(t, &text[at..], at, 1) {
         Found::At(s, n) => Step {
             found: true,
             start: at,

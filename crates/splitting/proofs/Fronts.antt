@@ -10,7 +10,7 @@ use lib.Dec.{eqb}
 use borrow.Author.Tests.{not-true, not-false, eqb-true, eq-eqb, ne-eqb}
 use Rattle.buffer.specs.Parts.{part}
 use Rattle.buffer.specs.First.{firstByte}
-use Rattle.grammar.specs.Bytes.{oneOf}
+use Rattle.ere_grammar.specs.Bytes.{oneOf}
 use Rattle.splitting.specs.Field.{isIn, leading}
 use Rattle.splitting.specs.Meaning.{All, none, both, Behind, at-end, apart}
 use Rattle.splitting.proofs.Runs.{leading-on, leading-ends, leading-most}

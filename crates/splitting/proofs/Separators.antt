@@ -5,9 +5,9 @@ use Prim.Native.Nat.{ℕ, zero, suc, _+_, _-_, _≤_, _<_}
 use native.Mathlib.Decide.{decLt}
 use native.Mathlib.Omega.{arith}
 use lib.ListN.{length, getD}
-use Rattle.pattern.specs.Tree.{Class, takes, Ere}
-use Rattle.pattern.specs.Meaning.{Spans, Match, found, nowhere, BestFrom}
-use Rattle.pattern.proofs.Answers.{best-one}
+use Rattle.ere_meaning.specs.Tree.{Class, takes, Ere}
+use Rattle.ere_meaning.specs.Meaning.{Spans, Match, found, nowhere, BestFrom}
+use Rattle.ere_meaning.proofs.Answers.{best-one}
 use Rattle.splitting.specs.Separator.{ere}
 use Rattle.splitting.specs.Field.{Span, span, upTo, nextField, fieldsFrom, fieldsOf}
 use Rattle.splitting.specs.Meaning.{EreSplit, last, more}

@@ -12,10 +12,10 @@ use lib.Seq.{getD-drop, drop-cons}
 use borrow.Author.Tests.{lt-ltb, le-leb, le-ltb, lt-leb, eq-eqb, ne-eqb}
 use Rattle.buffer.specs.First.{firstByte}
 use Rattle.buffer.proofs.First.{first-byte-most}
-use Rattle.pattern.specs.Tree.{Class, takes, Ere}
-use Rattle.pattern.specs.Meaning.{Match, found, nowhere, BestFrom}
-use Rattle.pattern.specs.Search.{bestFrom}
-use Rattle.pattern.proofs.Answers.{best-from}
+use Rattle.ere_meaning.specs.Tree.{Class, takes, Ere}
+use Rattle.ere_meaning.specs.Meaning.{Match, found, nowhere, BestFrom}
+use Rattle.ere_meaning.specs.Search.{bestFrom}
+use Rattle.ere_meaning.proofs.Answers.{best-from}
 use Rattle.splitting.specs.Separator.{Separator, blank, byte, ere}
 use Rattle.splitting.specs.Field.{Span, span, Next, field, none, leading, upTo, nextField, follow, fieldsIn, fieldsFrom, fieldsOf}
 use Rattle.splitting.specs.Meaning.{Ordered}

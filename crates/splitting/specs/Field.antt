@@ -5,10 +5,10 @@ use Prim.Native.Nat.{ℕ, zero, suc, _+_, _-_}
 use lib.ListN.{length, drop}
 use lib.Dec.{eqb, ltb, leb}
 use Rattle.buffer.specs.First.{firstByte}
-use Rattle.pattern.specs.Tree.{takes}
-use Rattle.pattern.specs.Meaning.{Match, found, nowhere}
-use Rattle.pattern.specs.Search.{bestFrom}
-use Rattle.grammar.specs.Bytes.{oneOf}
+use Rattle.ere_meaning.specs.Tree.{takes}
+use Rattle.ere_meaning.specs.Meaning.{Match, found, nowhere}
+use Rattle.ere_meaning.specs.Search.{bestFrom}
+use Rattle.ere_grammar.specs.Bytes.{oneOf}
 use Rattle.splitting.specs.Separator.{Separator, blank, byte, ere}
 
 -- so many bytes from a place on

@@ -6,9 +6,9 @@ use mathlib.Core.List.{List, [], _∷_, _++_}
 use Prim.Native.Nat.{ℕ, suc, _+_, _-_, _≤_}
 use lib.ListN.{length, drop}
 use Rattle.buffer.specs.Parts.{part}
-use Rattle.pattern.specs.Tree.{Class, takes, Ere}
-use Rattle.pattern.specs.Meaning.{found, nowhere, BestFrom}
-use Rattle.grammar.specs.Bytes.{oneOf}
+use Rattle.ere_meaning.specs.Tree.{Class, takes, Ere}
+use Rattle.ere_meaning.specs.Meaning.{found, nowhere, BestFrom}
+use Rattle.ere_grammar.specs.Bytes.{oneOf}
 use Rattle.splitting.specs.Field.{Span, span, isIn}
 
 -- each byte is in the set, or each is not

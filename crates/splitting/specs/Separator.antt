@@ -4,8 +4,8 @@ use mathlib.Core.List.{List, [], _∷_}
 use mathlib.Core.Option.{Option, some, none}
 use Prim.Native.Nat.{ℕ}
 use lib.Dec.{eqb}
-use Rattle.pattern.specs.Tree.{Class, Ere}
-use Rattle.grammar.specs.Read.{readEre}
+use Rattle.ere_meaning.specs.Tree.{Class, Ere}
+use Rattle.ere_grammar.specs.Read.{readEre}
 
 -- "FS one space: spaces and tabs only": the blanks, by the edition
 unfoldable pub blanks : ℕ → List ℕ

@@ -14,7 +14,7 @@ use Rattle.buffer.specs.declared.search.Order.{Order}
 use Rattle.buffer.specs.declared.search.Order.the-variants.{Less, Equal, Greater}
 use Rattle.number.specs.Range.{Answer}
 use Rattle.number.specs.Arithmetic.{isZero, negative, sumOf, differenceOf, productOf, quotientOf, remainderOf, negationOf}
-use Rattle.coding.specs.Codes.{Arithmetic, add, subtract, multiply, divide, remainder, Comparison, less, at-most, equal, different, greater, at-least}
+use Rattle.image_format.specs.Codes.{Arithmetic, add, subtract, multiply, divide, remainder, Comparison, less, at-most, equal, different, greater, at-least}
 use Rattle.values.specs.Value.{Value, unset, number, text, field-text, Result, gives, stops, then, result, textOf, numberOf, numeric, truthOf, truthValue}
 
 abbrev pub computed : Arithmetic → ℤ → ℤ → Answer

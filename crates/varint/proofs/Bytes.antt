@@ -8,8 +8,8 @@ use lib.ListN.{length, take, drop, getD, length-drop}
 use lib.Seq.{getD-drop, drop-drop}
 use borrow.Author.Tests.{le-leb}
 use Rattle.buffer.specs.Parts.{part}
-use Rattle.grammar.specs.Read.{got}
-use Rattle.coding.specs.Reading.{upTo, many}
+use Rattle.ere_grammar.specs.Read.{got}
+use Rattle.image_format.specs.Reading.{upTo, many}
 
 pub many-bytes : (n : ℕ) (l : List ℕ) → ((i : ℕ) → i < length l → getD l i 0 < 256) → n ≤ length l → many (upTo 255) n l ≡ got (take n l) (drop n l)
 unfolding many

@@ -12,8 +12,8 @@ use lib.Seq.{drop-cons}
 use lib.Dec.{eqb, ltb, leb}
 use borrow.Author.Tests.{ne-eqb, eqb-false, lt-ltb, le-ltb, le-leb, lt-leb, ltb-true, ltb-false}
 use Rattle.edition.specs.Limits.{numberBound}
-use Rattle.grammar.specs.Read.{Got, got}
-use Rattle.coding.specs.Numbers.{above, takeGroups, bounded, takeNumber}
+use Rattle.ere_grammar.specs.Read.{Got, got}
+use Rattle.image_format.specs.Numbers.{above, takeGroups, bounded, takeNumber}
 use Rattle.varint.specs.Take.{TakesAt, lastOf}
 use Rattle.varint.specs.declared.numbers.Taken.the-variants.{Number, Nothing}
 

@@ -9,7 +9,7 @@ use lib.ListN.{length}
 use lib.Dec.{ltb}
 use borrow.Author.Tests.{lt-ltb, le-ltb}
 use Rattle.edition.specs.Limits.{numberBound}
-use Rattle.coding.specs.Numbers.{groups, coded}
+use Rattle.image_format.specs.Numbers.{groups, coded}
 use Rattle.varint.specs.Room.{withOne, withAll}
 
 module _ (room₀ : List ℕ) (k n : ℕ) where

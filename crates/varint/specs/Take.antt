@@ -7,8 +7,8 @@ use Prim.Native.Nat.{ℕ, _+_, _*_, _≤_, _<_}
 use lib.ListN.{length, drop}
 use lib.Dec.{eqb, ltb}
 use Rattle.edition.specs.Limits.{numberBound}
-use Rattle.grammar.specs.Read.{got}
-use Rattle.coding.specs.Numbers.{takeNumber}
+use Rattle.ere_grammar.specs.Read.{got}
+use Rattle.image_format.specs.Numbers.{takeNumber}
 use Rattle.varint.specs.declared.numbers.Taken.{Taken}
 use Rattle.varint.specs.declared.numbers.Taken.the-variants.{Number, Nothing}
 

@@ -3,7 +3,7 @@ ghost use mathlib.Core.Path.{_≡_};
 ghost use Prim.Native.Nat.{_+_, _≤_, _<_, _^_};
 ghost use lib.ListN.{length};
 ghost use Rattle.edition.specs.Limits.{numberBound};
-ghost use Rattle.coding.specs.Numbers.{coded};
+ghost use Rattle.image_format.specs.Numbers.{coded};
 ghost use Rattle.varint.specs.Room.{withOne, withAll};
 
 // Writes byte k, if the room has one there.

@@ -19,19 +19,19 @@ pub enum Group {
 // Whether the case in a frame's payload passes.
 pub fn passes(group: Group, p: &[u8]) -> bool {
     match group {
-        Group::Limits => judge_values::limits::passes(p),
-        Group::Arithmetic => judge_values::arithmetic::passes(p),
-        Group::Reading => judge_values::reading::passes(p),
-        Group::Decimal => judge_values::decimal::passes(p),
-        Group::Compare => judge_values::compare::passes(p),
-        Group::Search => judge_values::search::passes(p),
-        Group::Copies => judge_values::copies::passes(p),
-        Group::Words => judge_values::words::passes(p),
-        Group::Match => judge_texts::matching::passes(p),
-        Group::Split => judge_texts::split::passes(p),
-        Group::Field => judge_texts::field::passes(p),
-        Group::Read => judge_images::reading::passes(p),
-        Group::Write => judge_images::writing::passes(p),
-        Group::Check => judge_images::checking::passes(p),
+        Group::Limits => vectors_values::limits::passes(p),
+        Group::Arithmetic => vectors_values::arithmetic::passes(p),
+        Group::Reading => vectors_values::reading::passes(p),
+        Group::Decimal => vectors_values::decimal::passes(p),
+        Group::Compare => vectors_values::compare::passes(p),
+        Group::Search => vectors_values::search::passes(p),
+        Group::Copies => vectors_values::copies::passes(p),
+        Group::Words => vectors_values::words::passes(p),
+        Group::Match => vectors_texts::matching::passes(p),
+        Group::Split => vectors_texts::split::passes(p),
+        Group::Field => vectors_texts::field::passes(p),
+        Group::Read => vectors_images::reading::passes(p),
+        Group::Write => vectors_images::writing::passes(p),
+        Group::Check => vectors_images::checking::passes(p),
     }
 }

@@ -6,9 +6,9 @@ use Prim.Native.Nat.{ℕ}
 use native.Mathlib.Omega.{arith}
 use lib.ListN.{length}
 use borrow.Author.Tests.{not-true, not-false}
-use Rattle.table.specs.Table.{tableWords}
-use Rattle.table.specs.Build.{withRow, sealed}
-use Rattle.table.proofs.Tables.{finished}
+use Rattle.ere_table.specs.Table.{tableWords}
+use Rattle.ere_table.specs.Build.{withRow, sealed}
+use Rattle.ere_table.proofs.Tables.{finished}
 use Rattle.ere.specs.Answer.{Compiles}
 use Rattle.ere.proofs.Whole.{ere-long, group-bad, group-open, group-whole, group-serves, compiles-none, compiles-some}
 use borrow.Author.Needs.{needs}

@@ -1,8 +1,8 @@
 -- `search`: by what `compile` and `find_from` answer.
 use mathlib.Core.Path.{sym, ap, subst, _∙_}
 use borrow.Author.Tests.{not-true, not-false}
-use Rattle.automaton.specs.Find.{matchOf}
-use Rattle.automaton.specs.declared.search.Found.{Found}
+use Rattle.ere_search.specs.Find.{matchOf}
+use Rattle.ere_search.specs.declared.search.Found.{Found}
 use Rattle.ere.specs.Answer.{matched, Compiles}
 use Rattle.ere.proofs.Serving.{searched-bad, searched-long, searched-found}
 use borrow.Author.Needs.{needs}

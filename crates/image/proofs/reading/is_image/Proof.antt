@@ -1,6 +1,6 @@
 -- `is_image` meets its contract, by a pass.
 use mathlib.Core.List.{[], _∷_}
-use Rattle.coding.specs.Reading.{fromBytes}
+use Rattle.image_format.specs.Reading.{fromBytes}
 use Rattle.image.proofs.Copies.{pass-image}
 use borrow.Author.Needs.{needs}
 use Rattle.image.proofs.reading.is_image.Statement.{statement}

@@ -3,7 +3,7 @@ use borrow.Author.Needs.{needs}
 use mathlib.Core.Path.{_≡_, sym, _∙_}
 use lib.ListN.{length}
 use mathlib.Core.List.{[], _∷_}
-use Rattle.coding.specs.Reading.{fromBytes}
+use Rattle.image_format.specs.Reading.{fromBytes}
 use Rattle.image.specs.Pass.{leftOf}
 use Rattle.image.proofs.Ended.{Going, pass-starts, pass-goes, pass-ends}
 use Rattle.image.proofs.reading.pass.Statement.{statement}

@@ -5,7 +5,7 @@ use Prim.Native.Nat.{ℕ}
 use lib.ListN.{length}
 use native.Mathlib.Omega.{arith}
 use Rattle.edition.specs.Outcomes.{imageMalformed, roomTooSmall}
-use Rattle.coding.specs.Reading.{fromBytes}
+use Rattle.image_format.specs.Reading.{fromBytes}
 use borrow.Author.Tests.{not-true, not-false}
 use borrow.Author.Needs.{needs}
 use Rattle.image.specs.Pass.{passOf, Passes}

@@ -4,7 +4,7 @@ use mathlib.Core.List.{[], _∷_}
 use lib.ListN.{length}
 use Rattle.varint.specs.Room.{withAll}
 use native.Mathlib.Omega.{arith}
-use Rattle.coding.specs.Reading.{fromBytes}
+use Rattle.image_format.specs.Reading.{fromBytes}
 use Rattle.image.specs.Pass.{TakesStage}
 use Rattle.image.proofs.Stage.{word-written}
 use Rattle.image.proofs.Turned.{turned, turned-refused}

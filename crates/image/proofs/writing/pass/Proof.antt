@@ -2,8 +2,8 @@
 use borrow.Author.Needs.{needs}
 use mathlib.Core.Path.{_≡_, sym, _∙_}
 use lib.ListN.{length}
-use Rattle.coding.specs.Numbers.{coded}
-use Rattle.coding.specs.Reading.{fromWords}
+use Rattle.image_format.specs.Numbers.{coded}
+use Rattle.image_format.specs.Reading.{fromWords}
 use Rattle.image.specs.Pass.{leftOf}
 use Rattle.image.proofs.Ended.{Going, pass-starts, pass-goes, pass-ends}
 use Rattle.image.proofs.writing.pass.Statement.{statement}

@@ -2,7 +2,7 @@
 use mathlib.Core.Path.{_∙_}
 use native.Mathlib.Omega.{arith}
 use lib.ListN.{drop}
-use Rattle.layout.specs.Stages.{mostAt}
+use Rattle.image_stages.specs.Stages.{mostAt}
 use Rattle.image.proofs.Stage.{up-taken, up-over, up-out, words-at}
 use borrow.Author.Needs.{needs}
 use Rattle.image.proofs.writing.take.Statement.{statement}

@@ -1,8 +1,8 @@
 -- `turn` meets its contract: what comes, as its bytes, and what is still to come behind it.
 use mathlib.Core.Path.{subst}
 use native.Mathlib.Omega.{arith}
-use Rattle.coding.specs.Reading.{fromWords}
-use Rattle.coding.specs.Numbers.{coded}
+use Rattle.image_format.specs.Reading.{fromWords}
+use Rattle.image_format.specs.Numbers.{coded}
 use Rattle.image.specs.Pass.{TakesStage}
 use Rattle.image.proofs.Stage.{words-most, bytes-written}
 use Rattle.image.proofs.Turned.{turned, turned-refused}

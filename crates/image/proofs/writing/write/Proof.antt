@@ -5,8 +5,8 @@ use Prim.Native.Nat.{ℕ}
 use lib.ListN.{length}
 use native.Mathlib.Omega.{arith}
 use Rattle.edition.specs.Outcomes.{imageMalformed, roomTooSmall}
-use Rattle.coding.specs.Numbers.{coded}
-use Rattle.coding.specs.Reading.{fromWords}
+use Rattle.image_format.specs.Numbers.{coded}
+use Rattle.image_format.specs.Reading.{fromWords}
 use borrow.Author.Tests.{not-true, not-false}
 use borrow.Author.Needs.{needs}
 use Rattle.image.specs.Pass.{passOf, Passes}

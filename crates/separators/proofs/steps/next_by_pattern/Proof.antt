@@ -4,8 +4,8 @@ use Prim.Native.Nat.{_-_}
 use native.Mathlib.Numerals.{add-one}
 use Rattle.separators.proofs.Stepping.{ere-is}
 use Rattle.splitting.specs.Field.{upTo}
-use Rattle.automaton.specs.declared.search.Found.{Found}
-use Rattle.automaton.specs.Find.{matchOf, Inside}
+use Rattle.ere_search.specs.declared.search.Found.{Found}
+use Rattle.ere_search.specs.Find.{matchOf, Inside}
 use lib.ListN.{length}
 use mathlib.Core.Path.{sym, ap, subst, _∙_}
 use native.Mathlib.Omega.{arith}

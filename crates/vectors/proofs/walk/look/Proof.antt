@@ -1,6 +1,6 @@
 -- `vectors::walk::look` is safe: a payload is no longer than the room.
 use mathlib.Core.Path.{ap}
-use Rattle.cases.specs.Frames.{sizeOf}
+use Rattle.vectors_frames.specs.Frames.{sizeOf}
 use borrow.Author.Needs.{needs}
 use Rattle.vectors.proofs.walk.look.Statement.{statement}
 use Rattle.vectors.proofs.walk.look.Tie as tie

@@ -2,7 +2,7 @@
 use mathlib.Core.Path.{_≡_}
 use borrow.Author.Needs.{needs}
 use lib.ListN.{length}
-use Rattle.cases.proofs.Counting.{left-fewer}
+use Rattle.vectors_frames.proofs.Counting.{left-fewer}
 use Rattle.vectors.proofs.walk.walk.Statement.{statement}
 use Rattle.vectors.proofs.walk.walk.Tie as tie
 

@@ -1,0 +1,95 @@
+// The reader of EREs: it calls itself for groups alone; items are a loop.
+ghost use mathlib.Core.Path.{_≡_};
+ghost use Prim.Native.Nat.{ℕ, _+_, _-_, _≤_, _<_};
+ghost use lib.ListN.{length, getD};
+ghost use Rattle.edition.specs.Limits.{erePlaces, ereBytes};
+ghost use Rattle.ere_table.specs.Table.{tableWords};
+ghost use Rattle.ere_parser.specs.Standing.{Safe, Begins, Moves, GroupReads};
+use edition::Edition;
+use crate::atoms;
+use crate::rows::Entry;
+use crate::rows::Piece;
+use crate::rows::State;
+use crate::turns;
+
+// An atom more that is no group.
+fn atom(ere: &[u8], s: State, t: &mut [u64]) -> State
+    requires { ⌜ (length (now t) ≡ tableWords) × (length (now ere) ≤ ereBytes) × (s .at < length (now ere)) × Safe (now ere) s × Begins (getD (now ere) (s .at) 0) ⌝ }
+    ensures { λ r. ⌜ ((n : ℕ) → Moves (now (ere .entry)) n (now (t .entry)) (now (t .exit)) s r) ⌝ }
+{
+    let at = s.at;
+    let p = s.hi;
+    let count = s.count;
+    if count >= Edition::ERE_PLACES {
+        return turns::refused(s);
+    }
+    let a = atoms::read_atom(ere, at);
+    if !a.ok {
+        return turns::refused(s);
+    }
+    let words = a.words;
+    let next = a.next;
+    let g = turns::leaf(words, next, p, count, t);
+    let b = turns::byte_at(ere, next);
+    let r = turns::repeated(b, g, p, t);
+    turns::pushed(s, r, t)
+}
+
+// One turn: the end of the group, a `|`, an anchor, a group inside, or another atom.
+fn item(ere: &[u8], levels: usize, s: State, t: &mut [u64]) -> State
+    requires { ⌜ (length (now t) ≡ tableWords) × (length (now ere) ≤ ereBytes) × Safe (now ere) s ⌝ }
+    ensures { λ r. ⌜ Moves (now (ere .entry)) levels (now (t .entry)) (now (t .exit)) s r ⌝ }
+{
+    let at = s.at;
+    if at >= ere.len() {
+        return turns::ended(s);
+    }
+    let b = ere[at];
+    if b == b')' {
+        return turns::ended(s);
+    }
+    if b == b'|' {
+        return turns::choice(s);
+    }
+    if b == b'^' {
+        let bol = Entry {
+            first: [0, 0, 3],
+            later: [0, 0, 0],
+        };
+        return turns::anchor(s, bol, t);
+    }
+    if b == b'$' {
+        let eol = Entry {
+            first: [0, 0, 2],
+            later: [0, 0, 2],
+        };
+        return turns::anchor(s, eol, t);
+    }
+    if b != b'(' {
+        return atom(ere, s, t);
+    }
+    if levels == 0 {
+        return turns::refused(s);
+    }
+    let g = read_group(ere, levels - 1, at + 1, s.hi, s.count, t);
+    turns::grouped(ere, s, g, t)
+}
+
+// A group, from an index up to its `)` or the end; its first place is lo.
+pub fn read_group(
+    ere: &[u8],
+    levels: usize,
+    at: usize,
+    lo: usize,
+    count: usize,
+    t: &mut [u64],
+) -> Piece
+    requires { ⌜ (length (now t) ≡ tableWords) × (length (now ere) ≤ ereBytes) × (at ≤ length (now ere)) × (lo ≤ count) × (count ≤ erePlaces) ⌝ }
+    ensures { λ r. ⌜ GroupReads (now (ere .entry)) levels at lo count (now (t .entry)) (now (t .exit)) r ⌝ }
+{
+    let mut s = turns::start(at, lo, count);
+    while !s.over {
+        s = item(ere, levels, s, t);
+    }
+    turns::finish(s)
+}

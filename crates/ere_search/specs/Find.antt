@@ -1,0 +1,25 @@
+-- What the walk over the table of an ERE finds: the best of its spans.
+use mathlib.Core.Path.{_≡_}
+use mathlib.Core.List.{List}
+use Prim.Native.Nat.{ℕ, _+_, _≤_}
+use lib.ListN.{length, drop}
+use Rattle.ere_meaning.specs.Tree.{Ere}
+use Rattle.ere_meaning.specs.Meaning.{Match, found, nowhere, BestFrom}
+use Rattle.ere_table.specs.Wiring.{Tabled}
+use Rattle.ere_table.specs.Table.{takesAt}
+use Rattle.ere_search.specs.declared.search.Found.{Found}
+use Rattle.ere_search.specs.declared.search.Found.the-variants.{At, Nowhere}
+
+-- an answer of the code
+abbrev pub matchOf : Found → Match
+matchOf (At s n) = found s n
+matchOf Nowhere = nowhere
+
+abbrev pub Inside : ℕ → ℕ → Found → Type 0
+Inside at len (At s n) = (at ≤ s) × (s + n ≤ at + len)
+Inside at len Nowhere = Unit
+
+-- r is the best match of at least `least` bytes in the text of which `rest` is what stands from place `at` on
+pub record Finds (t rest : List ℕ) (at least : ℕ) (r : Found) : Type 0 where
+  pub inside : Inside at (length rest) r
+  pub best : (e : Ere ℕ) (w : List ℕ) → Tabled t e → at ≤ length w → drop at w ≡ rest → BestFrom (takesAt t) w e at least (matchOf r)

@@ -1,0 +1,58 @@
+// Whether there is a match at all, by one walk from all starts at once.
+ghost use mathlib.Core.Path.{_≡_};
+ghost use Prim.Native.Nat.{_<_, _^_};
+ghost use lib.ListN.{length};
+ghost use Rattle.ere_table.specs.Table.{tableWords, row, join};
+ghost use Rattle.ere_search.specs.Walk.{entryRow};
+ghost use Rattle.ere_search.specs.Any.{Exists, passes};
+use crate::search;
+use crate::words;
+
+// The set s with that in which a match that starts at i begins.
+fn with_entry(t: &[u64], s: [u64; 3], i: usize) -> [u64; 3]
+    requires { ⌜ length (now t) ≡ tableWords ⌝ }
+    ensures { λ r. ⌜ r ≡ join s (row (now (t .entry)) (entryRow i)) ⌝ }
+{
+    if i == 0 {
+        return words::with_row(s, t, 0);
+    }
+    words::with_row(s, t, 1)
+}
+
+// Whether the set has nothing in it, no stop mark either, and no match begins with the byte b.
+fn passed(t: &[u64], s: [u64; 3], b: u8, empty: bool) -> bool
+    requires { ⌜ length (now t) ≡ tableWords ⌝ }
+    ensures { λ r. ⌜ r ≡ passes (now (t .entry)) s b empty ⌝ }
+{
+    if search::dead(s) {
+        if s[2] == 0 {
+            return !search::may_begin(t, b, empty);
+        }
+    }
+    false
+}
+
+// Whether a match stands in the text. `live` is what may come next at i after the starts before i: each byte is looked at once.
+pub fn exists(t: &[u64], text: &[u8]) -> bool
+    requires { ⌜ (length (now t) ≡ tableWords) × (length (now text) < 2 ^ 63) ⌝ }
+    ensures { λ r. ⌜ Exists (now (t .entry)) (now (text .entry)) r ⌝ }
+{
+    let empty = search::may_be_empty(t, 0);
+    let mut live = [0u64; 3];
+    let mut i: usize = 0;
+    while i < text.len() {
+        if passed(t, live, text[i], empty) {
+            live = [0u64; 3];
+        } else {
+            let all = with_entry(t, live, i);
+            if search::stops(all, false) {
+                return true;
+            }
+            let next = words::step(t, all, text[i]);
+            live = next;
+        }
+        i += 1;
+    }
+    let all = with_entry(t, live, i);
+    search::stops(all, true)
+}

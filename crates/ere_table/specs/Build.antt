@@ -1,0 +1,78 @@
+-- Building a table. A part's rows have the stop mark where the part may end; what follows it is put there.
+use mathlib.Core.Bool.{Bool, cond, _&&_}
+use mathlib.Core.List.{List, [], _∷_}
+use Prim.Native.Nat.{ℕ, zero, suc, _+_, _-_, _*_, _/_, _%_, _^_}
+use lib.ListN.{getD, set}
+use lib.Bits.{bitOr, bitAnd}
+use lib.Dec.{eqb, ltb}
+use Rattle.ere_table.specs.Table.{placeCount, rowWords, classWords, mem, row}
+use Rattle.lists.specs.Digit.{bit}
+
+-- the set x with y in place of its stop mark
+abbrev pub link : List ℕ → List ℕ → List ℕ
+link x y =
+    cond (mem x placeCount) (bitOr (getD x 0 0) (getD y 0 0) ∷ bitOr (getD x 1 0) (getD y 1 0) ∷ bitAnd (getD x 2 0) (getD y 2 0) ∷ [])
+    (getD x 0 0 ∷ getD x 1 0 ∷ bitAnd (getD x 2 0) (getD y 2 0) ∷ [])
+
+-- the set x with the stop marks
+abbrev pub orStop : List ℕ → List ℕ
+orStop x = getD x 0 0 ∷ getD x 1 0 ∷ 3 ∷ []
+
+-- only the stop marks; only that of the text's end; only the place p
+abbrev pub stops : List ℕ
+stops = 0 ∷ 0 ∷ 3 ∷ []
+
+abbrev pub endStop : List ℕ
+endStop = 0 ∷ 0 ∷ 2 ∷ []
+
+abbrev pub single : ℕ → List ℕ
+single p = cond (ltb p 64) (1 * 2 ^ p % 2 ^ 64 ∷ 0 ∷ 0 ∷ []) (0 ∷ 1 * 2 ^ (p - 64) % 2 ^ 64 ∷ 0 ∷ [])
+
+-- the table t with the row r set to x
+abbrev pub withRow : List ℕ → ℕ → List ℕ → List ℕ
+withRow t r x = set (set (set t (3 * r) (getD x 0 0)) (3 * r + 1) (getD x 1 0)) (3 * r + 2) (getD x 2 0)
+
+-- the rows from r on, n of them, with y in place of their stop marks
+unfoldable pub linkRows : List ℕ → ℕ → ℕ → List ℕ → List ℕ
+linkRows t r zero y = t
+linkRows t r (suc n) y = withRow (linkRows t r n y) (r + n) (link (row (linkRows t r n y) (r + n)) y)
+
+-- four words from index i on
+abbrev pub fourAt : List ℕ → ℕ → List ℕ → List ℕ
+fourAt t i c = set (set (set (set t i (getD c 0 0)) (i + 1) (getD c 1 0)) (i + 2) (getD c 2 0)) (i + 3) (getD c 3 0)
+
+-- the table t with the class of the place p set to c
+abbrev pub withClass : List ℕ → ℕ → List ℕ → List ℕ
+withClass t p c = fourAt t (rowWords + 4 * p) c
+
+-- a match may begin with the place p
+abbrev pub entered : List ℕ → ℕ → Bool
+entered t p = bit (bitOr (getD t (p / 64) 0) (getD t (3 + p / 64) 0)) (p % 64)
+
+-- the class out with that of the place p
+abbrev pub joinClass : List ℕ → List ℕ → ℕ → List ℕ
+joinClass t out p =
+    bitOr (getD out 0 0) (getD t (rowWords + 4 * p) 0)
+    ∷ bitOr (getD out 1 0) (getD t (rowWords + 4 * p + 1) 0)
+    ∷ bitOr (getD out 2 0) (getD t (rowWords + 4 * p + 2) 0)
+    ∷ bitOr (getD out 3 0) (getD t (rowWords + 4 * p + 3) 0)
+    ∷ []
+
+abbrev pub gather : List ℕ → List ℕ → ℕ → List ℕ
+gather t out p = cond (entered t p) (joinClass t out p) out
+
+-- the bytes that those places below n take with which a match may begin
+unfoldable pub beginTo : List ℕ → ℕ → List ℕ
+beginTo t zero = 0 ∷ 0 ∷ 0 ∷ 0 ∷ []
+beginTo t (suc n) = gather t (beginTo t n) n
+
+abbrev pub beginOf : List ℕ → List ℕ
+beginOf t = beginTo t placeCount
+
+-- 1 if an entry row has a stop mark
+abbrev pub emptyOf : List ℕ → ℕ
+emptyOf t = cond (eqb (getD t 2 0) 0 && eqb (getD t 5 0) 0) 0 1
+
+-- the table t with its last five words as its rows and classes say
+abbrev pub sealed : List ℕ → List ℕ
+sealed t = set (fourAt t (rowWords + classWords) (beginOf t)) (rowWords + classWords + 4) (emptyOf t)

@@ -1,0 +1,164 @@
+// Building a table.
+ghost use mathlib.Core.Path.{_≡_};
+ghost use Prim.Native.Nat.{_+_, _≤_, _<_};
+ghost use lib.ListN.{length};
+ghost use Rattle.ere_table.specs.Table.{tableWords, placeCount, row, join};
+ghost use Rattle.ere_table.specs.Build.{withRow, linkRows, withClass, entered, beginOf, emptyOf, sealed};
+ghost use Rattle.ere_table.specs.Build.{link as linkOf, gather as gatherOf, single as singleOf, joinClass, orStop};
+use crate::layout;
+use crate::layout::BEGIN;
+use crate::layout::EMPTY;
+use crate::layout::PLACES;
+use crate::layout::ROWS;
+
+// The set x with y in place of its stop mark.
+pub fn link(x: [u64; 3], y: [u64; 3]) -> [u64; 3]
+    ensures { λ r. ⌜ r ≡ linkOf x y ⌝ }
+{
+    if layout::has(x, PLACES) {
+        return [x[0] | y[0], x[1] | y[1], x[2] & y[2]];
+    }
+    [x[0], x[1], x[2] & y[2]]
+}
+
+// The set x with the set y.
+pub fn union(x: [u64; 3], y: [u64; 3]) -> [u64; 3]
+    ensures { λ r. ⌜ r ≡ join x y ⌝ }
+{
+    [x[0] | y[0], x[1] | y[1], x[2] | y[2]]
+}
+
+// The set x with the stop marks.
+pub fn or_stop(x: [u64; 3]) -> [u64; 3]
+    ensures { λ r. ⌜ r ≡ orStop x ⌝ }
+{
+    [x[0], x[1], 3]
+}
+
+// The set of the place p.
+pub fn single(p: usize) -> [u64; 3]
+    requires { ⌜ p < placeCount ⌝ }
+    ensures { λ r. ⌜ r ≡ singleOf p ⌝ }
+{
+    if p < 64 {
+        return [1 << p, 0, 0];
+    }
+    [0, 1 << (p - 64), 0]
+}
+
+// Sets row r of the table.
+pub fn put_row(t: &mut [u64], r: usize, x: [u64; 3])
+    requires { ⌜ (length (now t) ≡ tableWords) × (r < placeCount + 2) ⌝ }
+    ensures { λ u. ⌜ now (t .exit) ≡ withRow (now (t .entry)) r x ⌝ }
+{
+    t[3 * r] = x[0];
+    t[3 * r + 1] = x[1];
+    t[3 * r + 2] = x[2];
+}
+
+// Row r with y in place of its stop mark.
+pub fn link_row(t: &mut [u64], r: usize, y: [u64; 3])
+    requires { ⌜ (length (now t) ≡ tableWords) × (r < placeCount + 2) ⌝ }
+    ensures { λ u. ⌜ now (t .exit) ≡ withRow (now (t .entry)) r (linkOf (row (now (t .entry)) r) y) ⌝ }
+{
+    let x = [t[3 * r], t[3 * r + 1], t[3 * r + 2]];
+    let z = link(x, y);
+    put_row(t, r, z);
+}
+
+// The rows from r on, n of them, with y in place of their stop marks.
+pub fn link_rows(t: &mut [u64], r: usize, n: usize, y: [u64; 3])
+    requires { ⌜ (length (now t) ≡ tableWords) × (r + n ≤ placeCount + 2) ⌝ }
+    ensures { λ u. ⌜ now (t .exit) ≡ linkRows (now (t .entry)) r n y ⌝ }
+{
+    let mut i: usize = 0;
+    while i < n {
+        link_row(t, r + i, y);
+        i += 1;
+    }
+}
+
+// Sets the class of the place p: bit b % 64 of word b / 64 says whether it takes the byte b.
+pub fn put_class(t: &mut [u64], p: usize, c: [u64; 4])
+    requires { ⌜ (length (now t) ≡ tableWords) × (p < placeCount) ⌝ }
+    ensures { λ u. ⌜ now (t .exit) ≡ withClass (now (t .entry)) p c ⌝ }
+{
+    t[ROWS + 4 * p] = c[0];
+    t[ROWS + 4 * p + 1] = c[1];
+    t[ROWS + 4 * p + 2] = c[2];
+    t[ROWS + 4 * p + 3] = c[3];
+}
+
+// Whether a match may begin with the place p.
+fn enters(t: &[u64], p: usize) -> bool
+    requires { ⌜ (length (now t) ≡ tableWords) × (p < placeCount) ⌝ }
+    ensures { λ r. ⌜ r ≡ entered (now (t .entry)) p ⌝ }
+{
+    ((t[p / 64] | t[3 + p / 64]) >> (p % 64)) % 2 == 1
+}
+
+// The class out with that of the place p.
+fn with_class(t: &[u64], out: [u64; 4], p: usize) -> [u64; 4]
+    requires { ⌜ (length (now t) ≡ tableWords) × (p < placeCount) ⌝ }
+    ensures { λ r. ⌜ r ≡ joinClass (now (t .entry)) out p ⌝ }
+{
+    let i = ROWS + 4 * p;
+    [
+        out[0] | t[i],
+        out[1] | t[i + 1],
+        out[2] | t[i + 2],
+        out[3] | t[i + 3],
+    ]
+}
+
+fn gather(t: &[u64], out: [u64; 4], p: usize) -> [u64; 4]
+    requires { ⌜ (length (now t) ≡ tableWords) × (p < placeCount) ⌝ }
+    ensures { λ r. ⌜ r ≡ gatherOf (now (t .entry)) out p ⌝ }
+{
+    if enters(t, p) {
+        return with_class(t, out, p);
+    }
+    out
+}
+
+// The bytes that a match of at least a byte can begin with.
+fn begin(t: &[u64]) -> [u64; 4]
+    requires { ⌜ length (now t) ≡ tableWords ⌝ }
+    ensures { λ r. ⌜ r ≡ beginOf (now (t .entry)) ⌝ }
+{
+    let mut out = [0u64; 4];
+    let mut p: usize = 0;
+    while p < PLACES {
+        let next = gather(t, out, p);
+        out = next;
+        p += 1;
+    }
+    out
+}
+
+// 1 if an entry row has a stop mark.
+fn empty(t: &[u64]) -> u64
+    requires { ⌜ length (now t) ≡ tableWords ⌝ }
+    ensures { λ r. ⌜ r ≡ emptyOf (now (t .entry)) ⌝ }
+{
+    if t[2] == 0 {
+        if t[5] == 0 {
+            return 0;
+        }
+    }
+    1
+}
+
+// Writes the table's last five words, from its rows and classes.
+pub fn seal(t: &mut [u64])
+    requires { ⌜ length (now t) ≡ tableWords ⌝ }
+    ensures { λ u. ⌜ now (t .exit) ≡ sealed (now (t .entry)) ⌝ }
+{
+    let c = begin(t);
+    let e = empty(t);
+    t[BEGIN] = c[0];
+    t[BEGIN + 1] = c[1];
+    t[BEGIN + 2] = c[2];
+    t[BEGIN + 3] = c[3];
+    t[EMPTY] = e;
+}

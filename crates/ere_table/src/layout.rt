@@ -1,0 +1,26 @@
+// The table's words, and sets of places.
+ghost use mathlib.Core.Path.{_≡_};
+ghost use Prim.Native.Nat.{_<_};
+ghost use Rattle.ere_table.specs.Table.{mem};
+use edition::Edition;
+
+// Places of an ERE.
+pub const PLACES: usize = Edition::ERE_PLACES;
+// Words of all rows: row 0 where a match starts at the text's start, row 1 where elsewhere, row p + 2 after the place p.
+pub const ROWS: usize = 3 * (PLACES + 2);
+// Words of all classes, which stand behind the rows: of the place p from ROWS + 4 * p on.
+pub const CLASSES: usize = 4 * PLACES;
+// Behind the classes: the bytes that a match of at least a byte can begin with, in four words.
+pub const BEGIN: usize = ROWS + CLASSES;
+// And a word that is not 0 if a match may be empty.
+pub const EMPTY: usize = BEGIN + 4;
+// Words of a table.
+pub const TABLE: usize = ROWS + CLASSES + 5;
+
+// Whether q is in the set.
+pub fn has(s: [u64; 3], q: usize) -> bool
+    requires { ⌜ q < 192 ⌝ }
+    ensures { λ r. ⌜ r ≡ mem s q ⌝ }
+{
+    (s[q / 64] >> (q % 64)) % 2 == 1
+}

@@ -1,0 +1,100 @@
+-- An item's entry, by what stands at the item's place.
+use mathlib.Core.Path.{_≡_, refl, sym, subst, _∙_}
+use mathlib.Core.Bool.{Bool, true, false, cond}
+use mathlib.Core.List.{List, [], _∷_}
+use mathlib.Core.Option.{none}
+use Prim.Native.Nat.{ℕ, zero, suc, _+_, _-_, _*_, _/_, _%_, _≤_, _<_}
+use native.Mathlib.Omega.{arith}
+use lib.ListN.{length, take, drop}
+use lib.Dec.{eqb}
+use borrow.Author.Tests.{eqb-true}
+use Rattle.edition.specs.Limits.{textBytes, instructionCount, operandDepth}
+use Rattle.buffer.specs.Parts.{part}
+use Rattle.buffer.proofs.Parts.{length-part}
+use Rattle.image_format.specs.Codes.{codeOf}
+use Rattle.image_format.specs.Formed.{Every, none as no-more, both}
+use Rattle.image_format.specs.Image.{number, text}
+use Rattle.image_format.proofs.Laws.{none-some}
+use Rattle.opcodes.specs.Rows.{operandsIn}
+use Rattle.image_index.specs.Stands.{Stands, ConstantAt, constantOf, instructionOf}
+use Rattle.image_index.specs.Lists.{ItemOf, takerOf, FitsOf, TellsOf, packed, unpacked, EntryAt}
+use Rattle.image_index.specs.declared.items.Found.{Found}
+use Rattle.image_index.specs.declared.lists.Kind.{Kind}
+use Rattle.image_index.specs.declared.lists.Kind.the-variants.{Constants, Instructions}
+use Rattle.image_index.specs.declared.lists.Entry.{Entry}
+use Rattle.image_index.proofs.Standing.{never}
+use Rattle.image_format.proofs.Many.{same-item}
+
+-- ---- of any kind
+
+module _ (edition : ℕ) (k : Kind) (l : List ℕ) (at : ℕ) (r : Entry) where
+  -- nothing stands there
+  pub entry-missing : r .ok ≡ false → takerOf edition k (drop at l) ≡ none → EntryAt edition k l at r
+  entry-missing e h = record { refused = λ g a t i f. none-some (sym h ∙ i); found = λ g. never e g }
+
+  -- what stands there doesn't fit
+  pub entry-unfit : r .ok ≡ false → (a : ItemOf k) (end : ℕ) → Stands (takerOf edition k) l at a end → (FitsOf edition k a → ⊥) → EntryAt edition k l at r
+  entry-unfit e a end s n =
+      record { refused = λ g b t i f. n (subst (FitsOf edition k) (sym (same-item (s .taken) i)) f); found = λ g. never e g }
+
+  pub entry-there : r .ok ≡ true → (a : ItemOf k) → Stands (takerOf edition k) l at a (r .end) → FitsOf edition k a → TellsOf edition k l (r .entry) a
+      → EntryAt edition k l at r
+  entry-there e a s f t = record { refused = λ g. never g e; found = λ g. (a, s, f, t) }
+
+-- ---- constants
+
+module _ (edition : ℕ) (l : List ℕ) (at : ℕ) (c : Found) (y : ConstantAt l at c) where
+  bytes : List ℕ
+  bytes = part (c .start) (c .end - c .start) l
+
+  bytes-length : length bytes ≡ c .end - c .start
+  unfolding bytes
+  bytes-length = length-part (c .start) (c .end - c .start) l (omega (arith, y .ordered, y .inside))
+
+  pub constant-fits : c .end - c .start ≤ textBytes → FitsOf edition Constants (constantOf l c)
+  unfolding bytes
+  constant-fits few = by (eqb (c .kind) 0)
+    where
+      by : (b : Bool) → FitsOf edition Constants (cond b (number (c .value)) (text bytes))
+      by true = tt
+      by false = omega (arith, bytes-length)
+
+  pub constant-long : c .ok ≡ true → textBytes < c .end - c .start → FitsOf edition Constants (constantOf l c) → ⊥
+  unfolding bytes
+  constant-long h many = by (eqb (c .kind) 0) refl
+    where
+      by : (b : Bool) → eqb (c .kind) 0 ≡ b → FitsOf edition Constants (cond b (number (c .value)) (text bytes)) → ⊥
+      by true e f = omega (arith, y .empty h (eqb-true (c .kind) 0 e))
+      by false e f = omega (arith, bytes-length)
+
+-- ---- instructions
+
+module _ (edition code depth operand : ℕ) where
+  pub instruction-fits : depth ≤ operandDepth → operand < instructionCount → FitsOf edition Instructions (instructionOf edition code depth operand)
+  instruction-fits d o = (d, by (operandsIn (codeOf edition code)))
+    where
+      by : (n : ℕ) → Every (λ v. v < instructionCount) (take n (operand ∷ []))
+      by zero = no-more
+      by (suc zero) = both o no-more
+      by (suc (suc n)) = both o no-more
+
+  pub instruction-deep : operandDepth < depth → FitsOf edition Instructions (instructionOf edition code depth operand) → ⊥
+  instruction-deep h f = omega (arith, f .0)
+
+  pub instruction-far : (operandsIn (codeOf edition code) ≡ 0 → operand ≡ 0) → instructionCount ≤ operand
+      → FitsOf edition Instructions (instructionOf edition code depth operand) → ⊥
+  instruction-far plain h f = by (operandsIn (codeOf edition code)) plain (f .1)
+    where
+      by : (n : ℕ) → (n ≡ 0 → operand ≡ 0) → Every (λ v. v < instructionCount) (take n (operand ∷ [])) → ⊥
+      by zero z e = omega (arith, z refl)
+      by (suc n) z (both x e) = omega arith
+
+  -- the numbers come back out of their entry
+  pub unpacked-packed : code < 64 → depth < 64 → unpacked edition (packed code depth operand) ≡ instructionOf edition code depth operand
+  unpacked-packed a b =
+      let w = packed code depth operand in
+      let p : w % 64 ≡ code = omega arith in
+      let m : w / 64 ≡ depth + 64 * operand = omega arith in
+      let q : w / 64 % 64 ≡ depth = rw m (omega arith) in
+      let r : w / 4096 ≡ operand = omega arith in
+      rw (p, q, r)

@@ -1,0 +1,80 @@
+-- What stands in an image's bytes from a place on, and what the code says of it.
+use mathlib.Core.Path.{_≡_}
+use mathlib.Core.Bool.{true, false, cond}
+use mathlib.Core.List.{List, [], _∷_}
+use mathlib.Core.Option.{none}
+use Prim.Native.Nat.{ℕ, _-_, _≤_, _<_}
+use lib.ListN.{length, take, drop}
+use lib.Dec.{eqb}
+use Rattle.buffer.specs.Parts.{part}
+use Rattle.ere_grammar.specs.Read.{got}
+use Rattle.image_format.specs.Codes.{codeOf}
+use Rattle.image_format.specs.Image.{Constant, number, text, Instruction}
+use Rattle.image_format.specs.Numbers.{takeNumber}
+use Rattle.image_format.specs.Reading.{Taker, fromBytes, upTo, many, counted, constant, instruction}
+use Rattle.opcodes.specs.Rows.{operandsIn}
+use Rattle.image_index.specs.declared.items.Text.{Text}
+use Rattle.image_index.specs.declared.items.Found.{Found}
+use Rattle.image_index.specs.declared.items.Fetched.{Fetched}
+
+-- p takes a off the bytes from `at` on, and goes on at `end`
+pub record Stands {A : Type 0} (p : Taker A) (l : List ℕ) (at : ℕ) (a : A) (end : ℕ) : Type 0 where
+  pub taken : p (drop at l) ≡ got a (drop end l)
+  pub forward : at < end
+  pub inside : end ≤ length l
+
+abbrev pub aText : Taker (List ℕ)
+aText = counted fromBytes (upTo 255)
+
+-- ---- a text
+
+abbrev pub bytesOf : List ℕ → Text → List ℕ
+bytesOf l r = part (r .start) (r .end - r .start) l
+
+pub record TextAt (l : List ℕ) (at : ℕ) (r : Text) : Type 0 where
+  pub refused : r .ok ≡ false → aText (drop at l) ≡ none
+  pub found : r .ok ≡ true → Stands aText l at (bytesOf l r) (r .end)
+  pub ordered : r .start ≤ r .end
+  pub inside : r .end ≤ length l
+
+-- ---- a constant
+
+abbrev pub constantOf : List ℕ → Found → Constant
+constantOf l r = cond (eqb (r .kind) 0) (number (r .value)) (text (part (r .start) (r .end - r .start) l))
+
+-- behind the kind 0, a number
+pub record NumberAt (l : List ℕ) (at : ℕ) (r : Found) : Type 0 where
+  pub refused : r .ok ≡ false → takeNumber (drop at l) ≡ none
+  pub found : r .ok ≡ true → Stands takeNumber l at (r .value) (r .end)
+  pub kind : r .ok ≡ true → r .kind ≡ 0
+  pub empty : r .start ≡ r .end
+  pub inside : r .end ≤ length l
+
+pub record ConstantAt (l : List ℕ) (at : ℕ) (r : Found) : Type 0 where
+  pub refused : r .ok ≡ false → constant fromBytes (drop at l) ≡ none
+  pub found : r .ok ≡ true → Stands (constant fromBytes) l at (constantOf l r) (r .end)
+  pub empty : r .ok ≡ true → r .kind ≡ 0 → r .start ≡ r .end
+  pub ordered : r .start ≤ r .end
+  pub inside : r .end ≤ length l
+
+-- ---- an instruction
+
+-- an instruction by its numbers: the operand counts where the code names something
+abbrev pub instructionOf : ℕ → ℕ → ℕ → ℕ → Instruction
+instructionOf edition code depth operand =
+    record { code = code; depth = depth; named = take (operandsIn (codeOf edition code)) (operand ∷ []) }
+
+-- behind code and depth, as many numbers as the code names
+pub record OperandAt (edition code depth : ℕ) (l : List ℕ) (at : ℕ) (r : Fetched) : Type 0 where
+  pub refused : r .ok ≡ false → many takeNumber (operandsIn (codeOf edition code)) (drop at l) ≡ none
+  pub found : r .ok ≡ true
+      → (many takeNumber (operandsIn (codeOf edition code)) (drop at l) ≡ got (take (operandsIn (codeOf edition code)) (r .operand ∷ [])) (drop (r .end) l))
+      × (at ≤ r .end) × (r .end ≤ length l) × (r .code ≡ code) × (r .depth ≡ depth)
+  pub plain : r .ok ≡ true → operandsIn (codeOf edition code) ≡ 0 → r .operand ≡ 0
+
+pub record InstructionAt (edition : ℕ) (l : List ℕ) (at : ℕ) (r : Fetched) : Type 0 where
+  pub refused : r .ok ≡ false → instruction fromBytes edition (drop at l) ≡ none
+  pub found : r .ok ≡ true
+      → Stands (instruction fromBytes edition) l at (instructionOf edition (r .code) (r .depth) (r .operand)) (r .end)
+  pub known : r .ok ≡ true → r .code < 32
+  pub plain : r .ok ≡ true → operandsIn (codeOf edition (r .code)) ≡ 0 → r .operand ≡ 0

@@ -1,0 +1,63 @@
+// From an index to what stands in the image.
+ghost use mathlib.Core.Path.{_≡_};
+ghost use Prim.Native.Nat.{ℕ, _≤_, _<_};
+ghost use mathlib.Core.List.{List};
+ghost use lib.ListN.{length, getD};
+ghost use Rattle.image_format.specs.Image.{text};
+ghost use Rattle.image_index.specs.Stands.{ConstantAt};
+ghost use Rattle.image_index.specs.Lists.{numbersOf, TellsOf, IsPart};
+ghost use Rattle.image_index.specs.declared.lists.Kind.the-variants.{Constants, Eres};
+use crate::items;
+use crate::items::Found;
+
+// The numbers of an instruction: its code, the depth before it, and its operand, 0 where the code names nothing.
+pub struct Numbers {
+    pub code: u64,
+    pub depth: u64,
+    pub operand: u64,
+}
+
+// The instruction whose entry has the number n.
+pub fn instruction(index: &[u32], n: usize) -> Numbers
+    requires { ⌜ n < length (now index) ⌝ }
+    ensures { λ r. ⌜ r ≡ numbersOf (getD (now (index .entry)) n 0) ⌝ }
+{
+    let w = index[n] as u64;
+    Numbers {
+        code: w % 64,
+        depth: w / 64 % 64,
+        operand: w / 4096,
+    }
+}
+
+// The constant whose entry has the number n.
+pub fn constant(image: &[u8], index: &[u32], n: usize) -> Found
+    requires { ⌜ (n < length (now index)) × (getD (now index) n 0 ≤ length (now image)) ⌝ }
+    ensures { λ r. ⌜ ConstantAt (now (image .entry)) (getD (now (index .entry)) n 0) r ⌝ }
+{
+    items::constant_at(image, index[n] as usize)
+}
+
+// The bytes of the text constant whose entry has the number n, as a part of the image.
+pub fn constant_bytes<'a, 'b>(image: &'a [u8], index: &'b [u32], n: usize) -> &'a [u8]
+    requires { ⌜ (n < length (now index)) × (getD (now index) n 0 ≤ length (now image)) ⌝ }
+    ensures { λ r. ⌜ (IsPart (now (image .entry)) (image .entry .ptr) (now r) (r .ptr))
+        × ((edition : ℕ) (bytes : List ℕ) → TellsOf edition Constants (now (image .entry)) (getD (now (index .entry)) n 0) (text bytes) → now r ≡ bytes) ⌝ }
+{
+    let c = items::constant_at(image, index[n] as usize);
+    let start = c.start;
+    let end = c.end;
+    &image[start..end]
+}
+
+// The bytes of the ERE whose entry has the number n, as a part of the image.
+pub fn ere_bytes<'a, 'b>(image: &'a [u8], index: &'b [u32], n: usize) -> &'a [u8]
+    requires { ⌜ (n < length (now index)) × (getD (now index) n 0 ≤ length (now image)) ⌝ }
+    ensures { λ r. ⌜ (IsPart (now (image .entry)) (image .entry .ptr) (now r) (r .ptr))
+        × ((edition : ℕ) (bytes : List ℕ) → TellsOf edition Eres (now (image .entry)) (getD (now (index .entry)) n 0) bytes → now r ≡ bytes) ⌝ }
+{
+    let e = items::text_at(image, index[n] as usize);
+    let start = e.start;
+    let end = e.end;
+    &image[start..end]
+}

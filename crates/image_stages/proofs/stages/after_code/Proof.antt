@@ -1,0 +1,25 @@
+-- `after_code` meets its contract, by whether the code is one of the table's.
+use mathlib.Core.Path.{sym, _∙_}
+use borrow.Author.Needs.{needs}
+use Rattle.image_format.specs.Codes.{codeOf}
+use Rattle.image_stages.proofs.Codes.{known-row, unknown-refused, known-depth}
+use Rattle.image_stages.proofs.stages.after_code.Statement.{statement}
+use Rattle.image_stages.proofs.stages.after_code.Tie as tie
+
+known-requires : tie.Need-known-requires
+known-requires c κs = search needs
+
+operands-requires : tie.Need-operands-requires
+operands-requires c κs = known-row (c .before .before .args .s .edition) (c .before .before .args .v) (sym (c .before .known .ensures) ∙ c .if1 .taken)
+
+returns : tie.Need-returns
+returns c = rw (c .operands .ensures) (known-depth (c .before .before .before .args .s) (codeOf (c .before .before .before .args .s .edition) (c .before .before .before .args .v)) (sym (c .before .before .known .ensures) ∙ c .before .if1 .taken))
+
+refusal-requires : tie.Need-refusal-requires
+refusal-requires c κs = search needs
+
+returns-2 : tie.Need-returns-2
+returns-2 c = c .refusal .ensures ∙ unknown-refused (c .before .before .before .args .s) (codeOf (c .before .before .before .args .s .edition) (c .before .before .before .args .v)) (sym (c .before .before .known .ensures) ∙ c .before .if1 .left)
+
+pub after-code-spec : {M : Type 1} → statement M
+after-code-spec = tie.close (tie.spec known-requires operands-requires returns refusal-requires returns-2)
