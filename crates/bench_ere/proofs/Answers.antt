@@ -7,7 +7,7 @@ use Prim.Native.Nat.{ℕ, _+_, _≤_, zero-le}
 use native.Mathlib.Omega.{arith}
 use lib.ListN.{length}
 use Rattle.edition.specs.Limits.{textBytes}
-use Rattle.ere_meaning.specs.Tree.{Class, takes, Ere}
+use Rattle.ere_meaning.specs.Tree.{Class, accepts, Ere}
 use Rattle.ere_meaning.specs.Search.{bestOf}
 use Rattle.ere_grammar.specs.Read.{readEre}
 use Rattle.ere_table.specs.Table.{tableWords}
@@ -32,7 +32,7 @@ prepares-some ere t₀ t l c =
     record { only = omega arith; unsized = λ n. absurd (n l); refused = λ z. absurd (omega (arith, z)); read = λ z. c .read refl }
 
 module _ (t text : List ℕ) (r : Found) (f : Finds t text 0 0 r) where
-  pub length-found : (e : Ere Class) → Serves t e → Bytes text → lengthOf (matchOf r) ≡ lengthOf (bestOf takes text e)
+  pub length-found : (e : Ere Class) → Serves t e → Bytes text → lengthOf (matchOf r) ≡ lengthOf (bestOf accepts text e)
   unfolding bestOf
   length-found e s bytes = ap lengthOf (serves-answer t text 0 0 r e text s f bytes zero-le refl)
 

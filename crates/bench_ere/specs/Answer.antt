@@ -6,7 +6,7 @@ use mathlib.Core.Option.{some, none}
 use Prim.Native.Nat.{ℕ, _+_, _≤_, _<_}
 use lib.ListN.{length}
 use Rattle.edition.specs.Limits.{textBytes}
-use Rattle.ere_meaning.specs.Tree.{Class, takes, Ere}
+use Rattle.ere_meaning.specs.Tree.{Class, accepts, Ere}
 use Rattle.ere_meaning.specs.Meaning.{Match, found, nowhere}
 use Rattle.ere_meaning.specs.Search.{bestOf}
 use Rattle.ere_grammar.specs.Read.{readEre}
@@ -30,10 +30,10 @@ lengthOf nowhere = 0
 pub record Searches (t text : List ℕ) (r : ℕ) : Type 0 where
   pub unsized : (length t ≡ tableWords → ⊥) → r ≡ 0
   pub long : textBytes < length text → r ≡ 0
-  pub best : (e : Ere Class) → Serves t e → length t ≡ tableWords → length text ≤ textBytes → r ≡ lengthOf (bestOf takes text e)
+  pub best : (e : Ere Class) → Serves t e → length t ≡ tableWords → length text ≤ textBytes → r ≡ lengthOf (bestOf accepts text e)
 
 -- 1 if the text has a match, 0 if not; 0 if the table has another size or the text is too long
 pub record Tells (t text : List ℕ) (r : ℕ) : Type 0 where
   pub unsized : (length t ≡ tableWords → ⊥) → r ≡ 0
   pub long : textBytes < length text → r ≡ 0
-  pub any : (e : Ere Class) → Serves t e → length t ≡ tableWords → length text ≤ textBytes → r ≡ cond (isMatch (bestOf takes text e)) 1 0
+  pub any : (e : Ere Class) → Serves t e → length t ≡ tableWords → length text ≤ textBytes → r ≡ cond (isMatch (bestOf accepts text e)) 1 0

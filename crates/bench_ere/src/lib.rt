@@ -1,14 +1,14 @@
 // An ERE compiled once for many texts, for C: what `bench/match` measures.
 ghost use Rattle.bench_ere.specs.Answer.{Prepares, Searches, Tells};
-use ere_search::Found;
 use edition::Edition;
+use ere_search::Found;
 
 // Reads an ERE into a table: 1 if it is one, 0 if not or if the table has another size.
 #[no_mangle]
 pub extern "C" fn prepared_compile(ere: &[u8], table: &mut [u64]) -> u64
     ensures { λ r. ⌜ Prepares (now (ere .entry)) (now (table .entry)) (now (table .exit)) r ⌝ }
 {
-    if table.len() != ere_table::TABLE {
+    if table.len() != ere_table::TABLE_WORDS {
         return 0;
     }
     let edition = Edition { number: 1 };
@@ -23,7 +23,7 @@ pub extern "C" fn prepared_compile(ere: &[u8], table: &mut [u64]) -> u64
 pub extern "C" fn prepared_find(table: &[u64], text: &[u8]) -> u64
     ensures { λ r. ⌜ Searches (now (table .entry)) (now (text .entry)) r ⌝ }
 {
-    if table.len() != ere_table::TABLE {
+    if table.len() != ere_table::TABLE_WORDS {
         return 0;
     }
     if Edition::TEXT < text.len() {
@@ -40,7 +40,7 @@ pub extern "C" fn prepared_find(table: &[u64], text: &[u8]) -> u64
 pub extern "C" fn prepared_exists(table: &[u64], text: &[u8]) -> u64
     ensures { λ r. ⌜ Tells (now (table .entry)) (now (text .entry)) r ⌝ }
 {
-    if table.len() != ere_table::TABLE {
+    if table.len() != ere_table::TABLE_WORDS {
         return 0;
     }
     if Edition::TEXT < text.len() {

@@ -10,7 +10,7 @@ use lib.ListN.{length, take, getD, length-take}
 use borrow.Author.Tests.{eq-eqb, ne-eqb}
 use Rattle.buffer.specs.Parts.{part}
 use Rattle.buffer.specs.Order.{equalBytes}
-use Rattle.buffer.specs.First.{firstByte, startsWith, further, firstPart, Stands, FirstAt, Right}
+use Rattle.buffer.specs.First.{firstByte, startsWith, further, firstPart, Stands, FirstAt, IsFirst}
 use Rattle.buffer.proofs.Order.{equal-same, same-equal, unless}
 
 -- ---- the first place of a byte
@@ -74,7 +74,7 @@ unfolding part startsWith
 not-here t s n w = n (same-equal (take (length t) s) t (w .same))
 
 -- an answer that is right for s is right for x and s, one further, where t does not stand at the front
-further-right : (t s : List ℕ) (x : ℕ) (o : Option ℕ) → (Stands t (x ∷ s) 0 → ⊥) → Right t s o → Right t (x ∷ s) (further o)
+further-right : (t s : List ℕ) (x : ℕ) (o : Option ℕ) → (Stands t (x ∷ s) 0 → ⊥) → IsFirst t s o → IsFirst t (x ∷ s) (further o)
 further-right t s x (some k) n w =
     record {
       stands = stands-on t s x k (w .stands);
@@ -83,7 +83,7 @@ further-right t s x (some k) n w =
 further-right t s x none n w = λ j. elim j [ zero ↦ n | suc j ↦ λ v. w j (stands-back t s x j v) ]
 
 -- the answer is right
-pub first-part-right : (t s : List ℕ) → Right t s (firstPart t s)
+pub first-part-right : (t s : List ℕ) → IsFirst t s (firstPart t s)
 unfolding firstPart
 first-part-right t [] =
     elim (starts t []) [
@@ -97,24 +97,24 @@ first-part-right t (x ∷ s) =
     ]
 
 -- there is one right answer
-one-right : (t s : List ℕ) (o p : Option ℕ) → Right t s o → Right t s p → o ≡ p
+one-right : (t s : List ℕ) (o p : Option ℕ) → IsFirst t s o → IsFirst t s p → o ≡ p
 one-right t s (some k) (some j) v w = let e : k ≡ j = omega (arith, v .least j (w .stands), w .least k (v .stands)) in ap some e
 one-right t s (some k) none v w = absurd (w k (v .stands))
 one-right t s none (some j) v w = absurd (v j (w .stands))
 one-right t s none none v w = refl
 
-pub first-part-is : (t s : List ℕ) (o : Option ℕ) → Right t s o → firstPart t s ≡ o
+pub first-part-is : (t s : List ℕ) (o : Option ℕ) → IsFirst t s o → firstPart t s ≡ o
 first-part-is t s o w = one-right t s (firstPart t s) o (first-part-right t s) w
 
 -- `some k` exactly if t stands at k and at no lower index, `none` exactly if it stands nowhere
 pub first-part-some : (t s : List ℕ) (k : ℕ) → firstPart t s ≡ some k → FirstAt t s k
-first-part-some t s k e = subst (Right t s) e (first-part-right t s)
+first-part-some t s k e = subst (IsFirst t s) e (first-part-right t s)
 
 pub some-first-part : (t s : List ℕ) (k : ℕ) → FirstAt t s k → firstPart t s ≡ some k
 some-first-part t s k w = first-part-is t s (some k) w
 
 pub first-part-none : (t s : List ℕ) → firstPart t s ≡ none → (j : ℕ) → Stands t s j → ⊥
-first-part-none t s e = subst (Right t s) e (first-part-right t s)
+first-part-none t s e = subst (IsFirst t s) e (first-part-right t s)
 
 pub none-first-part : (t s : List ℕ) → ((j : ℕ) → Stands t s j → ⊥) → firstPart t s ≡ none
 none-first-part t s w = first-part-is t s none w

@@ -40,9 +40,9 @@ pub record FirstAt (t s : List ℕ) (k : ℕ) : Type 0 where
   pub least : (j : ℕ) → Stands t s j → k ≤ j
 
 -- an index is the first at which t stands, or t stands nowhere
-abbrev pub Right : List ℕ → List ℕ → Option ℕ → Type 0
-Right t s (some k) = FirstAt t s k
-Right t s none = (j : ℕ) → Stands t s j → ⊥
+abbrev pub IsFirst : List ℕ → List ℕ → Option ℕ → Type 0
+IsFirst t s (some k) = FirstAt t s k
+IsFirst t s none = (j : ℕ) → Stands t s j → ⊥
 
 -- what an answer says
 abbrev pub foundOf : Found → Option ℕ

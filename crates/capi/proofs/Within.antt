@@ -9,7 +9,7 @@ use lib.ListN.{length}
 use lib.Dec.{leb}
 use borrow.Author.Tests.{leb-true}
 use Rattle.edition.specs.Limits.{textBytes}
-use Rattle.ere_meaning.specs.Tree.{Class, takes, Ere}
+use Rattle.ere_meaning.specs.Tree.{Class, accepts, Ere}
 use Rattle.ere_meaning.specs.Meaning.{Match, found, nowhere, Best}
 use Rattle.ere_meaning.specs.Search.{bestOf}
 use Rattle.ere_meaning.proofs.Answers.{best}
@@ -20,12 +20,12 @@ use Rattle.ere.specs.declared.matching.Matched.the-variants.{At, LongText}
 use Rattle.capi.specs.Match.{Within}
 
 module _ (text : List ℕ) (e : Ere Class) where
-  best-within : (r : Match) → Best takes text e r → length text ≤ textBytes → Within (matched r)
+  best-within : (r : Match) → Best accepts text e r → length text ≤ textBytes → Within (matched r)
   best-within (found s n) b h = omega (arith, b .0 .0, h)
   best-within nowhere b h = tt
 
-  short-within : (c : Bool) → leb (length text) textBytes ≡ c → Within (cond c (matched (bestOf takes text e)) LongText)
-  short-within true h = best-within (bestOf takes text e) (best takes text e) (leb-true (length text) textBytes h)
+  short-within : (c : Bool) → leb (length text) textBytes ≡ c → Within (cond c (matched (bestOf accepts text e)) LongText)
+  short-within true h = best-within (bestOf accepts text e) (best accepts text e) (leb-true (length text) textBytes h)
   short-within false h = tt
 
 judged-within : (text : List ℕ) (e : Option (Ere Class)) → Within (judged text e)

@@ -8,25 +8,25 @@ use Rattle.edition.specs.Outcomes.{done, badEre, textTooLong}
 use Rattle.ere.specs.Answer.{searchOf}
 use Rattle.ere.specs.declared.matching.Matched.{Matched}
 use Rattle.ere.specs.declared.matching.Matched.the-variants.{At, Nothing, BadEre, LongText}
-use Rattle.capi.specs.declared.matching.Numbers.{Numbers}
+use Rattle.capi.specs.declared.matching.MatchAnswer.{MatchAnswer}
 
 -- the outcome, and what is stored as rstart and rlength
-abbrev pub numbers : ℕ → ℕ → ℤ → Numbers
+abbrev pub numbers : ℕ → ℕ → ℤ → MatchAnswer
 numbers o s n = record { outcome = o; rstart = s; rlength = n }
 
 -- without a match: 0 and -1
-abbrev pub without : ℕ → Numbers
+abbrev pub without : ℕ → MatchAnswer
 without o = numbers o 0 (negsuc 0)
 
 -- a match: its start counted from 1, and its length
-abbrev pub numbersOf : Matched → Numbers
+abbrev pub numbersOf : Matched → MatchAnswer
 numbersOf (At s n) = numbers done (s + 1) (pos n)
 numbersOf Nothing = without done
 numbersOf BadEre = without badEre
 numbersOf LongText = without textTooLong
 
 -- an ERE in a text, by edition 1
-abbrev pub matchOf : List ℕ → List ℕ → Numbers
+abbrev pub matchOf : List ℕ → List ℕ → MatchAnswer
 matchOf ere text = numbersOf (searchOf 1 ere text)
 
 -- What the code may take as given of a search's answer, and `search-within` of proofs/ shows: a match ends within the bytes of a text value.

@@ -3,9 +3,9 @@ ghost use mathlib.Core.Path.{_≡_};
 ghost use Rattle.image.specs.Copy.{copying, readOf, writtenOf};
 ghost use Rattle.image_check.specs.Verdict.{outcomeOf, checkOf};
 ghost use Rattle.capi.specs.Images.{outcomeIn, lengthIn};
-use image_check::Verdict;
 use edition::Outcome;
 use image::Copied;
+use image_check::Verdict;
 
 // The number of an answer's outcome.
 fn outcome_of(c: Copied) -> u64

@@ -5,17 +5,17 @@ use edition::Outcome;
 use ere::Matched;
 
 // An outcome, and the two numbers that are stored.
-pub struct Numbers {
+pub struct MatchAnswer {
     pub outcome: u64,
     pub rstart: u64,
     pub rlength: i64,
 }
 
 // The numbers where there is no match.
-fn without(outcome: u64) -> Numbers
+fn without(outcome: u64) -> MatchAnswer
     ensures { λ r. ⌜ r ≡ without outcome ⌝ }
 {
-    Numbers {
+    MatchAnswer {
         outcome,
         rstart: 0,
         rlength: -1,
@@ -23,7 +23,7 @@ fn without(outcome: u64) -> Numbers
 }
 
 // The numbers of a search's answer.
-fn numbers_of(m: Matched) -> Numbers
+fn numbers_of(m: Matched) -> MatchAnswer
     requires { ⌜ Within m ⌝ }
     ensures { λ r. ⌜ r ≡ numbersOf m ⌝ }
 {
@@ -31,7 +31,7 @@ fn numbers_of(m: Matched) -> Numbers
         Matched::At(start, length) => {
             let rstart = start as u64 + 1;
             let rlength = length as i64;
-            Numbers {
+            MatchAnswer {
                 outcome: Outcome::DONE,
                 rstart,
                 rlength,

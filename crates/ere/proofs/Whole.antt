@@ -7,9 +7,10 @@ use Prim.Native.Nat.{ℕ, suc, _+_, _≤_, _<_}
 use native.Mathlib.Omega.{arith}
 use lib.ListN.{length, getD, drop}
 use borrow.Author.Tests.{le-leb, lt-leb}
+use Rattle.lists.specs.Parsing.{parsed}
 use Rattle.edition.specs.Limits.{erePlaces, ereBytes, ereGroups}
 use Rattle.ere_meaning.specs.Tree.{Class, Ere, places}
-use Rattle.ere_grammar.specs.Read.{got, readRest, whole, readEre}
+use Rattle.ere_grammar.specs.Read.{readRest, whole, readEre}
 use Rattle.ere_table.specs.Table.{tableWords}
 use Rattle.ere_table.proofs.Tables.{finished, finished-class, tabled}
 use Rattle.ere_parser.specs.Reading.{restFrom}
@@ -29,16 +30,16 @@ pub ere-short : (edition : ℕ) (l : List ℕ) → length l ≤ ereBytes → rea
 unfolding readEre restFrom
 ere-short edition l h = ap (λ (b : Bool). cond b (whole (readRest (suc (length l)) ereGroups none none l)) none) (le-leb (length l) ereBytes h)
 
-whole-many : (e : Ere Class) (u : List ℕ) → erePlaces < places e → whole (got e u) ≡ none
+whole-many : (e : Ere Class) (u : List ℕ) → erePlaces < places e → whole (parsed e u) ≡ none
 unfolding whole
 whole-many e [] h = ap (λ (b : Bool). cond b (some e) none) (lt-leb (places e) erePlaces h)
 whole-many e (b ∷ u) h = refl
 
-whole-more : (e : Ere Class) (b : ℕ) (u : List ℕ) → whole (got e (b ∷ u)) ≡ none
+whole-more : (e : Ere Class) (b : ℕ) (u : List ℕ) → whole (parsed e (b ∷ u)) ≡ none
 unfolding whole
 whole-more e b u = refl
 
-whole-got : (e : Ere Class) → places e ≤ erePlaces → whole (got e []) ≡ some e
+whole-got : (e : Ere Class) → places e ≤ erePlaces → whole (parsed e []) ≡ some e
 unfolding whole
 whole-got e h = ap (λ (b : Bool). cond b (some e) none) (le-leb (places e) erePlaces h)
 
@@ -49,7 +50,7 @@ whole-none = refl
 module _ (edition : ℕ) (l t u : List ℕ) (g : Piece) (short : length l ≤ ereBytes) (reads : GroupReads l ereGroups 0 0 0 t u g) where
   refuses-none : Refuses (baseOf l ereGroups 0 0 0) → readEre edition l ≡ none
   refuses-none (unread e) = ere-short edition l short ∙ ap whole e ∙ whole-none
-  refuses-none (many x e h) = ere-short edition l short ∙ ap whole e ∙ whole-many (x .it) (x .left) (omega arith)
+  refuses-none (many x e h) = ere-short edition l short ∙ ap whole e ∙ whole-many (x .value) (x .rest) (omega arith)
 
   pub group-bad : g .ok ≡ false → readEre edition l ≡ none
   group-bad o = refuses-none (reads .refused o)
@@ -57,12 +58,12 @@ module _ (edition : ℕ) (l t u : List ℕ) (g : Piece) (short : length l ≤ er
   pub group-open : g .ok ≡ true → g .at < length l → readEre edition l ≡ none
   group-open o h =
       let r = reads .read o in
-      ere-short edition l short ∙ ap whole (r .1 ∙ ap (got (r .0)) (opened l (g .at) (getD l (g .at) 0) h refl)) ∙ whole-more (r .0) (getD l (g .at) 0) (drop (g .at + 1) l)
+      ere-short edition l short ∙ ap whole (r .1 ∙ ap (parsed (r .0)) (opened l (g .at) (getD l (g .at) 0) h refl)) ∙ whole-more (r .0) (getD l (g .at) 0) (drop (g .at + 1) l)
 
   pub group-whole : (o : g .ok ≡ true) → length l ≤ g .at → readEre edition l ≡ some (reads .read o .0)
   group-whole o h =
       let r = reads .read o in
-      ere-short edition l short ∙ ap whole (r .1 ∙ ap (got (r .0)) (drop-all l (g .at) h)) ∙ whole-got (r .0) (omega (arith, r .2, reads .few))
+      ere-short edition l short ∙ ap whole (r .1 ∙ ap (parsed (r .0)) (drop-all l (g .at) h)) ∙ whole-got (r .0) (omega (arith, r .2, reads .few))
 
   -- the table of what was read, with its entry rows, sealed
   pub group-serves : (o : g .ok ≡ true) → length u ≡ tableWords → Serves (finished u (g .entry .first) (g .entry .later)) (reads .read o .0)

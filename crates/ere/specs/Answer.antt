@@ -7,7 +7,7 @@ use Prim.Native.Nat.{ℕ, _<_}
 use lib.ListN.{length, getD}
 use lib.Dec.{leb}
 use Rattle.edition.specs.Limits.{textBytes, erePlaces}
-use Rattle.ere_meaning.specs.Tree.{Class, takes, Ere}
+use Rattle.ere_meaning.specs.Tree.{Class, accepts, Ere}
 use Rattle.ere_meaning.specs.Meaning.{Match, found, nowhere}
 use Rattle.ere_meaning.specs.Search.{bestOf}
 use Rattle.ere_grammar.specs.Read.{readEre}
@@ -25,7 +25,7 @@ matched nowhere = Nothing
 -- no ERE comes before a text too long
 abbrev pub judged : List ℕ → Option (Ere Class) → Matched
 judged text none = BadEre
-judged text (some e) = cond (leb (length text) textBytes) (matched (bestOf takes text e)) LongText
+judged text (some e) = cond (leb (length text) textBytes) (matched (bestOf accepts text e)) LongText
 
 abbrev pub searchOf : ℕ → List ℕ → List ℕ → Matched
 searchOf edition ere text = judged text (readEre edition ere)

@@ -3,8 +3,8 @@ ghost use mathlib.Core.Path.{_≡_};
 ghost use lib.ListN.{length};
 ghost use Rattle.ere_table.specs.Table.{tableWords};
 ghost use Rattle.ere.specs.Answer.{searchOf, Compiles};
-use ere_search::Found;
 use edition::Edition;
+use ere_search::Found;
 
 // What a search answers: a start from 0 and a length, or why there is none.
 pub enum Matched {
@@ -35,7 +35,7 @@ pub fn compile(ere: &[u8], edition: Edition, t: &mut [u64]) -> bool
     let later = e.later;
     ere_table::put_row(t, 0, first);
     ere_table::put_row(t, 1, later);
-    ere_table::seal(t);
+    ere_table::put_first_bytes(t);
     true
 }
 
@@ -43,7 +43,7 @@ pub fn compile(ere: &[u8], edition: Edition, t: &mut [u64]) -> bool
 pub fn search(ere: &[u8], text: &[u8]) -> Matched
     ensures { λ r. ⌜ r ≡ searchOf 1 (now (ere .entry)) (now (text .entry)) ⌝ }
 {
-    let mut t = [0u64; ere_table::TABLE];
+    let mut t = [0u64; ere_table::TABLE_WORDS];
     let edition = Edition { number: 1 };
     if !compile(ere, edition, &mut t) {
         return Matched::BadEre;

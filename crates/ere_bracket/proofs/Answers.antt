@@ -6,27 +6,28 @@ use mathlib.Core.Option.{some, none}
 use Prim.Native.Nat.{ℕ, _+_, _≤_, _<_}
 use native.Mathlib.Omega.{arith}
 use lib.ListN.{drop}
-use Rattle.ere_meaning.specs.Tree.{Range, inSome, takes, only, anyByte}
+use Rattle.lists.proofs.Tests.{or-right}
+use Rattle.lists.specs.Parsing.{Parsed, parsed}
+use Rattle.ere_meaning.specs.Tree.{Range, inSome, accepts, only, anyByte}
 use Rattle.ere_grammar.specs.Grammar.{range}
-use Rattle.ere_grammar.specs.Read.{Got, got, begins, tail, Items, bracketOf, readBracket}
+use Rattle.ere_grammar.specs.Read.{begins, tail, Items, bracketOf, readBracket}
 use Rattle.ere_bracket.specs.Words.{inClass, noByte, everyByte, withByte, withSpans, otherBytes}
 use Rattle.ere_bracket.specs.Items.{itemsOf, worded, leadsTo, Ended}
 use Rattle.ere_bracket.specs.Answer.{BracketReads}
 use Rattle.ere_bracket.specs.declared.brackets.Step.{Step}
-use Rattle.ere_meaning.proofs.Tests.{or-right}
 use Rattle.ere_bracket.proofs.Laws.{bytes-one, four-none, four-spans, in-ranges, in-other, class-bit}
 use Rattle.ere_bracket.proofs.Steps.{tail-drop}
 
 -- ---- a byte, and any byte
 
 -- the class of one byte
-pub in-only : (b x : ℕ) → x < 256 → inClass (withByte noByte b) x ≡ takes (only b) x
-unfolding takes withSpans
+pub in-only : (b x : ℕ) → x < 256 → inClass (withByte noByte b) x ≡ accepts (only b) x
+unfolding accepts withSpans
 in-only b x h = ap (λ (c : List ℕ). inClass c x) (bytes-one noByte b) ∙ in-ranges (range b b ∷ []) x h
 
 -- the class of all bytes
-pub in-any : (x : ℕ) → x < 256 → inClass everyByte x ≡ takes anyByte x
-unfolding takes inSome
+pub in-any : (x : ℕ) → x < 256 → inClass everyByte x ≡ accepts anyByte x
+unfolding accepts inSome
 in-any x h = class-bit noByte x four-none h .full
 
 -- ---- a bracket is its items, behind the `^` where there is one
@@ -50,20 +51,20 @@ worded-none c (some g) e = let z : _≡_ {A = ℕ} 0 1 = cc in absurd (omega ari
 -- the items that some words come from
 record From (c w t : List ℕ) (i : Items) : Type 0 where
   ranges : List Range
-  same : i ≡ got ranges t
+  same : i ≡ parsed ranges t
   words : w ≡ withSpans c ranges
 
-worded-some : (c w t : List ℕ) (i : Items) → got w t ≡ worded c i → From c w t i
+worded-some : (c w t : List ℕ) (i : Items) → parsed w t ≡ worded c i → From c w t i
 unfolding worded
 worded-some c w t none e = let z : _≡_ {A = ℕ} 0 1 = cc in absurd (omega arith)
 worded-some c w t (some g) e =
-    let z : _≡_ {A = Got (List ℕ)} (record { it = w; left = t }) (record { it = withSpans c (g .it); left = g .left }) = cc in
-    record { ranges = g .it; same = ap (λ (x : Got (List ℕ)). got (g .it) (x .left)) (sym z); words = ap (λ (x : Got (List ℕ)). x .it) z }
+    let z : _≡_ {A = Parsed (List ℕ)} (record { value = w; rest = t }) (record { value = withSpans c (g .value); rest = g .rest }) = cc in
+    record { ranges = g .value; same = ap (λ (x : Parsed (List ℕ)). parsed (g .value) (x .rest)) (sym z); words = ap (λ (x : Parsed (List ℕ)). x .value) z }
 
 -- ---- the answer
 
 module _ (s : Step) (l : List ℕ) (from : ℕ) (w : Ended s l from (worded noByte (itemsOf true (drop from l)))) where
-  ended : cond (s .ok) (got (s .words) (drop (s .at) l)) none ≡ worded noByte (itemsOf true (drop from l))
+  ended : cond (s .ok) (parsed (s .words) (drop (s .at) l)) none ≡ worded noByte (itemsOf true (drop from l))
   unfolding leadsTo
   ended = rw (w .over) at (w .leads .same)
 
@@ -74,7 +75,7 @@ module _ (s : Step) (l : List ℕ) (from : ℕ) (w : Ended s l from (worded noBy
   ended-read e = worded-some noByte (s .words) (drop (s .at) l) (itemsOf true (drop from l)) (rw e at ended)
 
   answer : (at : ℕ) (negated : Bool) (c : List ℕ) → at ≤ from → readBracket (drop at l) ≡ bracketOf negated (itemsOf true (drop from l))
-      → ((rs : List Range) → s .words ≡ withSpans noByte rs → (b : ℕ) → b < 256 → inClass c b ≡ takes (record { negated = negated; ranges = rs }) b)
+      → ((rs : List Range) → s .words ≡ withSpans noByte rs → (b : ℕ) → b < 256 → inClass c b ≡ accepts (record { negated = negated; ranges = rs }) b)
       → BracketReads (record { ok = s .ok; next = s .at; words = c }) l at
   unfolding bracketOf
   answer at negated c h e same =
@@ -96,14 +97,14 @@ module _ (s : Step) (l : List ℕ) (from : ℕ) (w : Ended s l from (worded noBy
 module _ (s : Step) (l : List ℕ) (at : ℕ) where
   pub answer-plain : Ended s l at (worded noByte (itemsOf true (drop at l))) → false ≡ begins (94 ∷ []) (drop at l)
       → BracketReads (record { ok = s .ok; next = s .at; words = s .words }) l at
-  unfolding takes
+  unfolding accepts
   answer-plain w e =
       answer s l at w at false (s .words) (omega arith) (bracket-plain (drop at l) e)
       (λ rs z b h. ap (λ (c : List ℕ). inClass c b) z ∙ in-ranges rs b h)
 
   pub answer-other : (c : List ℕ) → Ended s l (at + 1) (worded noByte (itemsOf true (drop (at + 1) l))) → true ≡ begins (94 ∷ []) (drop at l)
       → c ≡ otherBytes (s .words) → BracketReads (record { ok = s .ok; next = s .at; words = c }) l at
-  unfolding takes
+  unfolding accepts
   answer-other c w e k =
       answer s l (at + 1) w at true c (omega arith) (bracket-other (drop at l) e ∙ ap (λ (t : List ℕ). bracketOf true (itemsOf true t)) (tail-drop at l))
       (λ rs z b h.

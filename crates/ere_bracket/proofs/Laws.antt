@@ -13,11 +13,10 @@ use lib.Bits.{bitOr, or-lt}
 use lib.Pow.{pow-lt}
 use lib.Dec.{eqb, leb, ltb}
 use borrow.Author.Tests.{eq-eqb, ne-eqb, eqb-true, le-leb, leb-true, lt-ltb, ltb-true}
+use Rattle.lists.proofs.Tests.{same-test, or-none, or-swap, or-group, or-turned, or-cases, or-left, or-right, and-true, and-of}
 use Rattle.ere_meaning.specs.Tree.{Range, inRange, inSome}
 use Rattle.lists.specs.Digit.{bit}
 use Rattle.ere_bracket.specs.Words.{inClass, noByte, everyByte, withByte, withBytes, withSpan, withSpans, otherWord, otherBytes, FourWords, ClassBit}
-use Rattle.ere_bracket.proofs.Tests.{same-test, or-none, or-swap, or-group, or-turned}
-use Rattle.ere_meaning.proofs.Tests.{or-cases, or-left, or-right, and-both, and-of}
 use Rattle.lists.proofs.Digits.{bit-or, bit-zero, bit-shifted, word-pow, bit-turned}
 
 bit-other : (w k : ℕ) → w < 2 ^ 64 → k < 64 → bit (otherWord w) k ≡ not (bit w k)
@@ -136,7 +135,7 @@ between lo n x = leb lo x && ltb x (lo + n)
 between-none : (lo x : ℕ) → between lo 0 x ≡ false
 between-none lo x =
     same-test (between lo 0 x) false
-    (λ h. let z = and-both (leb lo x) (ltb x (lo + 0)) h in absurd (omega (arith, leb-true lo x (z .0), ltb-true x (lo + 0) (z .1))))
+    (λ h. let z = and-true (leb lo x) (ltb x (lo + 0)) h in absurd (omega (arith, leb-true lo x (z .0), ltb-true x (lo + 0) (z .1))))
     (λ h. absurd (true≢false (sym h)))
 
 between-more : (lo n x : ℕ) → (eqb x (lo + n) || between lo n x) ≡ between lo (suc n) x
@@ -147,13 +146,13 @@ between-more lo n x = same-test (eqb x (lo + n) || between lo n x) (between lo (
         ⊎-elim
         (λ e. let z = eqb-true x (lo + n) e in and-of _ _ (le-leb lo x (omega arith)) (lt-ltb x (lo + suc n) (omega arith)))
         (λ e.
-        let z = and-both (leb lo x) (ltb x (lo + n)) e in
+        let z = and-true (leb lo x) (ltb x (lo + n)) e in
         and-of _ _ (z .0) (lt-ltb x (lo + suc n) (omega (arith, ltb-true x (lo + n) (z .1)))))
         (or-cases (eqb x (lo + n)) (between lo n x) h)
 
     back : between lo (suc n) x ≡ true → (eqb x (lo + n) || between lo n x) ≡ true
     back h =
-        let z = and-both (leb lo x) (ltb x (lo + suc n)) h in
+        let z = and-true (leb lo x) (ltb x (lo + suc n)) h in
         elim (ℕ-discrete x (lo + n)) [
           | yes e ↦ or-left _ _ (eq-eqb x (lo + n) e)
           | no m ↦ or-right (eqb x (lo + n)) _ (and-of _ _ (z .0) (lt-ltb x (lo + n) (omega (arith, ltb-true x (lo + suc n) (z .1)))))
@@ -164,13 +163,13 @@ between-ends r x = same-test (between (r .low) (r .high + 1 - r .low) x) (inRang
   where
     there : between (r .low) (r .high + 1 - r .low) x ≡ true → inRange r x ≡ true
     there h =
-        let z = and-both (leb (r .low) x) _ h in
+        let z = and-true (leb (r .low) x) _ h in
         and-of _ _ (z .0)
         (le-leb x (r .high) (omega (arith, leb-true (r .low) x (z .0), ltb-true x (r .low + (r .high + 1 - r .low)) (z .1))))
 
     back : inRange r x ≡ true → between (r .low) (r .high + 1 - r .low) x ≡ true
     back h =
-        let z = and-both (leb (r .low) x) _ h in
+        let z = and-true (leb (r .low) x) _ h in
         and-of _ _ (z .0)
         (lt-ltb x (r .low + (r .high + 1 - r .low)) (omega (arith, leb-true (r .low) x (z .0), leb-true x (r .high) (z .1))))
 

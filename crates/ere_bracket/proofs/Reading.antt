@@ -9,13 +9,15 @@ use native.Mathlib.Omega.{arith}
 use lib.ListN.{length, drop, getD, drop-of-length-le}
 use lib.Dec.{eqb}
 use borrow.Author.Tests.{eq-eqb, ne-eqb}
+use Rattle.lists.proofs.Tests.{or-none, or-group}
+use Rattle.lists.specs.Elements.{oneOf}
+use Rattle.lists.specs.Parsing.{Parsed, parsed}
 use Rattle.buffer.proofs.Parts.{drop-next}
-use Rattle.ere_grammar.specs.Bytes.{escapeOf, oneOf}
-use Rattle.ere_grammar.specs.Read.{Got, got, begins, readEscape, escapedByte, readMember, joins}
+use Rattle.ere_grammar.specs.Bytes.{escapeOf}
+use Rattle.ere_grammar.specs.Read.{begins, readEscape, escapedByte, readMember, joins}
 use Rattle.ere_bracket.specs.Members.{classMarks, memberOf, Further, Reads}
 use Rattle.ere_bracket.specs.declared.members.Member.{Member}
 use Rattle.ere_bracket.specs.declared.members.Member.the-variants.{Byte, Bad}
-use Rattle.ere_bracket.proofs.Tests.{or-none, or-group}
 
 further-on : (r : Member) (l : List ℕ) (at : ℕ) → Further r l (at + 1) → Further r l at
 further-on (Byte b next) l at h = (omega arith, omega arith)
@@ -103,11 +105,11 @@ module _ (l : List ℕ) (at : ℕ) where
 
 -- ---- what an answer tells
 
-module _ {r : Member} {l : List ℕ} {at : ℕ} {o : Option (Got ℕ)} (w : Reads r l at o) where
+module _ {r : Member} {l : List ℕ} {at : ℕ} {o : Option (Parsed ℕ)} (w : Reads r l at o) where
   pub bad-read : r ≡ Bad → none ≡ o
   bad-read e = ap (λ (m : Member). memberOf m l) (sym e) ∙ w .same
 
-  pub byte-read : {b k : ℕ} → r ≡ Byte b k → got b (drop k l) ≡ o
+  pub byte-read : {b k : ℕ} → r ≡ Byte b k → parsed b (drop k l) ≡ o
   byte-read e = ap (λ (m : Member). memberOf m l) (sym e) ∙ w .same
 
   pub byte-further : {b k : ℕ} → r ≡ Byte b k → (at < k) × (k ≤ length l)

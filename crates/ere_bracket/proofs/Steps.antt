@@ -8,10 +8,11 @@ use native.Mathlib.Numerals.{add-one}
 use native.Mathlib.Omega.{arith}
 use lib.ListN.{length, drop, getD, drop-of-length-le}
 use borrow.Author.Tests.{eq-eqb, ne-eqb, le-leb, lt-leb}
+use Rattle.lists.specs.Parsing.{Parsed, parsed}
 use Rattle.buffer.proofs.Parts.{drop-next}
 use Rattle.ere_meaning.specs.Tree.{Range}
 use Rattle.ere_grammar.specs.Grammar.{range}
-use Rattle.ere_grammar.specs.Read.{Got, got, begins, tail, readMember, joins, Items, withRange, lastHyphen, upTo, afterByte}
+use Rattle.ere_grammar.specs.Read.{begins, tail, readMember, joins, Items, withRange, lastHyphen, rangeTo, afterByte}
 use Rattle.ere_bracket.specs.Words.{withByte, withBytes, withSpan, withSpans}
 use Rattle.ere_bracket.specs.Items.{itemsOf, worded, goesOn, closedAt, refusedAt, leadsTo, Leads}
 use Rattle.ere_bracket.specs.declared.brackets.Step.{Step}
@@ -20,7 +21,7 @@ use Rattle.ere_bracket.proofs.Turns.{items-end, items-first, items-late
 
 -- ---- steps
 
-module _ (l : List ℕ) (at : ℕ) {read : Option (Got (List ℕ))} (s : Step) (k : ℕ) (c : List ℕ) where
+module _ (l : List ℕ) (at : ℕ) {read : Option (Parsed (List ℕ))} (s : Step) (k : ℕ) (c : List ℕ) where
   pub refuses : s ≡ refusedAt k c → none ≡ read → Leads s l at read
   unfolding leadsTo
   refuses q e = rw q (record { same = e; further = λ h. absurd (true≢false (sym h)) })
@@ -29,12 +30,12 @@ module _ (l : List ℕ) (at : ℕ) {read : Option (Got (List ℕ))} (s : Step) (
   unfolding leadsTo
   goes-on q h e = rw q (record { same = e; further = λ z. h })
 
-  pub closes : s ≡ closedAt k c → (at < k) × (k ≤ length l) → got c (drop k l) ≡ read → Leads s l at read
+  pub closes : s ≡ closedAt k c → (at < k) × (k ≤ length l) → parsed c (drop k l) ≡ read → Leads s l at read
   unfolding leadsTo
   closes q h e = rw q (record { same = e; further = λ z. h })
 
 -- a step from an index is one from each index before it
-pub leads-from : (s : Step) (l : List ℕ) (at from : ℕ) {read whole : Option (Got (List ℕ))}
+pub leads-from : (s : Step) (l : List ℕ) (at from : ℕ) {read whole : Option (Parsed (List ℕ))}
     → from ≤ at → Leads s l at read → read ≡ whole → Leads s l from whole
 leads-from s l at from h w e = record { same = w .same ∙ e; further = λ z. let f = w .further z in (omega arith, omega arith) }
 
@@ -47,18 +48,18 @@ worded-range c r (some g) = refl
 
 -- ---- a range
 
-module _ (c : List ℕ) (a : ℕ) (o : Option (Got ℕ)) where
-  pub up-to-bad : none ≡ o → none ≡ worded c (upTo (itemsOf false) a o)
-  unfolding worded upTo
+module _ (c : List ℕ) (a : ℕ) (o : Option (Parsed ℕ)) where
+  pub up-to-bad : none ≡ o → none ≡ worded c (rangeTo (itemsOf false) a o)
+  unfolding worded rangeTo
   up-to-bad e = rw (← e)
 
-  pub up-to-back : (b : ℕ) (t : List ℕ) → got b t ≡ o → b < a → none ≡ worded c (upTo (itemsOf false) a o)
-  unfolding worded upTo
+  pub up-to-back : (b : ℕ) (t : List ℕ) → parsed b t ≡ o → b < a → none ≡ worded c (rangeTo (itemsOf false) a o)
+  unfolding worded rangeTo
   up-to-back b t e h = rw (← e, lt-leb a b h)
 
-  pub up-to-span : (b : ℕ) (t w : List ℕ) → got b t ≡ o → a ≤ b → w ≡ withBytes c a (b + 1 - a)
-      → worded w (itemsOf false t) ≡ worded c (upTo (itemsOf false) a o)
-  unfolding upTo
+  pub up-to-span : (b : ℕ) (t w : List ℕ) → parsed b t ≡ o → a ≤ b → w ≡ withBytes c a (b + 1 - a)
+      → worded w (itemsOf false t) ≡ worded c (rangeTo (itemsOf false) a o)
+  unfolding rangeTo
   up-to-span b t w e h k = rw (← e, le-leb a b h, k) (worded-range c (range a b) (itemsOf false t))
 
 -- ---- a byte
@@ -70,17 +71,17 @@ tail-drop zero (x ∷ l) = refl
 tail-drop (suc k) [] = rw add-one
 tail-drop (suc k) (x ∷ l) = rw add-one (tail-drop k l ∙ ap (λ (n : ℕ). drop n l) (add-one k))
 
-module _ (c : List ℕ) (o : Option (Got ℕ)) where
+module _ (c : List ℕ) (o : Option (Parsed ℕ)) where
   pub after-bad : none ≡ o → none ≡ worded c (afterByte (itemsOf false) o)
   unfolding worded afterByte
   after-bad e = rw (← e)
 
-  pub after-joins : (l : List ℕ) (b k : ℕ) → got b (drop k l) ≡ o → true ≡ joins (drop k l)
-      → worded c (upTo (itemsOf false) b (readMember (drop (k + 1) l))) ≡ worded c (afterByte (itemsOf false) o)
+  pub after-joins : (l : List ℕ) (b k : ℕ) → parsed b (drop k l) ≡ o → true ≡ joins (drop k l)
+      → worded c (rangeTo (itemsOf false) b (readMember (drop (k + 1) l))) ≡ worded c (afterByte (itemsOf false) o)
   unfolding afterByte
   after-joins l b k e j = rw (← e, ← j, tail-drop k l)
 
-  pub after-byte : (b : ℕ) (t w : List ℕ) → got b t ≡ o → false ≡ joins t → w ≡ withByte c b
+  pub after-byte : (b : ℕ) (t w : List ℕ) → parsed b t ≡ o → false ≡ joins t → w ≡ withByte c b
       → worded w (itemsOf false t) ≡ worded c (afterByte (itemsOf false) o)
   unfolding afterByte
   after-byte b t w e j k = rw (← e, ← j, k, bytes-one c b) (worded-range c (range b b) (itemsOf false t))
@@ -89,9 +90,9 @@ module _ (c : List ℕ) (o : Option (Got ℕ)) where
 
 module _ (c l : List ℕ) (at : ℕ) where
   pub hyphen-last : (w : List ℕ) → true ≡ begins (93 ∷ []) (drop at l) → w ≡ withByte c 45
-      → got w (drop (at + 1) l) ≡ worded c (lastHyphen (drop at l))
+      → parsed w (drop (at + 1) l) ≡ worded c (lastHyphen (drop at l))
   unfolding worded lastHyphen withSpans
-  hyphen-last w e k = rw (← e, tail-drop at l, k) (ap (λ (d : List ℕ). got d (drop (at + 1) l)) (bytes-one c 45))
+  hyphen-last w e k = rw (← e, tail-drop at l, k) (ap (λ (d : List ℕ). parsed d (drop (at + 1) l)) (bytes-one c 45))
 
   pub hyphen-bad : false ≡ begins (93 ∷ []) (drop at l) → none ≡ worded c (lastHyphen (drop at l))
   unfolding worded lastHyphen
@@ -102,7 +103,7 @@ module _ (c l : List ℕ) (at : ℕ) where
   turn-first first e = rw (e, items-first (drop at l))
 
   module _ (first : Bool) (later : first ≡ false) (h : at < length l) where
-    pub turn-end : getD l at 0 ≡ 93 → got c (drop (at + 1) l) ≡ worded c (itemsOf first (drop at l))
+    pub turn-end : getD l at 0 ≡ 93 → parsed c (drop (at + 1) l) ≡ worded c (itemsOf first (drop at l))
     unfolding worded withSpans
     turn-end e = rw (later, drop-next l at h, items-later, eq-eqb (getD l at 0) 93 e)
 
@@ -120,7 +121,7 @@ module _ (c l : List ℕ) (at : ℕ) where
 
 -- ---- what a step tells
 
-module _ {s : Step} {l : List ℕ} {at : ℕ} {read : Option (Got (List ℕ))} (w : Leads s l at read) where
+module _ {s : Step} {l : List ℕ} {at : ℕ} {read : Option (Parsed (List ℕ))} (w : Leads s l at read) where
   pub more-read : s .more ≡ true → worded (s .words) (itemsOf false (drop (s .at) l)) ≡ read
   unfolding leadsTo
   more-read e = rw e at (w .same)

@@ -8,19 +8,20 @@ use native.Mathlib.Nat.{le-refl}
 use native.Mathlib.Omega.{arith}
 use lib.ListN.{length}
 use lib.Dec.{eqb, leb}
+use Rattle.lists.specs.Parsing.{Parsed, parsed}
 use Rattle.ere_grammar.specs.Bytes.{escapeOf}
 use Rattle.ere_grammar.specs.Grammar.{range}
-use Rattle.ere_grammar.specs.Read.{Got, got, begins, tail, escapedByte, readEscape, readMember, joins, Items, withRange, lastHyphen, upTo, afterByte, readItems}
+use Rattle.ere_grammar.specs.Read.{begins, tail, escapedByte, readEscape, readMember, joins, Items, withRange, lastHyphen, rangeTo, afterByte, readItems}
 use Rattle.ere_bracket.specs.Items.{itemsOf}
 
 -- ---- what a byte leaves is shorter than what it was read from
 
 -- fewer than k bytes are left, if anything was read
-abbrev Left : ℕ → Option (Got ℕ) → Type 0
+abbrev Left : ℕ → Option (Parsed ℕ) → Type 0
 Left k none = Unit
-Left k (some g) = length (g .left) < k
+Left k (some g) = length (g .rest) < k
 
-cond-left : (k : ℕ) (x : Bool) (o p : Option (Got ℕ)) → Left k o → Left k p → Left k (cond x o p)
+cond-left : (k : ℕ) (x : Bool) (o p : Option (Parsed ℕ)) → Left k o → Left k p → Left k (cond x o p)
 cond-left k true o p h g = h
 cond-left k false o p h g = g
 
@@ -39,7 +40,7 @@ unfolding readMember
 member-left k [] h = tt
 member-left k (b ∷ t) h =
     cond-left k (eqb b 92) (readEscape t) _ (escape-left k t (omega arith))
-    (cond-left k (eqb b 91 && begins (58 ∷ 61 ∷ 46 ∷ []) t) none (got b t) tt h)
+    (cond-left k (eqb b 91 && begins (58 ∷ 61 ∷ 46 ∷ []) t) none (parsed b t) tt h)
 
 tail-short : (t : List ℕ) → length (tail t) ≤ length t
 unfolding tail
@@ -49,18 +50,18 @@ tail-short (b ∷ t) = omega arith
 -- ---- what comes after a byte depends only on shorter rests
 
 module _ (f g : List ℕ → Items) (k : ℕ) (same : (t : List ℕ) → length t < k → f t ≡ g t) where
-  up-to-same : (a : ℕ) (o : Option (Got ℕ)) → Left k o → upTo f a o ≡ upTo g a o
-  unfolding upTo
+  up-to-same : (a : ℕ) (o : Option (Parsed ℕ)) → Left k o → rangeTo f a o ≡ rangeTo g a o
+  unfolding rangeTo
   up-to-same a none h = refl
-  up-to-same a (some m) h = ap (λ (i : Items). cond (leb a (m .it)) (withRange (range a (m .it)) i) none) (same (m .left) h)
+  up-to-same a (some m) h = ap (λ (i : Items). cond (leb a (m .value)) (withRange (range a (m .value)) i) none) (same (m .rest) h)
 
-  after-same : (o : Option (Got ℕ)) → Left k o → afterByte f o ≡ afterByte g o
+  after-same : (o : Option (Parsed ℕ)) → Left k o → afterByte f o ≡ afterByte g o
   unfolding afterByte
   after-same none h = refl
   after-same (some m) h =
-      ap₂ (λ (i j : Items). cond (joins (m .left)) i (withRange (range (m .it) (m .it)) j))
-      (up-to-same (m .it) (readMember (tail (m .left))) (member-left k (tail (m .left)) (omega (arith, tail-short (m .left)))))
-      (same (m .left) h)
+      ap₂ (λ (i j : Items). cond (joins (m .rest)) i (withRange (range (m .value) (m .value)) j))
+      (up-to-same (m .value) (readMember (tail (m .rest))) (member-left k (tail (m .rest)) (omega (arith, tail-short (m .rest)))))
+      (same (m .rest) h)
 
 -- ---- turns
 
@@ -70,7 +71,7 @@ turns-same zero n first t h k = absurd (omega arith)
 turns-same (suc m) zero first t h k = absurd (omega arith)
 turns-same (suc m) (suc n) first [] h k = refl
 turns-same (suc m) (suc n) first (b ∷ t) h k =
-    ap (λ (i : Items). cond (not first && eqb b 93) (got [] t) (cond (not first && eqb b 45) (lastHyphen t) i))
+    ap (λ (i : Items). cond (not first && eqb b 93) (parsed [] t) (cond (not first && eqb b 45) (lastHyphen t) i))
     (after-same (readItems m false) (readItems n false) (length (b ∷ t)) (λ u s. turns-same m n false u (omega arith) (omega arith))
     (readMember (b ∷ t)) (member-left (length (b ∷ t)) (b ∷ t) (le-refl (length (b ∷ t)))))
 
@@ -88,10 +89,10 @@ items-end first = refl
 -- a turn of the items
 items-turn : (first : Bool) (b : ℕ) (t : List ℕ)
     → itemsOf first (b ∷ t)
-    ≡ cond (not first && eqb b 93) (got [] t) (cond (not first && eqb b 45) (lastHyphen t) (afterByte (itemsOf false) (readMember (b ∷ t))))
+    ≡ cond (not first && eqb b 93) (parsed [] t) (cond (not first && eqb b 45) (lastHyphen t) (afterByte (itemsOf false) (readMember (b ∷ t))))
 unfolding itemsOf readItems
 items-turn first b t =
-    ap (λ (i : Items). cond (not first && eqb b 93) (got [] t) (cond (not first && eqb b 45) (lastHyphen t) i))
+    ap (λ (i : Items). cond (not first && eqb b 93) (parsed [] t) (cond (not first && eqb b 45) (lastHyphen t) i))
     (after-same (readItems (suc (length t)) false) (itemsOf false) (length (b ∷ t)) (λ u s. items-turns (suc (length t)) false u s)
     (readMember (b ∷ t)) (member-left (length (b ∷ t)) (b ∷ t) (le-refl (length (b ∷ t)))))
 
@@ -102,5 +103,5 @@ items-first [] = items-end true
 items-first (b ∷ t) = sym (items-turn true b t)
 
 pub items-later : (b : ℕ) (t : List ℕ)
-    → itemsOf false (b ∷ t) ≡ cond (eqb b 93) (got [] t) (cond (eqb b 45) (lastHyphen t) (afterByte (itemsOf false) (readMember (b ∷ t))))
+    → itemsOf false (b ∷ t) ≡ cond (eqb b 93) (parsed [] t) (cond (eqb b 45) (lastHyphen t) (afterByte (itemsOf false) (readMember (b ∷ t))))
 items-later b t = items-turn false b t

@@ -3,7 +3,7 @@ ghost use mathlib.Core.Path.{_≡_};
 ghost use mathlib.Core.Bool.{true, false};
 ghost use Prim.Native.Nat.{_<_};
 ghost use lib.ListN.{length, drop};
-ghost use Rattle.ere_grammar.specs.Read.{readMember, upTo, afterByte, lastHyphen};
+ghost use Rattle.ere_grammar.specs.Read.{readMember, rangeTo, afterByte, lastHyphen};
 ghost use Rattle.ere_bracket.specs.Words.{noByte};
 ghost use Rattle.ere_bracket.specs.Items.{itemsOf, worded, goesOn, closedAt, refusedAt, Leads, Ended};
 ghost use Rattle.ere_bracket.specs.Answer.{BracketReads};
@@ -57,8 +57,8 @@ fn refused(at: usize, words: [u64; 4]) -> Step
 }
 
 // The rest of a range from the byte low, from the index behind its `-` on.
-fn up_to(ere: &[u8], at: usize, low: u8, words: [u64; 4]) -> Step
-    ensures { λ r. ⌜ Leads r (now (ere .entry)) at (worded words (upTo (itemsOf false) low (readMember (drop at (now (ere .entry)))))) ⌝ }
+fn range_to(ere: &[u8], at: usize, low: u8, words: [u64; 4]) -> Step
+    ensures { λ r. ⌜ Leads r (now (ere .entry)) at (worded words (rangeTo (itemsOf false) low (readMember (drop at (now (ere .entry)))))) ⌝ }
 {
     match members::read_member(ere, at) {
         Member::Byte(high, next) => {
@@ -79,7 +79,7 @@ fn item(ere: &[u8], at: usize, words: [u64; 4]) -> Step
     match members::read_member(ere, at) {
         Member::Byte(b, next) => {
             if members::joins(ere, next) {
-                return up_to(ere, next + 1, b, words);
+                return range_to(ere, next + 1, b, words);
             }
             let wider = classes::with_byte(words, b);
             goes_on(next, wider)

@@ -9,11 +9,14 @@ use native.Mathlib.Omega.{arith}
 use lib.ListN.{length, length-append}
 use lib.Dec.{eqb, leb}
 use borrow.Author.Tests.{eqb-true, leb-true, le-leb, not-true}
+use Rattle.lists.proofs.Tests.{clash, or-false, and-true, and-false}
+use Rattle.lists.specs.Elements.{oneOf}
+use Rattle.lists.specs.Parsing.{Parsed, parsed}
 use Rattle.ere_meaning.specs.Tree.{Range, Class}
-use Rattle.ere_grammar.specs.Bytes.{oneOf, escapeOf}
+use Rattle.ere_grammar.specs.Bytes.{escapeOf}
 use Rattle.ere_grammar.specs.Grammar.{at-end, before, Opened, other, escaped, clear, Member, itself, senses, Ends, hyphen, range, Items, done, byte, span, Bracket, taking, leaving}
-use Rattle.ere_grammar.specs.Read.{Got, got, begins, tail, escapedByte, readEscape, readMember, joins, withRange, lastHyphen, upTo, afterByte, readItems, bracketOf, readBracket}
-use Rattle.ere_grammar.proofs.Laws.{clash, or-false, and-true, and-false, not-first, not-others, begins-one, clear-begins, begins-clear, Holds, holds-cond}
+use Rattle.ere_grammar.specs.Read.{begins, tail, escapedByte, readEscape, readMember, joins, withRange, lastHyphen, rangeTo, afterByte, readItems, bracketOf, readBracket}
+use Rattle.ere_grammar.proofs.Laws.{not-first, not-others, begins-one, clear-begins, begins-clear, Holds, holds-cond}
 
 -- ---- one byte
 
@@ -60,7 +63,7 @@ hyphen-free [] r = refl
 hyphen-free (b ∷ []) r = and-false (eqb b 91)
 hyphen-free (b ∷ c ∷ s) r = refl
 
-member-complete : {barred s : List ℕ} {b : ℕ} → Member barred s b → (r : List ℕ) → blocked s r ≡ false → readMember (s ++ r) ≡ got b r
+member-complete : {barred s : List ℕ} {b : ℕ} → Member barred s b → (r : List ℕ) → blocked s r ≡ false → readMember (s ++ r) ≡ parsed b r
 unfolding blocked readMember readEscape escapedByte
 member-complete (itself {b} h) r k = rw (not-first 92 _ b h, k)
 member-complete (escaped e) r k = rw e
@@ -99,30 +102,30 @@ ends-sound {s} i l h = go s refl
     go (c ∷ []) e = one c (eqb c 45) refl
     go (c ∷ d ∷ u) e = clear (before {b = c} (rw (hyphen-last i c d u e)))
 
-module _ (rest : List ℕ → Option (Got (List Range))) (ih : (t : List ℕ) → Holds (ItemsRead false t) (rest t)) where
+module _ (rest : List ℕ → Option (Parsed (List Range))) (ih : (t : List ℕ) → Holds (ItemsRead false t) (rest t)) where
   byte-sound : (first : Bool) (s l : List ℕ) (b : ℕ) → Member (senses first) s b → ((u r : List ℕ) → l ≡ u ++ r → Opened s u) → joins l ≡ false
       → Holds (ItemsRead first (s ++ l)) (withRange (range b b) (rest l))
   unfolding Holds withRange
   byte-sound first s l b m o h = go (rest l) (ih l)
     where
-      go : (x : Option (Got (List Range))) → Holds (ItemsRead false l) x → Holds (ItemsRead first (s ++ l)) (withRange (range b b) x)
+      go : (x : Option (Parsed (List Range))) → Holds (ItemsRead false l) x → Holds (ItemsRead first (s ++ l)) (withRange (range b b) x)
       go none k = tt
       go (some g) k =
-          (s ++ (k .0), ap (λ (v : List ℕ). s ++ v) (k .1) ∙ sym (append-assoc s (k .0) _), byte m (o (k .0) _ (k .1)) (ends-sound (k .2) (g .left) (rw (k .1) at h)) (k .2))
+          (s ++ (k .0), ap (λ (v : List ℕ). s ++ v) (k .1) ∙ sym (append-assoc s (k .0) _), byte m (o (k .0) _ (k .1)) (ends-sound (k .2) (g .rest) (rw (k .1) at h)) (k .2))
 
-  span-sound : (first : Bool) (s l : List ℕ) (a : ℕ) → Member (senses first) s a → (o : Option (Got ℕ)) → Holds (MemberRead (93 ∷ []) l) o
-      → Holds (ItemsRead first (s ++ (45 ∷ l))) (upTo rest a o)
-  unfolding Holds withRange upTo
+  span-sound : (first : Bool) (s l : List ℕ) (a : ℕ) → Member (senses first) s a → (o : Option (Parsed ℕ)) → Holds (MemberRead (93 ∷ []) l) o
+      → Holds (ItemsRead first (s ++ (45 ∷ l))) (rangeTo rest a o)
+  unfolding Holds withRange rangeTo
   span-sound first s l a m none h = tt
-  span-sound first s l a m (some g) (u, e, w, o) = holds-cond _ _ _ _ (λ n. go n (rest (g .left)) (ih (g .left))) (λ n. tt)
+  span-sound first s l a m (some g) (u, e, w, o) = holds-cond _ _ _ _ (λ n. go n (rest (g .rest)) (ih (g .rest))) (λ n. tt)
     where
-      go : leb a (g .it) ≡ true → (x : Option (Got (List Range))) → Holds (ItemsRead false (g .left)) x
-          → Holds (ItemsRead first (s ++ (45 ∷ l))) (withRange (range a (g .it)) x)
+      go : leb a (g .value) ≡ true → (x : Option (Parsed (List Range))) → Holds (ItemsRead false (g .rest)) x
+          → Holds (ItemsRead first (s ++ (45 ∷ l))) (withRange (range a (g .value)) x)
       go n none k = tt
       go n (some i) k =
-          (s ++ (45 ∷ (u ++ k .0)), rw (e, k .1) (simp append-assoc), span m w (o (k .0) _ (k .1)) (leb-true a (g .it) n) (k .2))
+          (s ++ (45 ∷ (u ++ k .0)), rw (e, k .1) (simp append-assoc), span m w (o (k .0) _ (k .1)) (leb-true a (g .value) n) (k .2))
 
-  joined-sound : (first : Bool) (s l : List ℕ) (a : ℕ) → Member (senses first) s a → joins l ≡ true → Holds (ItemsRead first (s ++ l)) (upTo rest a (readMember (tail l)))
+  joined-sound : (first : Bool) (s l : List ℕ) (a : ℕ) → Member (senses first) s a → joins l ≡ true → Holds (ItemsRead first (s ++ l)) (rangeTo rest a (readMember (tail l)))
   unfolding joins tail begins oneOf
   joined-sound first s [] a m j = absurd (clash (sym j))
   joined-sound first s (b ∷ []) a m j = absurd (clash (sym (and-true (eqb b 45) false j .1)))
@@ -131,16 +134,16 @@ module _ (rest : List ℕ → Option (Got (List Range))) (ih : (t : List ℕ) �
       let n = not-true (eqb c 93) (k .1) in
       rw (eqb-true b 45 (k .0)) (span-sound first s (c ∷ u) a m (readMember (c ∷ u)) (member-sound (93 ∷ []) (c ∷ u) (rw n)))
 
-  after-sound : (first : Bool) (t : List ℕ) (o : Option (Got ℕ)) → Holds (MemberRead (senses first) t) o → Holds (ItemsRead first t) (afterByte rest o)
+  after-sound : (first : Bool) (t : List ℕ) (o : Option (Parsed ℕ)) → Holds (MemberRead (senses first) t) o → Holds (ItemsRead first t) (afterByte rest o)
   unfolding Holds afterByte
   after-sound first t none h = tt
   after-sound first t (some g) (s, e, m, o) =
-      rw e (holds-cond _ (joins (g .left)) _ _ (λ j. joined-sound first s (g .left) (g .it) m j) (λ j. byte-sound first s (g .left) (g .it) m o j))
+      rw e (holds-cond _ (joins (g .rest)) _ _ (λ j. joined-sound first s (g .rest) (g .value) m j) (λ j. byte-sound first s (g .rest) (g .value) m o j))
 
 hyphen-sound : (t : List ℕ) → Holds (ItemsRead false (45 ∷ t)) (lastHyphen t)
 unfolding lastHyphen Holds
 hyphen-sound t =
-    holds-cond (ItemsRead false (45 ∷ t)) _ (got (range 45 45 ∷ []) (tail t)) none (λ k. (45 ∷ [], ap (λ (v : List ℕ). 45 ∷ v) (begins-one 93 t k), hyphen)) (λ k. tt)
+    holds-cond (ItemsRead false (45 ∷ t)) _ (parsed (range 45 45 ∷ []) (tail t)) none (λ k. (45 ∷ [], ap (λ (v : List ℕ). 45 ∷ v) (begins-one 93 t k), hyphen)) (λ k. tt)
 
 items-sound : (turns : ℕ) (first : Bool) (t : List ℕ) → Holds (ItemsRead first t) (readItems turns first t)
 unfolding Holds readItems oneOf begins
@@ -148,13 +151,13 @@ items-sound zero first t = tt
 items-sound (suc turns) first [] = tt
 items-sound (suc turns) true (b ∷ t) = after-sound (readItems turns false) (λ u. items-sound turns false u) true (b ∷ t) _ (member-sound [] (b ∷ t) refl)
 items-sound (suc turns) false (b ∷ t) =
-    holds-cond (ItemsRead false (b ∷ t)) _ (got [] t) _ (λ h. ([], rw (eqb-true b 93 h), done)) (λ h.
+    holds-cond (ItemsRead false (b ∷ t)) _ (parsed [] t) _ (λ h. ([], rw (eqb-true b 93 h), done)) (λ h.
     holds-cond (ItemsRead false (b ∷ t)) _ (lastHyphen t) _ (λ k. rw (eqb-true b 45 k) (hyphen-sound t)) (λ k.
     after-sound (readItems turns false) (λ u. items-sound turns false u) false (b ∷ t) _ (member-sound (93 ∷ 45 ∷ []) (b ∷ t) (rw (h, k)))))
 
 -- an item's first byte, and what is behind it
 item-complete : (first : Bool) {s : List ℕ} {a : ℕ} → Member (senses first) s a → (turns : ℕ) (r : List ℕ) → blocked s r ≡ false
-    → readItems (suc turns) first (s ++ r) ≡ afterByte (readItems turns false) (got a r)
+    → readItems (suc turns) first (s ++ r) ≡ afterByte (readItems turns false) (parsed a r)
 unfolding readItems
 item-complete true (itself {b} h) turns r k = rw (member-complete (itself {b = b} h) r k)
 item-complete true (escaped h) turns r k = rw (member-complete {barred = []} (escaped h) r k)
@@ -174,8 +177,8 @@ unfolding joins
 goes-on (itself {b} h) r = rw (not-first 93 [] b (not-others 92 (93 ∷ []) b h))
 goes-on (escaped h) r = refl
 
-items-complete : {first : Bool} {s : List ℕ} {rs : List Range} → Items first s rs → (turns : ℕ) (l : List ℕ) → length s < turns → readItems turns first (s ++ (93 ∷ l)) ≡ got rs l
-unfolding readItems lastHyphen begins tail oneOf afterByte upTo withRange
+items-complete : {first : Bool} {s : List ℕ} {rs : List Range} → Items first s rs → (turns : ℕ) (l : List ℕ) → length s < turns → readItems turns first (s ++ (93 ∷ l)) ≡ parsed rs l
+unfolding readItems lastHyphen begins tail oneOf afterByte rangeTo withRange
 items-complete i zero l h = absurd (omega arith)
 items-complete done (suc turns) l h = refl
 items-complete hyphen (suc turns) l h = refl
@@ -201,13 +204,13 @@ abbrev pub BracketRead : List ℕ → Class → List ℕ → Type 0
 BracketRead t c l = (s : List ℕ) × (t ≡ s ++ l) × Bracket (91 ∷ s) c
 
 module _ (t : List ℕ) where
-  left-out : (o : Option (Got (List Range))) → Holds (ItemsRead true (tail t)) o → begins (94 ∷ []) t ≡ true → Holds (BracketRead t) (bracketOf true o)
+  left-out : (o : Option (Parsed (List Range))) → Holds (ItemsRead true (tail t)) o → begins (94 ∷ []) t ≡ true → Holds (BracketRead t) (bracketOf true o)
   unfolding Holds bracketOf
   left-out none h k = tt
   left-out (some g) (s, e, i) k =
       (94 ∷ (s ++ (93 ∷ [])), begins-one 94 t k ∙ rw e (simp append-assoc), leaving i)
 
-  taken : (o : Option (Got (List Range))) → Holds (ItemsRead true t) o → begins (94 ∷ []) t ≡ false → Holds (BracketRead t) (bracketOf false o)
+  taken : (o : Option (Parsed (List Range))) → Holds (ItemsRead true t) o → begins (94 ∷ []) t ≡ false → Holds (BracketRead t) (bracketOf false o)
   unfolding Holds bracketOf
   taken none h k = tt
   taken (some g) (s, e, i) k = (s ++ (93 ∷ []), rw e (simp append-assoc), taking (begins-clear (94 ∷ []) s _ (rw e at k)) i)
@@ -218,7 +221,7 @@ module _ (t : List ℕ) where
       holds-cond _ (begins (94 ∷ []) t) _ _ (λ k. left-out _ (items-sound (length t) true (tail t)) k) (λ k. taken _ (items-sound (suc (length t)) true t) k)
 
 -- what stands behind the `[` of a bracket
-pub bracket-complete : {s : List ℕ} {c : Class} → Bracket s c → (r : List ℕ) → (t : List ℕ) × (s ++ r ≡ 91 ∷ t) × (readBracket t ≡ got c r)
+pub bracket-complete : {s : List ℕ} {c : Class} → Bracket s c → (r : List ℕ) → (t : List ℕ) × (s ++ r ≡ 91 ∷ t) × (readBracket t ≡ parsed c r)
 unfolding readBracket begins tail bracketOf oneOf
 bracket-complete (taking {s} k i) r = (
   s ++ (93 ∷ r),

@@ -9,11 +9,13 @@ use native.Mathlib.Omega.{arith}
 use lib.ListN.{length, length-append}
 use lib.Dec.{eqb}
 use borrow.Author.Tests.{eqb-true}
+use Rattle.lists.proofs.Tests.{clash, or-false}
+use Rattle.lists.specs.Elements.{oneOf}
+use Rattle.lists.specs.Parsing.{parsed}
 use Rattle.ere_meaning.specs.Tree.{Class, only, anyByte, Ere, place, cat, alt, star, plus, opt}
-use Rattle.ere_grammar.specs.Bytes.{oneOf, escapeOf, isPlain}
+use Rattle.ere_grammar.specs.Bytes.{escapeOf, isPlain}
 use Rattle.ere_grammar.specs.Grammar.{Bracket, Part, alternatives, sequence, piece, atom, Spells, alternative, or, single, then, start, end, once, any-times, some-times, at-most-once, byte, escaped, dot, bracket, group}
-use Rattle.ere_grammar.specs.Read.{got, begins, tail, escapedByte, readEscape, onlyByte, readAtom, andThen, orElse, Rest, finished, repeated, afterAtom, afterGroup, afterBar, readGroup, readRest}
-use Rattle.ere_grammar.proofs.Laws.{clash, or-false}
+use Rattle.ere_grammar.specs.Read.{begins, tail, escapedByte, readEscape, onlyByte, readAtom, andThen, orElse, Rest, finished, repeated, afterAtom, afterGroup, afterBar, readGroup, readRest}
 use Rattle.ere_grammar.proofs.Bracket.{bracket-complete}
 
 -- ---- plain bytes
@@ -90,12 +92,12 @@ module _ (edition : ℕ) where
   )
 
   -- a `)`, and the end
-  read-close : (k n : ℕ) (A : Option (Ere Class)) (s : Ere Class) (r : List ℕ) → length (41 ∷ r) < k → readRest k n A (some s) (41 ∷ r) ≡ got (orElse A s) (41 ∷ r)
+  read-close : (k n : ℕ) (A : Option (Ere Class)) (s : Ere Class) (r : List ℕ) → length (41 ∷ r) < k → readRest k n A (some s) (41 ∷ r) ≡ parsed (orElse A s) (41 ∷ r)
   unfolding readRest finished
   read-close zero n A s r h = absurd (omega arith)
   read-close (suc k) n A s r h = refl
 
-  read-end : (k n : ℕ) (A : Option (Ere Class)) (s : Ere Class) → 0 < k → readRest k n A (some s) [] ≡ got (orElse A s) []
+  read-end : (k n : ℕ) (A : Option (Ere Class)) (s : Ere Class) → 0 < k → readRest k n A (some s) [] ≡ parsed (orElse A s) []
   unfolding readRest finished
   read-end zero n A s h = absurd (omega arith)
   read-end (suc k) n A s h = refl
@@ -176,8 +178,8 @@ module _ (edition : ℕ) where
   complete (group {n} {s} {e} d) = group-complete n s e (complete d)
 
   -- the whole, in any number of turns that is enough
-  pub whole-complete : {n : ℕ} {s : List ℕ} {e : Ere Class} → Spells edition alternatives n s e → (turns : ℕ) → length s < turns → readRest turns n none none s ≡ got e []
+  pub whole-complete : {n : ℕ} {s : List ℕ} {e : Ere Class} → Spells edition alternatives n s e → (turns : ℕ) → length s < turns → readRest turns n none none s ≡ parsed e []
   unfolding Complete begins
   whole-complete {n} {s} {e} d turns h =
       let (A, S, k, o, m, q) = complete d turns [] refl (omega (arith, length-append s [])) in
-      subst (λ (t : List ℕ). readRest turns n none none t ≡ got e []) (append-nil s) (q ∙ read-end k n A S m ∙ ap (λ (x : Ere Class). got x []) o)
+      subst (λ (t : List ℕ). readRest turns n none none t ≡ parsed e []) (append-nil s) (q ∙ read-end k n A S m ∙ ap (λ (x : Ere Class). parsed x []) o)

@@ -8,25 +8,11 @@ use Prim.Native.Nat.{ℕ}
 use native.Mathlib.Omega.{arith}
 use lib.Dec.{eqb}
 use borrow.Author.Tests.{eqb-true}
-use Rattle.ere_grammar.specs.Bytes.{oneOf}
+use Rattle.lists.specs.Elements.{oneOf}
+use Rattle.lists.specs.Parsing.{Parsed}
+use Rattle.lists.proofs.Tests.{clash, or-false, and-true, and-false}
 use Rattle.ere_grammar.specs.Grammar.{Clear, at-end, before}
-use Rattle.ere_grammar.specs.Read.{Got, begins, tail}
-
-pub clash : true ≡ false → ⊥
-clash h = let z : _≡_ {A = ℕ} 0 1 = cc in omega arith
-
--- neither of two
-pub or-false : (a b : Bool) → (a || b) ≡ false → (a ≡ false) × (b ≡ false)
-or-false true b h = absurd (clash h)
-or-false false b h = (refl, h)
-
-pub and-true : (a b : Bool) → (a && b) ≡ true → (a ≡ true) × (b ≡ true)
-and-true true b h = (refl, h)
-and-true false b h = absurd (clash (sym h))
-
-pub and-false : (a : Bool) → (a && false) ≡ false
-and-false true = refl
-and-false false = refl
+use Rattle.ere_grammar.specs.Read.{begins, tail}
 
 -- a byte that is none of some bytes is not the first of them, and none of the others
 pub not-first : (x : ℕ) (l : List ℕ) (b : ℕ) → oneOf (x ∷ l) b ≡ false → eqb b x ≡ false
@@ -60,16 +46,16 @@ begins-clear bytes (b ∷ t) r h = before h
 
 -- ---- what was read has a property; where nothing was read, there is nothing to say
 
-unfoldable pub Holds : {A : Type 0} → (A → List ℕ → Type 0) → Option (Got A) → Type 0
+unfoldable pub Holds : {A : Type 0} → (A → List ℕ → Type 0) → Option (Parsed A) → Type 0
 Holds P none = Unit {0}
-Holds P (some g) = P (g .it) (g .left)
+Holds P (some g) = P (g .value) (g .rest)
 
-pub holds-cond : {A : Type 0} (P : A → List ℕ → Type 0) (b : Bool) (x y : Option (Got A)) → (b ≡ true → Holds P x) → (b ≡ false → Holds P y)
+pub holds-cond : {A : Type 0} (P : A → List ℕ → Type 0) (b : Bool) (x y : Option (Parsed A)) → (b ≡ true → Holds P x) → (b ≡ false → Holds P y)
     → Holds P (cond b x y)
 holds-cond P true x y p q = p refl
 holds-cond P false x y p q = q refl
 
-pub holds-map : {A : Type 0} (P Q : A → List ℕ → Type 0) (o : Option (Got A)) → ((a : A) (l : List ℕ) → P a l → Q a l) → Holds P o → Holds Q o
+pub holds-map : {A : Type 0} (P Q : A → List ℕ → Type 0) (o : Option (Parsed A)) → ((a : A) (l : List ℕ) → P a l → Q a l) → Holds P o → Holds Q o
 unfolding Holds
 holds-map P Q none f h = h
-holds-map P Q (some g) f h = f (g .it) (g .left) h
+holds-map P Q (some g) f h = f (g .value) (g .rest) h

@@ -30,11 +30,11 @@ module _ (edition : ℕ) (bytes : List ℕ) where
   whole-sound : length bytes ≤ ereBytes → (o : Tree) → Holds (RestRead edition ereGroups [] bytes) o → Answers (whole o)
   unfolding Answers Holds whole
   whole-sound l none h = tt
-  whole-sound l (some g) (s, e, k) = go (g .left) e
+  whole-sound l (some g) (s, e, k) = go (g .rest) e
     where
-      go : (t : List ℕ) → bytes ≡ s ++ t → Answers (whole (some (record { it = g .it; left = t })))
+      go : (t : List ℕ) → bytes ≡ s ++ t → Answers (whole (some (record { value = g .value; rest = t })))
       go [] q =
-          answers-cond _ (some (g .it)) (λ p. record { spelled = rw (q, append-nil) k; short = l; few = leb-true (places (g .it)) erePlaces p })
+          answers-cond _ (some (g .value)) (λ p. record { spelled = rw (q, append-nil) k; short = l; few = leb-true (places (g .value)) erePlaces p })
       go (b ∷ t) q = tt
 
   answers : Answers (readEre edition bytes)

@@ -7,10 +7,11 @@ use mathlib.Core.Option.{Option, some, none}
 use Prim.Native.Nat.{ℕ, zero, suc}
 use lib.Dec.{eqb}
 use borrow.Author.Tests.{eqb-true}
+use Rattle.lists.specs.Parsing.{Parsed}
 use Rattle.ere_meaning.specs.Tree.{Class, Ere, place, bol, eol, star, plus, opt}
 use Rattle.ere_grammar.specs.Bytes.{escapeOf, isPlain}
 use Rattle.ere_grammar.specs.Grammar.{alternatives, sequence, piece, atom, Spells, alternative, or, single, then, start, end, once, any-times, some-times, at-most-once, byte, escaped, dot, bracket, group}
-use Rattle.ere_grammar.specs.Read.{Got, begins, tail, escapedByte, readEscape, readBracket, onlyByte, readAtom, andThen, orElse, Tree, Rest, finished, repeated, afterAtom, afterGroup, afterBar, readGroup, readRest}
+use Rattle.ere_grammar.specs.Read.{begins, tail, escapedByte, readEscape, readBracket, onlyByte, readAtom, andThen, orElse, Tree, Rest, finished, repeated, afterAtom, afterGroup, afterBar, readGroup, readRest}
 use Rattle.ere_grammar.proofs.Laws.{begins-one, Holds, holds-cond, holds-map}
 use Rattle.ere_grammar.proofs.Bracket.{BracketRead, bracket-sound}
 
@@ -116,10 +117,10 @@ module _ (edition : ℕ) where
         mark b x w h = subst (λ (v : List ℕ). Holds (RestRead n p v) (rest n A (some (andThen S x)) (tail t)))
             (append-assoc u (b ∷ []) (tail t) ∙ ap (λ (v : List ℕ). u ++ v) (sym (begins-one b t h))) (piece-sound (u ++ (b ∷ [])) (tail t) x w)
 
-    atom-sound : (t : List ℕ) (o : Option (Got Class)) → Holds (AtomRead t) o → Holds (RestRead n p t) (afterAtom rest n A S o)
+    atom-sound : (t : List ℕ) (o : Option (Parsed Class)) → Holds (AtomRead t) o → Holds (RestRead n p t) (afterAtom rest n A S o)
     unfolding Holds afterAtom
     atom-sound t none h = tt
-    atom-sound t (some g) (u, e, k) = rw e (repeated-sound u (g .left) (place (g .it)) (k n))
+    atom-sound t (some g) (u, e, k) = rw e (repeated-sound u (g .rest) (place (g .value)) (k n))
 
   group-sound : (rest : Rest) → Sound rest → (n : ℕ) (A S : Option (Ere Class)) (p t : List ℕ) → Before n A S p → Holds (RestRead n p (40 ∷ t)) (readGroup rest n A S t)
   unfolding readGroup afterGroup Holds Sound
@@ -129,10 +130,10 @@ module _ (edition : ℕ) where
       go : (o : Tree) → Holds (RestRead n [] t) o → Holds (RestRead (suc n) p (40 ∷ t)) (afterGroup rest (suc n) A S o)
       go none h = tt
       go (some g) (s, e, k) =
-          holds-cond (RestRead (suc n) p (40 ∷ t)) (begins (41 ∷ []) (g .left)) _ _
-          (λ h. subst (λ (v : List ℕ). Holds (RestRead (suc n) p (40 ∷ v)) (repeated rest (suc n) A S (g .it) (tail (g .left))))
-          (append-assoc s (41 ∷ []) (tail (g .left)) ∙ ap (λ (v : List ℕ). s ++ v) (sym (begins-one 41 (g .left) h)) ∙ sym e)
-          (repeated-sound rest ih (suc n) A S p so (40 ∷ (s ++ (41 ∷ []))) (tail (g .left)) (g .it) (group k))) (λ h. tt)
+          holds-cond (RestRead (suc n) p (40 ∷ t)) (begins (41 ∷ []) (g .rest)) _ _
+          (λ h. subst (λ (v : List ℕ). Holds (RestRead (suc n) p (40 ∷ v)) (repeated rest (suc n) A S (g .value) (tail (g .rest))))
+          (append-assoc s (41 ∷ []) (tail (g .rest)) ∙ ap (λ (v : List ℕ). s ++ v) (sym (begins-one 41 (g .rest) h)) ∙ sym e)
+          (repeated-sound rest ih (suc n) A S p so (40 ∷ (s ++ (41 ∷ []))) (tail (g .rest)) (g .value) (group k))) (λ h. tt)
 
   rest-sound : (turns : ℕ) → Sound (readRest turns)
   unfolding readRest Holds Sound

@@ -4,10 +4,7 @@ use mathlib.Core.List.{List, [], _∷_}
 use mathlib.Core.Option.{Option, some, none}
 use Prim.Native.Nat.{ℕ}
 use lib.Dec.{eqb}
-
-unfoldable pub oneOf : List ℕ → ℕ → Bool
-oneOf [] b = false
-oneOf (x ∷ l) b = eqb b x || oneOf l b
+use Rattle.lists.specs.Elements.{oneOf}
 
 -- an escape: the byte behind the backslash, and the byte that the two spell
 pub record Escape : Type 0 where

@@ -6,9 +6,10 @@ use mathlib.Core.List.{List, [], _∷_, _++_}
 use mathlib.Core.Option.{Option, some, none}
 use Prim.Native.Nat.{ℕ, suc, _≤_}
 use lib.ListN.{length}
+use Rattle.lists.specs.Elements.{oneOf}
 use Rattle.edition.specs.Limits.{ereBytes, erePlaces, ereGroups}
 use Rattle.ere_meaning.specs.Tree.{Range, Class, only, anyByte, Ere, place, bol, eol, cat, alt, star, plus, opt, places}
-use Rattle.ere_grammar.specs.Bytes.{escapeOf, isPlain, oneOf}
+use Rattle.ere_grammar.specs.Bytes.{escapeOf, isPlain}
 
 -- What follows does not begin with one of some bytes.
 pub data Clear (bytes : List ℕ) : List ℕ → Type 0 where

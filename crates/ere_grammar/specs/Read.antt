@@ -5,18 +5,12 @@ use mathlib.Core.Option.{Option, some, none}
 use Prim.Native.Nat.{ℕ, zero, suc}
 use lib.ListN.{length}
 use lib.Dec.{eqb, leb}
+use Rattle.lists.specs.Elements.{oneOf}
 use Rattle.edition.specs.Limits.{ereBytes, erePlaces, ereGroups}
 use Rattle.ere_meaning.specs.Tree.{Range, Class, only, anyByte, Ere, place, bol, eol, cat, alt, star, plus, opt, places}
-use Rattle.ere_grammar.specs.Bytes.{escapeOf, isPlain, oneOf}
+use Rattle.lists.specs.Parsing.{Parsed, parsed}
+use Rattle.ere_grammar.specs.Bytes.{escapeOf, isPlain}
 use Rattle.ere_grammar.specs.Grammar.{range}
-
--- what was read, and the bytes that are left
-pub record Got (A : Type 0) : Type 0 where
-  pub it : A
-  pub left : List ℕ
-
-abbrev pub got : {A : Type 0} → A → List ℕ → Option (Got A)
-got a l = some (record { it = a; left = l })
 
 -- the list begins with one of some bytes
 unfoldable pub begins : List ℕ → List ℕ → Bool
@@ -29,18 +23,18 @@ tail (b ∷ t) = t
 
 -- ---- brackets
 
-unfoldable pub escapedByte : List ℕ → Option ℕ → Option (Got ℕ)
+unfoldable pub escapedByte : List ℕ → Option ℕ → Option (Parsed ℕ)
 escapedByte t none = none
-escapedByte t (some c) = got c t
+escapedByte t (some c) = parsed c t
 
-unfoldable pub readEscape : List ℕ → Option (Got ℕ)
+unfoldable pub readEscape : List ℕ → Option (Parsed ℕ)
 readEscape [] = none
 readEscape (b ∷ t) = escapedByte t (escapeOf b)
 
 -- one byte of a bracket
-unfoldable pub readMember : List ℕ → Option (Got ℕ)
+unfoldable pub readMember : List ℕ → Option (Parsed ℕ)
 readMember [] = none
-readMember (b ∷ t) = cond (eqb b 92) (readEscape t) (cond (eqb b 91 && begins (58 ∷ 61 ∷ 46 ∷ []) t) none (got b t))
+readMember (b ∷ t) = cond (eqb b 92) (readEscape t) (cond (eqb b 91 && begins (58 ∷ 61 ∷ 46 ∷ []) t) none (parsed b t))
 
 -- a `-` with something behind it that does not end the bracket
 unfoldable pub joins : List ℕ → Bool
@@ -52,50 +46,50 @@ joins (b ∷ t) = eqb b 45 && goesOn t
     goesOn (c ∷ u) = not (eqb c 93)
 
 abbrev pub Items : Type 0
-Items = Option (Got (List Range))
+Items = Option (Parsed (List Range))
 
 unfoldable pub withRange : Range → Items → Items
 withRange r none = none
-withRange r (some g) = got (r ∷ (g .it)) (g .left)
+withRange r (some g) = parsed (r ∷ (g .value)) (g .rest)
 
 unfoldable pub lastHyphen : List ℕ → Items
-lastHyphen t = cond (begins (93 ∷ []) t) (got (range 45 45 ∷ []) (tail t)) none
+lastHyphen t = cond (begins (93 ∷ []) t) (parsed (range 45 45 ∷ []) (tail t)) none
 
 module _ (rest : List ℕ → Items) where
-  unfoldable pub upTo : ℕ → Option (Got ℕ) → Items
-  upTo a none = none
-  upTo a (some g) = cond (leb a (g .it)) (withRange (range a (g .it)) (rest (g .left))) none
+  unfoldable pub rangeTo : ℕ → Option (Parsed ℕ) → Items
+  rangeTo a none = none
+  rangeTo a (some g) = cond (leb a (g .value)) (withRange (range a (g .value)) (rest (g .rest))) none
 
-  unfoldable pub afterByte : Option (Got ℕ) → Items
+  unfoldable pub afterByte : Option (Parsed ℕ) → Items
   afterByte none = none
-  afterByte (some g) = cond (joins (g .left)) (upTo (g .it) (readMember (tail (g .left)))) (withRange (range (g .it) (g .it)) (rest (g .left)))
+  afterByte (some g) = cond (joins (g .rest)) (rangeTo (g .value) (readMember (tail (g .rest)))) (withRange (range (g .value) (g .value)) (rest (g .rest)))
 
 -- the items of a bracket and its end, in at most so many turns; `first` where none stands before them
 unfoldable pub readItems : ℕ → Bool → List ℕ → Items
 readItems zero first t = none
 readItems (suc turns) first [] = none
 readItems (suc turns) first (b ∷ t) =
-    cond (not first && eqb b 93) (got [] t)
+    cond (not first && eqb b 93) (parsed [] t)
     (cond (not first && eqb b 45) (lastHyphen t) (afterByte (readItems turns false) (readMember (b ∷ t))))
 
-unfoldable pub bracketOf : Bool → Items → Option (Got Class)
+unfoldable pub bracketOf : Bool → Items → Option (Parsed Class)
 bracketOf negated none = none
-bracketOf negated (some g) = got (record { negated = negated; ranges = g .it }) (g .left)
+bracketOf negated (some g) = parsed (record { negated = negated; ranges = g .value }) (g .rest)
 
 -- a bracket, behind its `[`
-unfoldable pub readBracket : List ℕ → Option (Got Class)
+unfoldable pub readBracket : List ℕ → Option (Parsed Class)
 readBracket t = cond (begins (94 ∷ []) t) (bracketOf true (readItems (length t) true (tail t))) (bracketOf false (readItems (suc (length t)) true t))
 
 -- ---- atoms that are no groups
 
-unfoldable pub onlyByte : Option (Got ℕ) → Option (Got Class)
+unfoldable pub onlyByte : Option (Parsed ℕ) → Option (Parsed Class)
 onlyByte none = none
-onlyByte (some g) = got (only (g .it)) (g .left)
+onlyByte (some g) = parsed (only (g .value)) (g .rest)
 
-unfoldable pub readAtom : ℕ → List ℕ → Option (Got Class)
+unfoldable pub readAtom : ℕ → List ℕ → Option (Parsed Class)
 readAtom b t =
     cond (eqb b 92) (onlyByte (readEscape t))
-    (cond (eqb b 46) (got anyByte t) (cond (eqb b 91) (readBracket t) (cond (isPlain b) (got (only b) t) none)))
+    (cond (eqb b 46) (parsed anyByte t) (cond (eqb b 91) (readBracket t) (cond (isPlain b) (parsed (only b) t) none)))
 
 -- ---- the whole
 
@@ -109,14 +103,14 @@ orElse none e = e
 orElse (some a) e = alt a e
 
 abbrev pub Tree : Type 0
-Tree = Option (Got (Ere Class))
+Tree = Option (Parsed (Ere Class))
 
 abbrev pub Rest : Type 0
 Rest = ℕ → Option (Ere Class) → Option (Ere Class) → List ℕ → Tree
 
 unfoldable pub finished : Option (Ere Class) → Option (Ere Class) → List ℕ → Tree
 finished A none t = none
-finished A (some s) t = got (orElse A s) t
+finished A (some s) t = parsed (orElse A s) t
 
 module _ (rest : Rest) (n : ℕ) (A S : Option (Ere Class)) where
   -- the atom e, with what repeats it, and what is behind
@@ -126,13 +120,13 @@ module _ (rest : Rest) (n : ℕ) (A S : Option (Ere Class)) where
       (cond (begins (43 ∷ []) t) (rest n A (some (andThen S (plus e))) (tail t))
       (cond (begins (63 ∷ []) t) (rest n A (some (andThen S (opt e))) (tail t)) (rest n A (some (andThen S e)) t)))
 
-  unfoldable pub afterAtom : Option (Got Class) → Tree
+  unfoldable pub afterAtom : Option (Parsed Class) → Tree
   afterAtom none = none
-  afterAtom (some g) = repeated (place (g .it)) (g .left)
+  afterAtom (some g) = repeated (place (g .value)) (g .rest)
 
   unfoldable pub afterGroup : Tree → Tree
   afterGroup none = none
-  afterGroup (some g) = cond (begins (41 ∷ []) (g .left)) (repeated (g .it) (tail (g .left))) none
+  afterGroup (some g) = cond (begins (41 ∷ []) (g .rest)) (repeated (g .value) (tail (g .rest))) none
 
 unfoldable pub afterBar : Rest → ℕ → Option (Ere Class) → Option (Ere Class) → List ℕ → Tree
 afterBar rest n A none t = none
@@ -156,7 +150,7 @@ readRest (suc turns) n A S (b ∷ t) =
 
 unfoldable pub whole : Tree → Option (Ere Class)
 whole none = none
-whole (some g) = ended (g .left) (g .it)
+whole (some g) = ended (g .rest) (g .value)
   where
     ended : List ℕ → Ere Class → Option (Ere Class)
     ended [] e = cond (leb (places e) erePlaces) (some e) none

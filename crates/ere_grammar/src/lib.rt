@@ -1,6 +1,7 @@
 // The grammar of EREs: what a byte of an ERE stands for.
 ghost use mathlib.Core.Path.{_≡_};
-ghost use Rattle.ere_grammar.specs.Bytes.{oneOf, marks, lookup, stringEscapes, escapeOf, isPlain};
+ghost use Rattle.lists.specs.Elements.{oneOf};
+ghost use Rattle.ere_grammar.specs.Bytes.{marks, lookup, stringEscapes, escapeOf, isPlain};
 ghost use Rattle.ere_grammar.specs.Escapes.{escapedOf};
 
 // The byte that a backslash and another byte spell, if any.

@@ -9,10 +9,11 @@ use native.Mathlib.Omega.{arith}
 use lib.ListN.{length}
 use lib.Dec.{eqb, ltb}
 use borrow.Author.Tests.{eqb-true, eq-eqb, ltb-true, lt-ltb}
+use Rattle.lists.proofs.Tests.{or-cases, or-left, or-right, and-true, and-of}
 use Rattle.ere_meaning.specs.Tree.{Ere, place, bol, eol, cat, alt, star, plus, opt}
 use Rattle.ere_meaning.specs.Meaning.{Repeated, done, more, Leads, Spans}
 use Rattle.ere_meaning.specs.Search.{loops, leads}
-use Rattle.ere_meaning.proofs.Tests.{or-cases, or-left, or-right, and-both, and-of, any-in, any-of}
+use Rattle.ere_meaning.proofs.Tests.{any-in, any-of}
 
 -- what goes forward goes forward repeated
 pub repeated-forward : {R : ℕ → ℕ → Type 0} → ((i j : ℕ) → R i j → i ≤ j) → {i j : ℕ} → Repeated R i j → i ≤ j
@@ -28,8 +29,8 @@ module _ (len : ℕ) (r : ℕ → ℕ → Bool) (R : ℕ → ℕ → Type 0) whe
   loops-true h (suc n) i j e =
       ⊎-elim (λ q. none (eqb-true i j q))
       (λ q. let k = any-in (suc len) (λ c. ltb i c && (r i c && loops len r n c j)) q in
-      let u = and-both (ltb i (k .0)) _ (k .2) in
-      let v = and-both (r i (k .0)) _ (u .1) in
+      let u = and-true (ltb i (k .0)) _ (k .2) in
+      let v = and-true (r i (k .0)) _ (u .1) in
       more (h i (k .0) (v .0)) (loops-true h n (k .0) j (v .1))) (or-cases (eqb i j) _ e)
 
   stay : (n i : ℕ) → loops len r n i i ≡ true
@@ -69,20 +70,20 @@ module _ {A : Type 0} (ok : A → ℕ → Bool) (text : List ℕ) where
 
   pub leads-true : (e : Ere A) (i j : ℕ) → leads ok text e i j ≡ true → Leads ok text e i j
   leads-true (place a) i j h =
-      let u = and-both (eqb j (suc i)) _ h in
-      let v = and-both (ltb i (length text)) _ (u .1) in
+      let u = and-true (eqb j (suc i)) _ h in
+      let v = and-true (ltb i (length text)) _ (u .1) in
       (eqb-true j (suc i) (u .0), ltb-true i (length text) (v .0), v .1)
-  leads-true bol i j h = let u = and-both (eqb j i) _ h in (eqb-true j i (u .0), eqb-true i 0 (u .1))
-  leads-true eol i j h = let u = and-both (eqb j i) _ h in (eqb-true j i (u .0), eqb-true i (length text) (u .1))
+  leads-true bol i j h = let u = and-true (eqb j i) _ h in (eqb-true j i (u .0), eqb-true i 0 (u .1))
+  leads-true eol i j h = let u = and-true (eqb j i) _ h in (eqb-true j i (u .0), eqb-true i (length text) (u .1))
   leads-true (cat a b) i j h =
       let k = any-in (suc (length text)) (λ c. leads ok text a i c && leads ok text b c j) h in
-      let u = and-both (leads ok text a i (k .0)) _ (k .2) in
+      let u = and-true (leads ok text a i (k .0)) _ (k .2) in
       (k .0, leads-true a i (k .0) (u .0), leads-true b (k .0) j (u .1))
   leads-true (alt a b) i j h = ⊎-elim (λ u. inl (leads-true a i j u)) (λ u. inr (leads-true b i j u)) (or-cases (leads ok text a i j) _ h)
   leads-true (star a) i j h = loops-true (length text) (leads ok text a) (Leads ok text a) (leads-true a) (length text) i j h
   leads-true (plus a) i j h =
       let k = any-in (suc (length text)) (λ c. leads ok text a i c && loops (length text) (leads ok text a) (length text) c j) h in
-      let u = and-both (leads ok text a i (k .0)) _ (k .2) in
+      let u = and-true (leads ok text a i (k .0)) _ (k .2) in
       (k .0, leads-true a i (k .0) (u .0), loops-true (length text) (leads ok text a) (Leads ok text a) (leads-true a) (length text) (k .0) j (u .1))
   leads-true (opt a) i j h = ⊎-elim (λ u. inl (eqb-true j i u)) (λ u. inr (leads-true a i j u)) (or-cases (eqb j i) _ h)
 

@@ -21,8 +21,8 @@ unfoldable pub inSome : List Range → ℕ → Bool
 inSome [] b = false
 inSome (r ∷ rs) b = inRange r b || inSome rs b
 
-unfoldable pub takes : Class → ℕ → Bool
-takes c b = cond (c .negated) (not (inSome (c .ranges) b)) (inSome (c .ranges) b)
+unfoldable pub accepts : Class → ℕ → Bool
+accepts c b = cond (c .negated) (not (inSome (c .ranges) b)) (inSome (c .ranges) b)
 
 -- a byte; and `.`, "any byte"
 abbrev pub only : ℕ → Class

@@ -7,24 +7,25 @@ use Prim.Native.Nat.{ℕ, _+_, _≤_, _<_}
 use native.Mathlib.Omega.{arith}
 use lib.ListN.{length, drop}
 use borrow.Author.Tests.{eq-eqb, ne-eqb}
-use Rattle.ere_meaning.specs.Tree.{Class, takes, only, anyByte}
+use Rattle.lists.specs.Parsing.{Parsed, parsed}
+use Rattle.ere_meaning.specs.Tree.{Class, accepts, only, anyByte}
 use Rattle.ere_grammar.specs.Bytes.{isPlain}
-use Rattle.ere_grammar.specs.Read.{Got, got, readEscape, onlyByte, readBracket, readAtom}
+use Rattle.ere_grammar.specs.Read.{readEscape, onlyByte, readBracket, readAtom}
 use Rattle.ere_bracket.specs.Words.{inClass}
 use Rattle.ere_bracket.specs.declared.brackets.Bracket.{Bracket}
 use Rattle.ere_parser.specs.Atom.{AtomReads}
 
-module _ {l : List ℕ} {o : Option (Got Class)} (at k : ℕ) (w : List ℕ) where
+module _ {l : List ℕ} {o : Option (Parsed Class)} (at k : ℕ) (w : List ℕ) where
   pub reads-none : o ≡ none → AtomReads (record { ok = false; next = k; words = w }) l at o
   reads-none e = record { refused = λ z. e; read = λ z. absurd (true≢false (sym z)) }
 
-  pub reads-got : (c : Class) → o ≡ got c (drop k l) → at < k → k ≤ length l → ((b : ℕ) → b < 256 → inClass w b ≡ takes c b)
+  pub reads-got : (c : Class) → o ≡ parsed c (drop k l) → at < k → k ≤ length l → ((b : ℕ) → b < 256 → inClass w b ≡ accepts c b)
       → AtomReads (record { ok = true; next = k; words = w }) l at o
   reads-got c e f i b =
       record { refused = λ z. absurd (true≢false z); read = λ z. record { class = c; same = e; further = f; inside = i; bytes = b } }
 
 -- an atom whose first byte stands before
-pub reads-from : {r : Bracket} {l : List ℕ} {at : ℕ} {o p : Option (Got Class)} → p ≡ o → AtomReads r l (at + 1) o → AtomReads r l at p
+pub reads-from : {r : Bracket} {l : List ℕ} {at : ℕ} {o p : Option (Parsed Class)} → p ≡ o → AtomReads r l (at + 1) o → AtomReads r l at p
 reads-from e h =
     record {
       refused = λ z. e ∙ h .refused z;
@@ -39,7 +40,7 @@ module _ (b : ℕ) (t : List ℕ) where
   atom-escape e = simp (eq-eqb b 92 e)
 
   module _ (h₁ : b ≡ 92 → ⊥) where
-    pub atom-dot : b ≡ 46 → readAtom b t ≡ got anyByte t
+    pub atom-dot : b ≡ 46 → readAtom b t ≡ parsed anyByte t
     unfolding readAtom
     atom-dot e = simp (ne-eqb b 92 h₁, eq-eqb b 46 e)
 
@@ -49,7 +50,7 @@ module _ (b : ℕ) (t : List ℕ) where
       atom-bracket e = simp (ne-eqb b 92 h₁, ne-eqb b 46 h₂, eq-eqb b 91 e)
 
       module _ (h₃ : b ≡ 91 → ⊥) where
-        pub atom-plain : isPlain b ≡ true → readAtom b t ≡ got (only b) t
+        pub atom-plain : isPlain b ≡ true → readAtom b t ≡ parsed (only b) t
         unfolding readAtom
         atom-plain e = simp (ne-eqb b 92 h₁, ne-eqb b 46 h₂, ne-eqb b 91 h₃, e)
 

@@ -6,7 +6,7 @@ use native.Mathlib.Nat.{le-refl}
 use native.Mathlib.Omega.{arith}
 use lib.ListN.{length}
 use Rattle.edition.specs.Limits.{erePlaces}
-use Rattle.ere_meaning.specs.Tree.{Class, takes, Ere, place, bol, eol, cat, alt, star, plus, opt}
+use Rattle.ere_meaning.specs.Tree.{Class, accepts, Ere, place, bol, eol, cat, alt, star, plus, opt}
 use Rattle.ere_table.specs.Table.{tableWords}
 use Rattle.ere_table.specs.Wiring.{afterPlace}
 use Rattle.ere_table.specs.Build.{linkRows, withClass, stops, orStop}
@@ -101,7 +101,7 @@ built-eol {t} {lo} {hi} = record { tree = eol; rows = rows-eol t lo hi; agrees =
 
 module _ (t : List ℕ) (p : ℕ) (c : List ℕ) (full : length t ≡ tableWords) (small : p < erePlaces) where
   -- a place with its class is a part
-  pub built-leaf : (k : Class) → ((b : ℕ) → b < 256 → inClass c b ≡ takes k b) → Built (leafTable p c t) p (p + 1) (placeEntry p) (place k)
+  pub built-leaf : (k : Class) → ((b : ℕ) → b < 256 → inClass c b ≡ accepts k b) → Built (leafTable p c t) p (p + 1) (placeEntry p) (place k)
   built-leaf k f =
       record {
         tree = place p;

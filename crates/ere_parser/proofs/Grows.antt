@@ -7,8 +7,9 @@ use Prim.Native.Nat.{ℕ, zero, suc, _+_, _≤_}
 use native.Mathlib.Omega.{arith}
 use lib.ListN.{length}
 use lib.Dec.{eqb}
+use Rattle.lists.specs.Parsing.{Parsed}
 use Rattle.ere_meaning.specs.Tree.{Class, Ere, place, bol, eol, star, plus, opt, places}
-use Rattle.ere_grammar.specs.Read.{Got, begins, tail, andThen, orElse, Tree, Rest, finished, repeated, afterAtom, afterGroup, afterBar, readGroup, readAtom, readRest}
+use Rattle.ere_grammar.specs.Read.{begins, tail, andThen, orElse, Tree, Rest, finished, repeated, afterAtom, afterGroup, afterBar, readGroup, readAtom, readRest}
 use Rattle.ere_parser.specs.Reading.{restFrom}
 use Rattle.ere_parser.specs.Standing.{sizeOf}
 
@@ -24,7 +25,7 @@ size-or (some a) e = refl
 
 abbrev pub Grows : ℕ → Tree → Type 0
 Grows N none = Unit {0}
-Grows N (some g) = N ≤ places (g .it)
+Grows N (some g) = N ≤ places (g .value)
 
 grows-cond : (N : ℕ) (b : Bool) (x y : Tree) → Grows N x → Grows N y → Grows N (cond b x y)
 grows-cond N true x y p q = p
@@ -53,18 +54,18 @@ module _ (rest : Rest) (h : (n : ℕ) (A S : Option (Ere Class)) (t : List ℕ) 
       (grows-cond N (begins (43 ∷ []) t) _ _ (more-grows (plus e) (tail t))
       (grows-cond N (begins (63 ∷ []) t) _ _ (more-grows (opt e) (tail t)) (more-grows e t)))
 
-  pub atom-grows : (o : Option (Got Class)) → Grows (sizeOf A + sizeOf S + 1) (afterAtom rest n A S o)
+  pub atom-grows : (o : Option (Parsed Class)) → Grows (sizeOf A + sizeOf S + 1) (afterAtom rest n A S o)
   unfolding afterAtom places
   atom-grows none = tt
-  atom-grows (some g) = repeated-grows (place (g .it)) (g .left)
+  atom-grows (some g) = repeated-grows (place (g .value)) (g .rest)
 
   after-group-grows : (o : Tree) → Grows (sizeOf A + sizeOf S) (afterGroup rest n A S o)
   unfolding afterGroup
   after-group-grows none = tt
   after-group-grows (some g) =
       let N = sizeOf A + sizeOf S in
-      grows-cond N (begins (41 ∷ []) (g .left)) (repeated rest n A S (g .it) (tail (g .left))) none
-      (grows-less N (N + places (g .it)) (repeated rest n A S (g .it) (tail (g .left))) (omega arith) (repeated-grows (g .it) (tail (g .left)))) tt
+      grows-cond N (begins (41 ∷ []) (g .rest)) (repeated rest n A S (g .value) (tail (g .rest))) none
+      (grows-less N (N + places (g .value)) (repeated rest n A S (g .value) (tail (g .rest))) (omega arith) (repeated-grows (g .value) (tail (g .rest)))) tt
 
 bar-grows : (rest : Rest) (h : (n : ℕ) (A S : Option (Ere Class)) (t : List ℕ) → Grows (sizeOf A + sizeOf S) (rest n A S t)) (n : ℕ) (A S : Option (Ere Class)) (t : List ℕ)
     → Grows (sizeOf A + sizeOf S) (afterBar rest n A S t)

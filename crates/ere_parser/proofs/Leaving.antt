@@ -7,22 +7,23 @@ use Prim.Native.Nat.{ℕ, zero, suc, _≤_, _<_}
 use native.Mathlib.Omega.{arith}
 use lib.ListN.{length}
 use lib.Dec.{eqb, leb}
+use Rattle.lists.specs.Parsing.{Parsed, parsed}
 use Rattle.ere_meaning.specs.Tree.{Range, Class, only, anyByte, Ere, place, bol, eol, star, plus, opt}
 use Rattle.ere_grammar.specs.Bytes.{escapeOf, isPlain}
 use Rattle.ere_grammar.specs.Grammar.{range}
-use Rattle.ere_grammar.specs.Read.{Got, got, begins, tail, escapedByte, readEscape, readMember, joins, Items, withRange, lastHyphen, upTo, afterByte, readItems, bracketOf, readBracket, onlyByte, readAtom, andThen, orElse, Tree, Rest, finished, repeated, afterAtom, afterGroup, afterBar, readGroup, readRest}
+use Rattle.ere_grammar.specs.Read.{begins, tail, escapedByte, readEscape, readMember, joins, Items, withRange, lastHyphen, rangeTo, afterByte, readItems, bracketOf, readBracket, onlyByte, readAtom, andThen, orElse, Tree, Rest, finished, repeated, afterAtom, afterGroup, afterBar, readGroup, readRest}
 
 -- ---- what is read leaves fewer bytes
 
-abbrev pub Leaves : {A : Type 0} → ℕ → Option (Got A) → Type 0
+abbrev pub Leaves : {A : Type 0} → ℕ → Option (Parsed A) → Type 0
 Leaves N none = Unit {0}
-Leaves N (some g) = length (g .left) ≤ N
+Leaves N (some g) = length (g .rest) ≤ N
 
-leaves-cond : {A : Type 0} (N : ℕ) (b : Bool) (x y : Option (Got A)) → Leaves N x → Leaves N y → Leaves N (cond b x y)
+leaves-cond : {A : Type 0} (N : ℕ) (b : Bool) (x y : Option (Parsed A)) → Leaves N x → Leaves N y → Leaves N (cond b x y)
 leaves-cond N true x y p q = p
 leaves-cond N false x y p q = q
 
-leaves-more : {A : Type 0} (M N : ℕ) (x : Option (Got A)) → M ≤ N → Leaves M x → Leaves N x
+leaves-more : {A : Type 0} (M N : ℕ) (x : Option (Parsed A)) → M ≤ N → Leaves M x → Leaves N x
 leaves-more M N none h p = tt
 leaves-more M N (some g) h p = omega arith
 
@@ -45,7 +46,7 @@ member-leaves : (b : ℕ) (t : List ℕ) → Leaves (length t) (readMember (b �
 unfolding readMember
 member-leaves b t =
     leaves-cond (length t) (eqb b 92) _ _ (escape-leaves t)
-    (leaves-cond (length t) (eqb b 91 && begins (58 ∷ 61 ∷ 46 ∷ []) t) none (got b t) tt (omega arith))
+    (leaves-cond (length t) (eqb b 91 && begins (58 ∷ 61 ∷ 46 ∷ []) t) none (parsed b t) tt (omega arith))
 
 member-leaves-any : (t : List ℕ) → Leaves (length t) (readMember t)
 unfolding readMember
@@ -59,25 +60,25 @@ range-leaves N r (some g) p = p
 
 hyphen-leaves : (t : List ℕ) → Leaves (length t) (lastHyphen t)
 unfolding lastHyphen
-hyphen-leaves t = leaves-cond (length t) (begins (93 ∷ []) t) (got (range 45 45 ∷ []) (tail t)) none (tail-le t) tt
+hyphen-leaves t = leaves-cond (length t) (begins (93 ∷ []) t) (parsed (range 45 45 ∷ []) (tail t)) none (tail-le t) tt
 
 module _ (rest : List ℕ → Items) (h : (t : List ℕ) → Leaves (length t) (rest t)) where
   from-leaves : (N : ℕ) (t : List ℕ) (r : Range) → length t ≤ N → Leaves N (withRange r (rest t))
   from-leaves N t r l = range-leaves N r (rest t) (leaves-more (length t) N (rest t) l (h t))
 
-  up-leaves : (N : ℕ) (a : ℕ) (o : Option (Got ℕ)) → Leaves N o → Leaves N (upTo rest a o)
-  unfolding upTo
+  up-leaves : (N : ℕ) (a : ℕ) (o : Option (Parsed ℕ)) → Leaves N o → Leaves N (rangeTo rest a o)
+  unfolding rangeTo
   up-leaves N a none p = tt
-  up-leaves N a (some g) p = leaves-cond N (leb a (g .it)) _ none (from-leaves N (g .left) (range a (g .it)) p) tt
+  up-leaves N a (some g) p = leaves-cond N (leb a (g .value)) _ none (from-leaves N (g .rest) (range a (g .value)) p) tt
 
-  byte-leaves : (N : ℕ) (o : Option (Got ℕ)) → Leaves N o → Leaves N (afterByte rest o)
+  byte-leaves : (N : ℕ) (o : Option (Parsed ℕ)) → Leaves N o → Leaves N (afterByte rest o)
   unfolding afterByte
   byte-leaves N none p = tt
   byte-leaves N (some g) p =
-      let t = tail (g .left) in
-      leaves-cond N (joins (g .left)) _ _
-      (up-leaves N (g .it) (readMember t) (leaves-more (length t) N (readMember t) (omega (arith, tail-le (g .left))) (member-leaves-any t)))
-      (from-leaves N (g .left) (range (g .it) (g .it)) p)
+      let t = tail (g .rest) in
+      leaves-cond N (joins (g .rest)) _ _
+      (up-leaves N (g .value) (readMember t) (leaves-more (length t) N (readMember t) (omega (arith, tail-le (g .rest))) (member-leaves-any t)))
+      (from-leaves N (g .rest) (range (g .value) (g .value)) p)
 
 items-leaves : (k : ℕ) (first : Bool) (t : List ℕ) → Leaves (length t) (readItems k first t)
 unfolding readItems
@@ -85,7 +86,7 @@ items-leaves zero first t = tt
 items-leaves (suc k) first [] = tt
 items-leaves (suc k) first (b ∷ t) =
     let N = length (b ∷ t) in
-    leaves-cond N (not first && eqb b 93) (got [] t) _ (omega arith)
+    leaves-cond N (not first && eqb b 93) (parsed [] t) _ (omega arith)
     (leaves-cond N (not first && eqb b 45) (lastHyphen t) _ (leaves-more (length t) N (lastHyphen t) (omega arith) (hyphen-leaves t))
     (byte-leaves (readItems k false) (items-leaves k false) N (readMember (b ∷ t)) (member-leaves-any (b ∷ t))))
 
@@ -101,7 +102,7 @@ bracket-leaves t =
     (bracket-of-leaves (length t) true _ (leaves-more (length (tail t)) (length t) (readItems (length t) true (tail t)) (tail-le t) (items-leaves (length t) true (tail t))))
     (bracket-of-leaves (length t) false _ (items-leaves (suc (length t)) true t))
 
-only-leaves : (N : ℕ) (o : Option (Got ℕ)) → Leaves N o → Leaves N (onlyByte o)
+only-leaves : (N : ℕ) (o : Option (Parsed ℕ)) → Leaves N o → Leaves N (onlyByte o)
 unfolding onlyByte
 only-leaves N none p = tt
 only-leaves N (some g) p = p
@@ -111,8 +112,8 @@ unfolding readAtom
 atom-leaves b t =
     let N = length t in
     leaves-cond N (eqb b 92) _ _ (only-leaves N (readEscape t) (escape-leaves t))
-    (leaves-cond N (eqb b 46) (got anyByte t) _ (omega arith)
-    (leaves-cond N (eqb b 91) (readBracket t) _ (bracket-leaves t) (leaves-cond N (isPlain b) (got (only b) t) none (omega arith) tt)))
+    (leaves-cond N (eqb b 46) (parsed anyByte t) _ (omega arith)
+    (leaves-cond N (eqb b 91) (readBracket t) _ (bracket-leaves t) (leaves-cond N (isPlain b) (parsed (only b) t) none (omega arith) tt)))
 
 finished-leaves : (A S : Option (Ere Class)) (t : List ℕ) → Leaves (length t) (finished A S t)
 unfolding finished
@@ -131,16 +132,16 @@ module _ (rest : Rest) (h : (n : ℕ) (A S : Option (Ere Class)) (t : List ℕ) 
       (leaves-cond N (begins (43 ∷ []) t) _ _ (within N n A (some (andThen S (plus e))) (tail t) m)
       (leaves-cond N (begins (63 ∷ []) t) _ _ (within N n A (some (andThen S (opt e))) (tail t) m) (within N n A (some (andThen S e)) t l)))
 
-  after-atom-leaves : (N n : ℕ) (A S : Option (Ere Class)) (o : Option (Got Class)) → Leaves N o → Leaves N (afterAtom rest n A S o)
+  after-atom-leaves : (N n : ℕ) (A S : Option (Ere Class)) (o : Option (Parsed Class)) → Leaves N o → Leaves N (afterAtom rest n A S o)
   unfolding afterAtom
   after-atom-leaves N n A S none p = tt
-  after-atom-leaves N n A S (some g) p = repeated-leaves N n A S (place (g .it)) (g .left) p
+  after-atom-leaves N n A S (some g) p = repeated-leaves N n A S (place (g .value)) (g .rest) p
 
   after-group-leaves : (N n : ℕ) (A S : Option (Ere Class)) (o : Tree) → Leaves N o → Leaves N (afterGroup rest n A S o)
   unfolding afterGroup
   after-group-leaves N n A S none p = tt
   after-group-leaves N n A S (some g) p =
-      leaves-cond N (begins (41 ∷ []) (g .left)) _ none (repeated-leaves N n A S (g .it) (tail (g .left)) (omega (arith, tail-le (g .left)))) tt
+      leaves-cond N (begins (41 ∷ []) (g .rest)) _ none (repeated-leaves N n A S (g .value) (tail (g .rest)) (omega (arith, tail-le (g .rest)))) tt
 
   bar-leaves : (n : ℕ) (A S : Option (Ere Class)) (t : List ℕ) → Leaves (length t) (afterBar rest n A S t)
   unfolding afterBar
@@ -181,15 +182,15 @@ module _ (N : ℕ) (r q : Rest) (h : Agree N r q) where
       let m : length (tail t) ≤ N = omega (arith, tail-le t) in
       rw (h n A (some (andThen S (star e))) (tail t) m, h n A (some (andThen S (plus e))) (tail t) m, h n A (some (andThen S (opt e))) (tail t) m, h n A (some (andThen S e)) t l)
 
-  pub after-atom-same : (n : ℕ) (A S : Option (Ere Class)) (o : Option (Got Class)) → Leaves N o → afterAtom r n A S o ≡ afterAtom q n A S o
+  pub after-atom-same : (n : ℕ) (A S : Option (Ere Class)) (o : Option (Parsed Class)) → Leaves N o → afterAtom r n A S o ≡ afterAtom q n A S o
   unfolding afterAtom
   after-atom-same n A S none p = refl
-  after-atom-same n A S (some g) p = repeated-same n A S (place (g .it)) (g .left) p
+  after-atom-same n A S (some g) p = repeated-same n A S (place (g .value)) (g .rest) p
 
   after-group-same : (n : ℕ) (A S : Option (Ere Class)) (o : Tree) → Leaves N o → afterGroup r n A S o ≡ afterGroup q n A S o
   unfolding afterGroup
   after-group-same n A S none p = refl
-  after-group-same n A S (some g) p = rw (repeated-same n A S (g .it) (tail (g .left)) (omega (arith, tail-le (g .left))))
+  after-group-same n A S (some g) p = rw (repeated-same n A S (g .value) (tail (g .rest)) (omega (arith, tail-le (g .rest))))
 
   pub bar-same : (n : ℕ) (A S : Option (Ere Class)) (t : List ℕ) → length t ≤ N → afterBar r n A S t ≡ afterBar q n A S t
   unfolding afterBar

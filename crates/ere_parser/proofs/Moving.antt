@@ -10,10 +10,11 @@ use native.Mathlib.Omega.{arith}
 use lib.ListN.{length, getD, drop}
 use lib.Dec.{eqb, leb}
 use borrow.Author.Tests.{leb-true, leb-false}
+use Rattle.lists.specs.Parsing.{Parsed, parsed}
 use Rattle.edition.specs.Limits.{erePlaces}
 use Rattle.buffer.proofs.Parts.{drop-next}
 use Rattle.ere_meaning.specs.Tree.{Class, Ere, place, bol, eol, places}
-use Rattle.ere_grammar.specs.Read.{Got, got, begins, tail, andThen, Tree, afterGroup, readGroup, repeated, afterAtom, readAtom, finished, orElse}
+use Rattle.ere_grammar.specs.Read.{begins, tail, andThen, Tree, afterGroup, readGroup, repeated, afterAtom, readAtom, finished, orElse}
 use Rattle.ere_table.specs.Table.{tableWords}
 use Rattle.ere_table.specs.Build.{withClass, stops}
 use Rattle.ere_bracket.specs.declared.brackets.Bracket.{Bracket}
@@ -142,23 +143,23 @@ module _ {l : List ℕ} (n : ℕ) {t u : List ℕ} (s : State) (g : Piece) (safe
       sym (st .same) ∙ ap (restFrom (suc n) (st .A) (st .S)) (opened l (s .at) 40 h paren) ∙ rest-group (suc n) (st .A) (st .S) (drop (s .at + 1) l)
 
   -- the group is refused
-  after-grows : {b : Base} (st : Standing l (suc n) b t s) (x : Got (Ere Class)) → Grows (sizeOf (st .A) + sizeOf (st .S) + places (x .it)) (afterGroup restFrom (suc n) (st .A) (st .S) (some x))
+  after-grows : {b : Base} (st : Standing l (suc n) b t s) (x : Parsed (Ere Class)) → Grows (sizeOf (st .A) + sizeOf (st .S) + places (x .value)) (afterGroup restFrom (suc n) (st .A) (st .S) (some x))
   unfolding afterGroup
-  after-grows st x = by (begins (41 ∷ []) (x .left))
+  after-grows st x = by (begins (41 ∷ []) (x .rest))
     where
-      by : (c : Bool) → Grows (sizeOf (st .A) + sizeOf (st .S) + places (x .it)) (cond c (repeated restFrom (suc n) (st .A) (st .S) (x .it) (tail (x .left))) none)
-      by true = repeated-grows restFrom from-grows (suc n) (st .A) (st .S) (x .it) (tail (x .left))
+      by : (c : Bool) → Grows (sizeOf (st .A) + sizeOf (st .S) + places (x .value)) (cond c (repeated restFrom (suc n) (st .A) (st .S) (x .value) (tail (x .rest))) none)
+      by true = repeated-grows restFrom from-grows (suc n) (st .A) (st .S) (x .value) (tail (x .rest))
       by false = tt
 
   inner-refused : {b : Base} → Standing l (suc n) b t s → Refuses (record { lo = s .hi; count = s .count; goal = inner }) → Refuses b
   unfolding afterGroup
   inner-refused st (unread e) = unread (goal-is st ∙ ap (afterGroup restFrom (suc n) (st .A) (st .S)) e)
   inner-refused st (many x e m) =
-      refused-by (afterGroup restFrom (suc n) (st .A) (st .S) (some x)) (sizeOf (st .A) + sizeOf (st .S) + places (x .it))
+      refused-by (afterGroup restFrom (suc n) (st .A) (st .S) (some x)) (sizeOf (st .A) + sizeOf (st .S) + places (x .value))
       (goal-is st ∙ ap (afterGroup restFrom (suc n) (st .A) (st .S)) e) (after-grows st x) (omega (arith, st .counted))
 
   -- it is not closed
-  open-refused : {b : Base} → Standing l (suc n) b t s → (e : Ere Class) → inner ≡ got e (drop (g .at) l) → eqb (getD l (g .at) 0) 41 ≡ false → Refuses b
+  open-refused : {b : Base} → Standing l (suc n) b t s → (e : Ere Class) → inner ≡ parsed e (drop (g .at) l) → eqb (getD l (g .at) 0) 41 ≡ false → Refuses b
   unfolding afterGroup
   open-refused st e q c =
       unread (goal-is st ∙ ap (afterGroup restFrom (suc n) (st .A) (st .S)) q
@@ -179,7 +180,7 @@ module _ {l : List ℕ} (n : ℕ) {t u : List ℕ} (s : State) (g : Piece) (safe
   abbrev mark : ℕ
   mark = getD l (g .at + 1) 0
 
-  closed-next : (e : Ere Class) → inner ≡ got e (drop (g .at) l) → eqb (getD l (g .at) 0) 41 ≡ true → (A S : Option (Ere Class))
+  closed-next : (e : Ere Class) → inner ≡ parsed e (drop (g .at) l) → eqb (getD l (g .at) 0) 41 ≡ true → (A S : Option (Ere Class))
       → restFrom (suc n) A S (drop (s .at) l) ≡ restFrom (suc n) A (some (andThen S (repeatTree mark e))) (drop (repeatedOf mark (closedPiece g) .at) l)
   unfolding readGroup afterGroup
   closed-next e q c A S =
@@ -222,7 +223,7 @@ module _ {l : List ℕ} (n : ℕ) {t u : List ℕ} (s : State) (g : Piece) (safe
 -- ---- an atom more that is no group
 
 module _ {l : List ℕ} (n : ℕ) (s : State) (safe : Safe l s) (h : s .at < length l) (b : Begins (getD l (s .at) 0)) where
-  abbrev read : Option (Got Class)
+  abbrev read : Option (Parsed Class)
   read = readAtom (getD l (s .at) 0) (drop (s .at + 1) l)
 
   atom-rest : (A S : Option (Ere Class)) → restFrom n A S (drop (s .at) l) ≡ afterAtom restFrom n A S read
@@ -293,7 +294,7 @@ module _ {l : List ℕ} {n at lo count : ℕ} {t₀ t : List ℕ} (s : State) (u
 
   piece : (S : Option (Ere Class)) (st : Standing l n (baseOf l n at lo count) t s) → s .ok ≡ true → s .some ≡ true
       → SeqOk t (s .lo) (s .hi) (s .seq) (s .some) S → count + (sizeOf (st .A) + sizeOf S) ≡ s .count → restFrom n none none (drop at l) ≡ finished (st .A) S (drop (s .at) l)
-      → (e : Ere Class) × (restFrom n none none (drop at l) ≡ got e (drop (s .at) l)) × (count + places e ≡ s .count)
+      → (e : Ere Class) × (restFrom n none none (drop at l) ≡ parsed e (drop (s .at) l)) × (count + places e ≡ s .count)
       × (Built t lo (s .hi) (joinEntry (s .alts) (s .seq)) e) × (Closed (drop (s .at) l))
   unfolding SeqOk sizeOf finished
   piece none st o m p c e = absurd (true≢false (sym m ∙ p .0))

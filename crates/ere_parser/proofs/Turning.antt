@@ -11,10 +11,10 @@ use native.Mathlib.Omega.{arith}
 use lib.ListN.{length, getD, drop, drop-of-length-le, List·getD-eq-default}
 use lib.Dec.{eqb}
 use borrow.Author.Tests.{ne-eqb}
+use Rattle.lists.specs.Elements.{oneOf}
 use Rattle.edition.specs.Limits.{erePlaces}
 use Rattle.buffer.proofs.Parts.{drop-next}
 use Rattle.ere_meaning.specs.Tree.{Class, Ere, star, plus, opt, places}
-use Rattle.ere_grammar.specs.Bytes.{oneOf}
 use Rattle.ere_grammar.specs.Read.{begins, tail, andThen, orElse, afterBar, repeated}
 use Rattle.ere_table.specs.Table.{tableWords}
 use Rattle.ere_table.specs.Wiring.{afterPlace}

@@ -2,14 +2,14 @@
 use mathlib.Core.Path.{_≡_}
 use mathlib.Core.List.{List}
 use Prim.Native.Nat.{ℕ, _≤_, _<_}
-use Rattle.ere_meaning.specs.Tree.{Class, takes, Ere, place, bol, eol, cat, alt, star, plus, opt}
-use Rattle.ere_table.specs.Table.{takesAt}
+use Rattle.ere_meaning.specs.Tree.{Class, accepts, Ere, place, bol, eol, cat, alt, star, plus, opt}
+use Rattle.ere_table.specs.Table.{acceptsAt}
 use Rattle.ere_table.proofs.RowParts.{RowPart}
 use Rattle.ere_parser.specs.declared.rows.Entry.{Entry}
 
 -- the numbered tree is the tree of classes: at each place, whose number is from lo up to hi, the table has the class
 pub data Agrees (t : List ℕ) (lo hi : ℕ) : Ere ℕ → Ere Class → Type 0 where
-  at-place : {p : ℕ} {c : Class} → lo ≤ p → p < hi → ((b : ℕ) → b < 256 → takesAt t p b ≡ takes c b) → Agrees t lo hi (place p) (place c)
+  at-place : {p : ℕ} {c : Class} → lo ≤ p → p < hi → ((b : ℕ) → b < 256 → acceptsAt t p b ≡ accepts c b) → Agrees t lo hi (place p) (place c)
   at-bol : Agrees t lo hi bol bol
   at-eol : Agrees t lo hi eol eol
   in-cat : {a b : Ere ℕ} {x y : Ere Class} → Agrees t lo hi a x → Agrees t lo hi b y → Agrees t lo hi (cat a b) (cat x y)
@@ -20,7 +20,7 @@ pub data Agrees (t : List ℕ) (lo hi : ℕ) : Ere ℕ → Ere Class → Type 0 
 
 -- the classes of the places from lo up to hi are as they were
 abbrev pub SameClasses : ℕ → ℕ → List ℕ → List ℕ → Type 0
-SameClasses lo hi t u = (p b : ℕ) → lo ≤ p → p < hi → b < 256 → takesAt u p b ≡ takesAt t p b
+SameClasses lo hi t u = (p b : ℕ) → lo ≤ p → p < hi → b < 256 → acceptsAt u p b ≡ acceptsAt t p b
 
 pub record Built (t : List ℕ) (lo hi : ℕ) (x : Entry) (e : Ere Class) : Type 0 where
   pub tree : Ere ℕ

@@ -6,10 +6,11 @@ use mathlib.Core.List.{List, [], _∷_}
 use mathlib.Core.Option.{Option, some, none}
 use Prim.Native.Nat.{ℕ, _+_, _≤_, _<_}
 use lib.ListN.{length, drop}
+use Rattle.lists.specs.Parsing.{Parsed, parsed}
 use Rattle.edition.specs.Limits.{erePlaces}
 use Rattle.ere_meaning.specs.Tree.{Class, Ere, places}
-use Rattle.ere_grammar.specs.Read.{Got, got, Tree}
-use Rattle.ere_table.specs.Table.{row, takesAt}
+use Rattle.ere_grammar.specs.Read.{Tree}
+use Rattle.ere_table.specs.Table.{row, acceptsAt}
 use Rattle.ere_parser.specs.Reading.{restFrom}
 use Rattle.ere_parser.specs.State.{noAlts, noSeq}
 use Rattle.ere_parser.specs.Built.{Built}
@@ -31,7 +32,7 @@ pub record Base : Type 0 where
 -- the definition reads nothing, or too many places
 pub data Refuses (b : Base) : Type 0 where
   unread : b .goal ≡ none → Refuses b
-  many : (g : Got (Ere Class)) → b .goal ≡ some g → erePlaces < b .count + places (g .it) → Refuses b
+  many : (g : Parsed (Ere Class)) → b .goal ≡ some g → erePlaces < b .count + places (g .value) → Refuses b
 
 unfoldable pub AltsOk : List ℕ → ℕ → ℕ → Entry → Option (Ere Class) → Type 0
 AltsOk t lo hi x none = (lo ≡ hi) × (x ≡ noAlts)
@@ -69,7 +70,7 @@ pub record Safe (l : List ℕ) (s : State) : Type 0 where
 -- the rows and classes of the places below lo are as they were
 pub record SameBelow (lo : ℕ) (t u : List ℕ) : Type 0 where
   pub rows : (r : ℕ) → r < lo + 2 → row u r ≡ row t r
-  pub classes : (p b : ℕ) → p < lo → b < 256 → takesAt u p b ≡ takesAt t p b
+  pub classes : (p b : ℕ) → p < lo → b < 256 → acceptsAt u p b ≡ acceptsAt t p b
 
 -- one turn: from s with the table t to r with the table u
 pub record Moves (l : List ℕ) (n : ℕ) (t u : List ℕ) (s r : State) : Type 0 where
@@ -101,7 +102,7 @@ pub record GroupReads (l : List ℕ) (n at lo count : ℕ) (t u : List ℕ) (r :
   pub inside : r .at ≤ length l
   pub kept : SameBelow lo t u
   pub refused : r .ok ≡ false → Refuses (baseOf l n at lo count)
-  pub read : r .ok ≡ true → (e : Ere Class) × (restFrom n none none (drop at l) ≡ got e (drop (r .at) l)) × (count + places e ≡ r .count) × (Built u lo (r .hi) (r .entry) e) × (Closed (drop (r .at) l))
+  pub read : r .ok ≡ true → (e : Ere Class) × (restFrom n none none (drop at l) ≡ parsed e (drop (r .at) l)) × (count + places e ≡ r .count) × (Built u lo (r .hi) (r .entry) e) × (Closed (drop (r .at) l))
 
 -- a byte that begins one
 pub record Begins (b : ℕ) : Type 0 where

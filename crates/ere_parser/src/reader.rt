@@ -5,12 +5,12 @@ ghost use lib.ListN.{length, getD};
 ghost use Rattle.edition.specs.Limits.{erePlaces, ereBytes};
 ghost use Rattle.ere_table.specs.Table.{tableWords};
 ghost use Rattle.ere_parser.specs.Standing.{Safe, Begins, Moves, GroupReads};
-use edition::Edition;
 use crate::atoms;
 use crate::rows::Entry;
 use crate::rows::Piece;
 use crate::rows::State;
 use crate::turns;
+use edition::Edition;
 
 // An atom more that is no group.
 fn atom(ere: &[u8], s: State, t: &mut [u64]) -> State

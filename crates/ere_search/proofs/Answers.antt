@@ -13,7 +13,7 @@ use Rattle.ere_meaning.specs.Tree.{Ere}
 use Rattle.ere_meaning.specs.Meaning.{Spans, BestFrom}
 use Rattle.ere_meaning.specs.Search.{bestFrom}
 use Rattle.ere_meaning.proofs.Answers.{best-is}
-use Rattle.ere_table.specs.Table.{row, takesAt}
+use Rattle.ere_table.specs.Table.{row, acceptsAt}
 use Rattle.ere_search.specs.Walk.{step, liveAt, longestTo, longestOf, entryRow, note}
 use Rattle.ere_table.specs.Wiring.{Tabled, Sealed}
 use Rattle.ere_search.specs.Find.{Finds, Inside, matchOf}
@@ -72,13 +72,13 @@ of-longest : (t rest : List ℕ) (at least s o : ℕ) → longestOf t rest at le
 of-longest t rest at least s o q = subst (Told t rest at least s (suc (length rest - s))) q (told t rest at least s (suc (length rest - s)))
 
 module _ (t w : List ℕ) (e : Ere ℕ) (T : Tabled t e) (least : ℕ) where
-  never : (s j : ℕ) → longestOf t w 0 least s ≡ 0 → s + least ≤ j → Spans (takesAt t) w e s j → ⊥
+  never : (s j : ℕ) → longestOf t w 0 least s ≡ 0 → s + least ≤ j → Spans (acceptsAt t) w e s j → ⊥
   never s j q g h =
       let m = leads-stop t w e T s j (h .1) in
       of-longest t w 0 least s 0 q (m .0) (omega (arith, h .0, m .1)) (omega (arith, m .1)) (m .2)
 
   longest : (s n : ℕ) → s ≤ length w → longestOf t w 0 least s ≡ suc n
-      → (Spans (takesAt t) w e s (s + n)) × (least ≤ n) × ((j : ℕ) → s + least ≤ j → Spans (takesAt t) w e s j → j ≤ s + n)
+      → (Spans (acceptsAt t) w e s (s + n)) × (least ≤ n) × ((j : ℕ) → s + least ≤ j → Spans (acceptsAt t) w e s j → j ≤ s + n)
   longest s n hs q =
       let o = of-longest t w 0 least s (suc n) q in
       let b : s + n ≤ length w = omega (arith, o .0) in (
@@ -98,14 +98,14 @@ module _ (t rest : List ℕ) (at least : ℕ) where
   inside Nowhere f = tt
 
   best : (r : Found) → Seen t rest at least r → (e : Ere ℕ) (w : List ℕ) → Tabled t e → at ≤ length w → drop at w ≡ rest
-      → BestFrom (takesAt t) w e at least (matchOf r)
+      → BestFrom (acceptsAt t) w e at least (matchOf r)
   best (At a n) f e w T hl hd =
       let k = whole t rest w at hl hd in
       let q : longestOf t w 0 least a ≡ suc n = rw (f .1) (sym (of-whole t rest w at hl hd least (f .0)) ∙ f .3) in
       let o = longest t w e T least a n (omega (arith, f .1, f .2)) q in
       (o .0, omega (arith, f .1), o .1, (λ x j g i h. le-of-suc-le-suc (lt-of-not-le (λ l. before x j g i l h))), o .2)
     where
-      before : (x j : ℕ) → at ≤ x → x + least ≤ j → x < a → Spans (takesAt t) w e x j → ⊥
+      before : (x j : ℕ) → at ≤ x → x + least ≤ j → x < a → Spans (acceptsAt t) w e x j → ⊥
       before x j g i l h =
           let z : at + (x - at) ≡ x = omega arith in
           never t w e T least x j
@@ -121,5 +121,5 @@ module _ (t rest : List ℕ) (at least : ℕ) where
 
 -- so the code's answer is what the definition computes
 pub answer : (t rest : List ℕ) (at least : ℕ) (r : Found) → Finds t rest at least r → (e : Ere ℕ) (w : List ℕ) → Tabled t e → at ≤ length w → drop at w ≡ rest
-    → matchOf r ≡ bestFrom (takesAt t) w e at least
-answer t rest at least r f e w T hl hd = sym (best-is (takesAt t) w e at least (matchOf r) (f .best e w T hl hd))
+    → matchOf r ≡ bestFrom (acceptsAt t) w e at least
+answer t rest at least r f e w T hl hd = sym (best-is (acceptsAt t) w e at least (matchOf r) (f .best e w T hl hd))

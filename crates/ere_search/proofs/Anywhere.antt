@@ -10,15 +10,15 @@ use native.Mathlib.Numerals.{add-one}
 use lib.ListN.{length, getD}
 use lib.Dec.{eqb}
 use borrow.Author.Tests.{eq-eqb, ne-eqb, eqb-true, not-false}
+use Rattle.lists.proofs.Tests.{and-true, or-cases, or-left, or-right}
 use Rattle.lists.specs.Digit.{bit}
 use Rattle.lists.proofs.Digits.{bit-zero}
 use Rattle.ere_meaning.specs.Tree.{Ere}
 use Rattle.ere_meaning.specs.Meaning.{Match, found, nowhere, Spans, BestFrom}
 use Rattle.ere_meaning.specs.Search.{bestFrom, bestOf}
 use Rattle.ere_meaning.proofs.Answers.{best-from}
-use Rattle.ere_meaning.proofs.Tests.{and-both, or-cases, or-left, or-right}
 use Rattle.ere_table.specs.Nexts.{stop}
-use Rattle.ere_table.specs.Table.{mem, row, join, noPlace, takesAt, begins, emptyWord}
+use Rattle.ere_table.specs.Table.{mem, row, join, noPlace, acceptsAt, begins, emptyWord}
 use Rattle.ere_table.specs.Wiring.{stopIn, Tabled, Sealed}
 use Rattle.ere_table.proofs.Sets.{mem-join, mem-none}
 use Rattle.ere_table.proofs.Begins.{begins-with, empty-out}
@@ -85,30 +85,30 @@ module _ (t text : List ℕ) where
 
   module _ (e : Ere ℕ) (T : Tabled t e) where
     some-span : (i : ℕ) → i ≤ length text → stopIn (allAt t text i) (eqb i (length text)) ≡ true
-        → (s : ℕ) × (j : ℕ) × (Spans (takesAt t) text e s j)
+        → (s : ℕ) × (j : ℕ) × (Spans (acceptsAt t) text e s j)
     some-span i h m =
         let w = all-in i (cond (eqb i (length text)) 129 128) (low (eqb i (length text))) m in
         let b : w .0 + w .1 ≤ length text = omega (arith, w .2) in
         (w .0, w .0 + w .1, (b, stop-leads t text e T (w .0) (w .1) b (rw (w .2) (w .3))))
 
-    span-stops : (s j : ℕ) → Spans (takesAt t) text e s j → stopIn (allAt t text j) (eqb j (length text)) ≡ true
+    span-stops : (s j : ℕ) → Spans (acceptsAt t) text e s j → stopIn (allAt t text j) (eqb j (length text)) ≡ true
     span-stops s j h =
         let m = leads-stop t text e T s j (h .1) in
         rw (m .1) (all-out s (m .0) (cond (eqb (s + m .0) (length text)) 129 128) (low (eqb (s + m .0) (length text))) (m .2))
 
-    is-true : (s j : ℕ) → Spans (takesAt t) text e s j → true ≡ isMatch (bestOf (takesAt t) text e)
+    is-true : (s j : ℕ) → Spans (acceptsAt t) text e s j → true ≡ isMatch (bestOf (acceptsAt t) text e)
     unfolding bestOf
-    is-true s j h = by (bestFrom (takesAt t) text e 0 0) (best-from (takesAt t) text e 0 0)
+    is-true s j h = by (bestFrom (acceptsAt t) text e 0 0) (best-from (acceptsAt t) text e 0 0)
       where
-        by : (m : Match) → BestFrom (takesAt t) text e 0 0 m → true ≡ isMatch m
+        by : (m : Match) → BestFrom (acceptsAt t) text e 0 0 m → true ≡ isMatch m
         by (found a n) k = refl
         by nowhere k = absurd (k s j (omega arith) (omega (arith, leads-stop t text e T s j (h .1) .1)) h)
 
-    is-false : ((s j : ℕ) → Spans (takesAt t) text e s j → ⊥) → false ≡ isMatch (bestOf (takesAt t) text e)
+    is-false : ((s j : ℕ) → Spans (acceptsAt t) text e s j → ⊥) → false ≡ isMatch (bestOf (acceptsAt t) text e)
     unfolding bestOf
-    is-false none = by (bestFrom (takesAt t) text e 0 0) (best-from (takesAt t) text e 0 0)
+    is-false none = by (bestFrom (acceptsAt t) text e 0 0) (best-from (acceptsAt t) text e 0 0)
       where
-        by : (m : Match) → BestFrom (takesAt t) text e 0 0 m → false ≡ isMatch m
+        by : (m : Match) → BestFrom (acceptsAt t) text e 0 0 m → false ≡ isMatch m
         by (found a n) k = absurd (none a (a + n) (k .0))
         by nowhere k = refl
 
@@ -126,11 +126,11 @@ module _ (t text : List ℕ) where
       is-true e T (w .0) (w .1) (w .2)
   decides false f g e T = is-false e T (λ s j h. ⊎-elim (last s j h) (early s j h) (eq-or-lt-of-le (h .0)))
     where
-      last : (s j : ℕ) → Spans (takesAt t) text e s j → j ≡ length text → ⊥
+      last : (s j : ℕ) → Spans (acceptsAt t) text e s j → j ≡ length text → ⊥
       last s j h z =
           true≢false (sym (rw (eq-eqb (length text) (length text) refl) at (subst (λ (x : ℕ). stopIn (allAt t text x) (eqb x (length text)) ≡ true) z (span-stops e T s j h))) ∙ sym (g (T .shut)))
 
-      early : (s j : ℕ) → Spans (takesAt t) text e s j → j < length text → ⊥
+      early : (s j : ℕ) → Spans (acceptsAt t) text e s j → j < length text → ⊥
       early s j h l =
           true≢false (sym (rw (ne-eqb j (length text) (omega arith)) at (span-stops e T s j h)) ∙ f (T .shut) j l)
 
@@ -176,23 +176,23 @@ module _ (t text : List ℕ) (i : ℕ) (live : List ℕ) (hl : live ≡ pending 
     none-live p h = ap (λ (w : ℕ). bit w (p % 64)) (word (p / 64) (omega arith)) ∙ bit-zero (p % 64)
       where
         word : (k : ℕ) → k < 2 → getD live k 0 ≡ 0
-        word zero l = eqb-true _ _ (and-both (eqb (getD live 0 0) 0) _ (facts .0) .0)
-        word (suc zero) l = eqb-true _ _ (and-both (eqb (getD live 0 0) 0) _ (facts .0) .1)
+        word zero l = eqb-true _ _ (and-true (eqb (getD live 0 0) 0) _ (facts .0) .0)
+        word (suc zero) l = eqb-true _ _ (and-true (eqb (getD live 0 0) 0) _ (facts .0) .1)
         word (suc (suc k)) l = absurd (omega arith)
 
     pub pass : noPlace ≡ pending t text (i + 1)
     unfolding pending
     pass = rw add-one (sym (ap (λ (l : List ℕ). step t (join l (row t (entryRow i))) (getD text i 0)) (sym hl) ∙ step-none t (join live (row t (entryRow i))) (getD text i 0) off))
       where
-        by : (p : ℕ) → p < 128 → (x : Bool) → mem (row t (entryRow i)) p ≡ x → (y : Bool) → takesAt t p (getD text i 0) ≡ y → (x && y) ≡ false
+        by : (p : ℕ) → p < 128 → (x : Bool) → mem (row t (entryRow i)) p ≡ x → (y : Bool) → acceptsAt t p (getD text i 0) ≡ y → (x && y) ≡ false
         by p h true m true k = absurd (true≢false (sym (begins-with t S (entryRow i) p (getD text i 0) entry h hb m k) ∙ facts .3))
         by p h true m false k = refl
         by p h false m y k = refl
 
-        off : (p : ℕ) → p < 128 → (mem (join live (row t (entryRow i))) p && takesAt t p (getD text i 0)) ≡ false
+        off : (p : ℕ) → p < 128 → (mem (join live (row t (entryRow i))) p && acceptsAt t p (getD text i 0)) ≡ false
         off p h =
-            ap (λ (x : Bool). x && takesAt t p (getD text i 0)) (mem-join live (row t (entryRow i)) p (omega arith) ∙ ap (λ (x : Bool). x || mem (row t (entryRow i)) p) (none-live p h))
-            ∙ by p h (mem (row t (entryRow i)) p) refl (takesAt t p (getD text i 0)) refl
+            ap (λ (x : Bool). x && acceptsAt t p (getD text i 0)) (mem-join live (row t (entryRow i)) p (omega arith) ∙ ap (λ (x : Bool). x || mem (row t (entryRow i)) p) (none-live p h))
+            ∙ by p h (mem (row t (entryRow i)) p) refl (acceptsAt t p (getD text i 0)) refl
 
     pub pass-stop : stopIn (allAt t text i) false ≡ false
     pass-stop =

@@ -9,9 +9,9 @@ use native.Mathlib.Omega.{arith}
 use lib.ListN.{length, getD}
 use lib.Dec.{eqb, leb}
 use borrow.Author.Tests.{eq-eqb, ne-eqb, eqb-true}
+use Rattle.lists.proofs.Tests.{and-true}
 use Rattle.ere_table.specs.Table.{noPlace}
 use Rattle.ere_search.specs.Walk.{step, dead, liveAt, longestTo, longestOf, note}
-use Rattle.ere_meaning.proofs.Tests.{and-both}
 use Rattle.ere_table.proofs.Sets.{mem-none}
 use Rattle.ere_search.proofs.Steps.{step-dead}
 
@@ -65,7 +65,7 @@ module _ (t rest : List ℕ) (at least s n : ℕ) (live : List ℕ) (hl : live �
     pub best-dead : s + n < length rest → dead live ≡ true → r ≡ note best live false least n → r ≡ longestOf t rest at least s
     unfolding liveAt
     best-dead h d e =
-        let z = and-both (eqb (getD live 0 0) 0) _ d in
+        let z = and-true (eqb (getD live 0 0) 0) _ d in
         let next : liveAt t rest at s (suc n) ≡ noPlace =
         ap (λ (l : List ℕ). step t l (getD rest (s + n) 0)) (sym hl) ∙ step-dead t live (getD rest (s + n) 0) (eqb-true _ _ (z .0)) (eqb-true _ _ (z .1)) in
         let same : suc n + (length rest - s - n) ≡ suc (length rest - s) = omega arith in

@@ -9,13 +9,13 @@ use native.Mathlib.Nat.{le-refl, add-zero, zero-add, add-suc, eq-or-lt-of-le, le
 use lib.ListN.{length, getD}
 use lib.Dec.{eqb, ltb, leb}
 use borrow.Author.Tests.{ne-eqb, ltb-true, lt-ltb, leb-true, leb-false}
+use Rattle.lists.proofs.Tests.{and-true, and-of}
 use Rattle.ere_meaning.specs.Tree.{Ere}
 use Rattle.ere_meaning.specs.Meaning.{Leads}
 use Rattle.ere_table.specs.Nexts.{Next, stop, go, Enter, Last}
-use Rattle.ere_table.specs.Table.{takesAt}
+use Rattle.ere_table.specs.Table.{acceptsAt}
 use Rattle.ere_search.specs.Walk.{step, liveAt, longestTo}
 use Rattle.ere_table.specs.Wiring.{stopIn, nextIn, afterPlace, Tabled}
-use Rattle.ere_meaning.proofs.Tests.{and-both, and-of}
 use Rattle.ere_search.proofs.Steps.{step-in, step-out}
 use Rattle.ere_search.proofs.Walks.{From, arrive, move, Walks, walks, leads}
 
@@ -23,7 +23,7 @@ use Rattle.ere_search.proofs.Walks.{From, arrive, move, Walks, walks, l
 
 -- r comes next after a place of live that takes b
 abbrev Via : List ℕ → List ℕ → ℕ → Bool → Next → Type 0
-Via t live b f r = (p : ℕ) × (nextIn live false (go p) ≡ true) × (takesAt t p b ≡ true) × (afterPlace t p f r)
+Via t live b f r = (p : ℕ) × (nextIn live false (go p) ≡ true) × (acceptsAt t p b ≡ true) × (afterPlace t p f r)
 
 module _ (t live : List ℕ) (b : ℕ) where
   stop-at : (f : Bool) → cond f 129 128 < 192
@@ -33,20 +33,20 @@ module _ (t live : List ℕ) (b : ℕ) where
   via-in : (f : Bool) (r : Next) → nextIn (step t live b) f r ≡ true → Via t live b f r
   via-in f stop h = let s = step-in t live b (cond f 129 128) (stop-at f) h in (s .0, and-of _ _ (lt-ltb _ _ (s .1)) (s .2), s .3, s .4)
   via-in f (go q) h =
-      let x = and-both (not f) _ h in
-      let y = and-both (ltb q 128) _ (x .1) in
+      let x = and-true (not f) _ h in
+      let y = and-true (ltb q 128) _ (x .1) in
       let l = ltb-true q 128 (y .0) in
       let s = step-in t live b q (omega arith) (y .1) in
       (s .0, and-of _ _ (lt-ltb _ _ (s .1)) (s .2), s .3, and-of (not f) _ (x .0) (and-of (ltb q 128) _ (y .0) (s .4)))
 
   via-out : (f : Bool) (r : Next) → Via t live b f r → nextIn (step t live b) f r ≡ true
   via-out f stop v =
-      let z = and-both (ltb (v .0) 128) _ (v .1) in
+      let z = and-true (ltb (v .0) 128) _ (v .1) in
       step-out t live b (cond f 129 128) (stop-at f) (v .0, ltb-true _ _ (z .0), z .1, v .2, v .3)
   via-out f (go q) v =
-      let z = and-both (ltb (v .0) 128) _ (v .1) in
-      let x = and-both (not f) _ (v .3) in
-      let y = and-both (ltb q 128) _ (x .1) in
+      let z = and-true (ltb (v .0) 128) _ (v .1) in
+      let x = and-true (not f) _ (v .3) in
+      let y = and-true (ltb q 128) _ (x .1) in
       let l = ltb-true q 128 (y .0) in
       and-of (not f) _ (x .0)
       (and-of (ltb q 128) _ (y .0) (step-out t live b q (omega arith) (v .0, ltb-true _ _ (z .0), z .1, v .2, y .1)))
@@ -87,7 +87,7 @@ module _ (t text : List ℕ) (e : Ere ℕ) (T : Tabled t e) (s : ℕ) where
   L = Live t text 0 s
 
   abbrev Fr : ℕ → Next → ℕ → Type 0
-  Fr = From (takesAt t) text (afterPlace t)
+  Fr = From (acceptsAt t) text (afterPlace t)
 
   starts : (r : Next) → L 0 r → Enter e Last (eqb s 0) (eqb s (length text)) r
   unfolding liveAt
@@ -97,7 +97,7 @@ module _ (t text : List ℕ) (e : Ere ℕ) (T : Tabled t e) (s : ℕ) where
   unfolding liveAt
   started r h = rw (zero-add s, add-zero s) (T .starts (eqb s 0) (eqb s (length text)) r .1 h)
 
-  to-walk : (n j : ℕ) (r : Next) → s + n ≤ length text → L n r → Fr j r (s + n) → Walks (takesAt t) text (afterPlace t) (Enter e Last) s j
+  to-walk : (n j : ℕ) (r : Next) → s + n ≤ length text → L n r → Fr j r (s + n) → Walks (acceptsAt t) text (afterPlace t) (Enter e Last) s j
   unfolding liveAt
   to-walk zero j r h l w = (r, starts r l, rw add-zero at w)
   to-walk (suc n) j r h l w =
@@ -115,10 +115,10 @@ module _ (t text : List ℕ) (e : Ere ℕ) (T : Tabled t e) (s : ℕ) where
       (p, rw (ne-eqb (s + n) (length text) (omega arith)) at l, rw h at o, rw next at a)) w
 
   -- a walk may stop after n bytes just where there is a span
-  pub stop-leads : (n : ℕ) → s + n ≤ length text → L n stop → Leads (takesAt t) text e s (s + n)
-  stop-leads n h l = leads (takesAt t) text (afterPlace t) e (T .wired) s (s + n) (to-walk n (s + n) stop h l arrive)
+  pub stop-leads : (n : ℕ) → s + n ≤ length text → L n stop → Leads (acceptsAt t) text e s (s + n)
+  stop-leads n h l = leads (acceptsAt t) text (afterPlace t) e (T .wired) s (s + n) (to-walk n (s + n) stop h l arrive)
 
-  pub leads-stop : (j : ℕ) → Leads (takesAt t) text e s j → (m : ℕ) × (j ≡ s + m) × (L m stop)
+  pub leads-stop : (j : ℕ) → Leads (acceptsAt t) text e s j → (m : ℕ) × (j ≡ s + m) × (L m stop)
   leads-stop j h =
-      let w = walks (takesAt t) text (afterPlace t) e (T .wired) s j h in
+      let w = walks (acceptsAt t) text (afterPlace t) e (T .wired) s j h in
       to-live zero j s (w .0) (sym (add-zero s)) (started (w .0) (w .1)) (w .2)

@@ -8,7 +8,7 @@ use native.Mathlib.Nat.{add-zero, lt-of-not-le}
 use lib.ListN.{length, getD}
 use lib.Dec.{eqb, leb}
 use borrow.Author.Tests.{eqb-true, eqb-false, lt-leb, not-false}
-use Rattle.ere_table.specs.Table.{mem, row, noPlace, takesAt, begins, emptyWord}
+use Rattle.ere_table.specs.Table.{mem, row, noPlace, acceptsAt, begins, emptyWord}
 use Rattle.ere_search.specs.Walk.{step, liveAt, longestTo, longestOf, entryRow, openTo, mayBegin}
 use Rattle.ere_table.specs.Wiring.{stopIn, Sealed}
 use Rattle.ere_search.proofs.Steps.{step-none}
@@ -17,9 +17,9 @@ use Rattle.ere_table.proofs.Begins.{begins-with, empty-out}
 
 module _ (t : List ℕ) (S : Sealed t) where
   pub begin-out : (r b : ℕ) → r < 2 → b < 256 → begins t b ≡ false → step t (row t r) b ≡ noPlace
-  begin-out r b hr hb off = step-none t (row t r) b (λ p hp. by p hp (mem (row t r) p) refl (takesAt t p b) refl)
+  begin-out r b hr hb off = step-none t (row t r) b (λ p hp. by p hp (mem (row t r) p) refl (acceptsAt t p b) refl)
     where
-      by : (p : ℕ) → p < 128 → (x : Bool) → mem (row t r) p ≡ x → (y : Bool) → takesAt t p b ≡ y → (mem (row t r) p && takesAt t p b) ≡ false
+      by : (p : ℕ) → p < 128 → (x : Bool) → mem (row t r) p ≡ x → (y : Bool) → acceptsAt t p b ≡ y → (mem (row t r) p && acceptsAt t p b) ≡ false
       by p hp true m true k = absurd (true≢false (sym (begins-with t S r p b hr hp hb m k) ∙ off))
       by p hp true m false k = rw (m, k)
       by p hp false m y k = rw m

@@ -8,22 +8,22 @@ use native.Mathlib.Nat.{le-refl, le-of-suc-le-suc, eq-or-lt-of-le, mod-lt}
 use native.Mathlib.Omega.{arith}
 use lib.ListN.{getD}
 use lib.Count.{trailingZeros}
+use Rattle.lists.proofs.Tests.{or-cases, or-left, or-right, and-true, and-of}
 use Rattle.lists.specs.Digit.{bit}
-use Rattle.ere_table.specs.Table.{mem, row, takesAt, join, noPlace}
+use Rattle.ere_table.specs.Table.{mem, row, acceptsAt, join, noPlace}
 use Rattle.ere_search.specs.Walk.{stepWord, put, step}
 use Rattle.ere_search.proofs.Trailing.{tz-low, tz-high, off-low, off-high, mem-word}
 use Rattle.lists.proofs.Digits.{word-pow, bit-zero}
 use Rattle.ere_table.proofs.Sets.{mem-none, mem-cond, or-none}
-use Rattle.ere_meaning.proofs.Tests.{or-cases, or-left, or-right, and-both, and-of}
 
 -- ---- a word's places, the lowest first
 
 -- digits that are not set, or whose places do not take b, add nothing
-pub word-none : (t : List ℕ) (b x w : ℕ) (start : List ℕ) (n : ℕ) → ((j : ℕ) → j < n → (bit x j && takesAt t (64 * w + j) b) ≡ false)
+pub word-none : (t : List ℕ) (b x w : ℕ) (start : List ℕ) (n : ℕ) → ((j : ℕ) → j < n → (bit x j && acceptsAt t (64 * w + j) b) ≡ false)
     → stepWord t b x w start n ≡ start
 unfolding stepWord
 word-none t b x w start zero h = refl
-word-none t b x w start (suc n) h = one (bit x n) (takesAt t (64 * w + n) b) (h n (le-refl (suc n))) ∙ word-none t b x w start n (λ j g. h j (omega arith))
+word-none t b x w start (suc n) h = one (bit x n) (acceptsAt t (64 * w + n) b) (h n (le-refl (suc n))) ∙ word-none t b x w start n (λ j g. h j (omega arith))
   where
     out : List ℕ
     out = stepWord t b x w start n
@@ -62,21 +62,21 @@ word-end t b w out x z = word-none t b x w out 64 (λ j g. rw (z, bit-zero j))
 
 -- q comes next after a place below digit n of the word that takes b
 abbrev Word : List ℕ → ℕ → ℕ → ℕ → ℕ → ℕ → Type 0
-Word t b x w n q = (k : ℕ) × (k < n) × (bit x k ≡ true) × (takesAt t (64 * w + k) b ≡ true) × (mem (row t (64 * w + k + 2)) q ≡ true)
+Word t b x w n q = (k : ℕ) × (k < n) × (bit x k ≡ true) × (acceptsAt t (64 * w + k) b ≡ true) × (mem (row t (64 * w + k + 2)) q ≡ true)
 
 module _ (t : List ℕ) (b x w : ℕ) (start : List ℕ) (q : ℕ) (hq : q < 192) where
   widen : {n : ℕ} → Word t b x w n q → Word t b x w (suc n) q
   widen s = (s .0, omega (arith, s .1), s .2, s .3, s .4)
 
-  more : (n : ℕ) → mem (stepWord t b x w start (suc n)) q ≡ (mem (stepWord t b x w start n) q || (bit x n && (takesAt t (64 * w + n) b && mem (row t (64 * w + n + 2)) q)))
+  more : (n : ℕ) → mem (stepWord t b x w start (suc n)) q ≡ (mem (stepWord t b x w start n) q || (bit x n && (acceptsAt t (64 * w + n) b && mem (row t (64 * w + n + 2)) q)))
   unfolding stepWord
   more n = pick (bit x n)
     where
       out : List ℕ
       out = stepWord t b x w start n
 
-      pick : (c : Bool) → mem (cond c (put t out b (64 * w + n)) out) q ≡ (mem out q || (c && (takesAt t (64 * w + n) b && mem (row t (64 * w + n + 2)) q)))
-      pick true = mem-cond (takesAt t (64 * w + n) b) out (row t (64 * w + n + 2)) q hq
+      pick : (c : Bool) → mem (cond c (put t out b (64 * w + n)) out) q ≡ (mem out q || (c && (acceptsAt t (64 * w + n) b && mem (row t (64 * w + n + 2)) q)))
+      pick true = mem-cond (acceptsAt t (64 * w + n) b) out (row t (64 * w + n + 2)) q hq
       pick false = or-none (mem out q)
 
   pub word-in : (n : ℕ) → mem (stepWord t b x w start n) q ≡ true → (mem start q ≡ true) ⊎ (Word t b x w n q)
@@ -84,8 +84,8 @@ module _ (t : List ℕ) (b x w : ℕ) (start : List ℕ) (q : ℕ) (hq : q < 192
   word-in zero h = inl h
   word-in (suc n) h = ⊎-elim (λ k. ⊎-elim inl (λ s. inr (widen s)) (word-in n k)) new (or-cases _ _ (sym (more n) ∙ h))
     where
-      new : (bit x n && (takesAt t (64 * w + n) b && mem (row t (64 * w + n + 2)) q)) ≡ true → (mem start q ≡ true) ⊎ (Word t b x w (suc n) q)
-      new k = let l = and-both _ _ k in let m = and-both _ _ (l .1) in inr (n, le-refl (suc n), l .0, m .0, m .1)
+      new : (bit x n && (acceptsAt t (64 * w + n) b && mem (row t (64 * w + n + 2)) q)) ≡ true → (mem start q ≡ true) ⊎ (Word t b x w (suc n) q)
+      new k = let l = and-true _ _ k in let m = and-true _ _ (l .1) in inr (n, le-refl (suc n), l .0, m .0, m .1)
 
   pub word-keeps : (n : ℕ) → mem start q ≡ true → mem (stepWord t b x w start n) q ≡ true
   unfolding stepWord
@@ -98,12 +98,12 @@ module _ (t : List ℕ) (b x w : ℕ) (start : List ℕ) (q : ℕ) (hq : q < 192
       more n
       ∙ ⊎-elim
       (λ e. or-right (mem (stepWord t b x w start n) q) _
-      (and-of (bit x n) _ (rw e at (s .2)) (and-of (takesAt t (64 * w + n) b) _ (rw e at (s .3)) (rw e at (s .4)))))
+      (and-of (bit x n) _ (rw e at (s .2)) (and-of (acceptsAt t (64 * w + n) b) _ (rw e at (s .3)) (rw e at (s .4)))))
       (λ h. or-left _ _ (word-out n (s .0, h, s .2, s .3, s .4))) (eq-or-lt-of-le (le-of-suc-le-suc (s .1)))
 
 -- q comes next after a place of live that takes b
 abbrev pub Stepped : List ℕ → List ℕ → ℕ → ℕ → Type 0
-Stepped t live b q = (p : ℕ) × (p < 128) × (mem live p ≡ true) × (takesAt t p b ≡ true) × (mem (row t (p + 2)) q ≡ true)
+Stepped t live b q = (p : ℕ) × (p < 128) × (mem live p ≡ true) × (acceptsAt t p b ≡ true) × (mem (row t (p + 2)) q ≡ true)
 
 module _ (t live : List ℕ) (b q : ℕ) (hq : q < 192) where
   half : (w : ℕ) → w < 2 → Word t b (getD live w 0) w 64 q → Stepped t live b q
@@ -127,7 +127,7 @@ module _ (t live : List ℕ) (b q : ℕ) (hq : q < 192) where
           let k = s .0 % 64 in
           let l : k < 64 = mod-lt (s .0) (omega arith) in
           let z : s .0 ≡ 64 * w + k = omega arith in
-          (k, l, sym (mem-word live w k l) ∙ subst (λ (y : ℕ). mem live y ≡ true) z (s .2), subst (λ (y : ℕ). takesAt t y b ≡ true) z (s .3), subst (λ (y : ℕ). mem (row t (y + 2)) q ≡ true) z (s .4))
+          (k, l, sym (mem-word live w k l) ∙ subst (λ (y : ℕ). mem live y ≡ true) z (s .2), subst (λ (y : ℕ). acceptsAt t y b ≡ true) z (s .3), subst (λ (y : ℕ). mem (row t (y + 2)) q ≡ true) z (s .4))
 
       by : (w : ℕ) → s .0 / 64 ≡ w → mem (step t live b) q ≡ true
       by zero e =
@@ -139,13 +139,13 @@ module _ (t live : List ℕ) (b q : ℕ) (hq : q < 192) where
 -- ---- steps that lead nowhere
 
 -- no place of live takes b
-pub step-none : (t live : List ℕ) (b : ℕ) → ((p : ℕ) → p < 128 → (mem live p && takesAt t p b) ≡ false) → step t live b ≡ noPlace
+pub step-none : (t live : List ℕ) (b : ℕ) → ((p : ℕ) → p < 128 → (mem live p && acceptsAt t p b) ≡ false) → step t live b ≡ noPlace
 step-none t live b h =
     word-none t b (getD live 1 0) 1 (stepWord t b (getD live 0 0) 0 noPlace 64) 64 (off 1 (omega arith))
     ∙ word-none t b (getD live 0 0) 0 noPlace 64 (off 0 (omega arith))
   where
-    off : (w : ℕ) → w < 2 → (j : ℕ) → j < 64 → (bit (getD live w 0) j && takesAt t (64 * w + j) b) ≡ false
-    off w l j g = ap (λ (x : Bool). x && takesAt t (64 * w + j) b) (sym (mem-word live w j g)) ∙ h (64 * w + j) (omega arith)
+    off : (w : ℕ) → w < 2 → (j : ℕ) → j < 64 → (bit (getD live w 0) j && acceptsAt t (64 * w + j) b) ≡ false
+    off w l j g = ap (λ (x : Bool). x && acceptsAt t (64 * w + j) b) (sym (mem-word live w j g)) ∙ h (64 * w + j) (omega arith)
 
 -- no place is live
 pub step-dead : (t live : List ℕ) (b : ℕ) → getD live 0 0 ≡ 0 → getD live 1 0 ≡ 0 → step t live b ≡ noPlace

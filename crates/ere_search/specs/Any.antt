@@ -9,7 +9,7 @@ use Rattle.ere_meaning.specs.Tree.{Ere}
 use Rattle.ere_meaning.specs.Meaning.{Match, found, nowhere}
 use Rattle.ere_meaning.specs.Search.{bestOf}
 use Rattle.ere_table.specs.Wiring.{Tabled}
-use Rattle.ere_table.specs.Table.{takesAt}
+use Rattle.ere_table.specs.Table.{acceptsAt}
 use Rattle.ere_search.specs.Walk.{dead, mayBegin}
 
 -- an answer that is a match
@@ -19,7 +19,7 @@ isMatch nowhere = false
 
 -- r says whether the text has a match, for each ERE whose table it is
 abbrev pub Exists : List ℕ → List ℕ → Bool → Type 0
-Exists t text r = (e : Ere ℕ) → Tabled t e → r ≡ isMatch (bestOf (takesAt t) text e)
+Exists t text r = (e : Ere ℕ) → Tabled t e → r ≡ isMatch (bestOf (acceptsAt t) text e)
 
 -- the set has nothing in it, and no match begins with the byte b
 abbrev pub passes : List ℕ → List ℕ → ℕ → Bool → Bool

@@ -6,7 +6,7 @@ use lib.ListN.{length, drop}
 use Rattle.ere_meaning.specs.Tree.{Ere}
 use Rattle.ere_meaning.specs.Meaning.{Match, found, nowhere, BestFrom}
 use Rattle.ere_table.specs.Wiring.{Tabled}
-use Rattle.ere_table.specs.Table.{takesAt}
+use Rattle.ere_table.specs.Table.{acceptsAt}
 use Rattle.ere_search.specs.declared.search.Found.{Found}
 use Rattle.ere_search.specs.declared.search.Found.the-variants.{At, Nowhere}
 
@@ -22,4 +22,4 @@ Inside at len Nowhere = Unit
 -- r is the best match of at least `least` bytes in the text of which `rest` is what stands from place `at` on
 pub record Finds (t rest : List ℕ) (at least : ℕ) (r : Found) : Type 0 where
   pub inside : Inside at (length rest) r
-  pub best : (e : Ere ℕ) (w : List ℕ) → Tabled t e → at ≤ length w → drop at w ≡ rest → BestFrom (takesAt t) w e at least (matchOf r)
+  pub best : (e : Ere ℕ) (w : List ℕ) → Tabled t e → at ≤ length w → drop at w ≡ rest → BestFrom (acceptsAt t) w e at least (matchOf r)

@@ -6,11 +6,11 @@ use lib.ListN.{length, getD}
 use lib.Dec.{eqb, leb}
 use Rattle.lists.specs.Digit.{bit}
 use Rattle.ere_table.specs.Wiring.{stopIn}
-use Rattle.ere_table.specs.Table.{row, join, noPlace, takesAt, begins, emptyWord}
+use Rattle.ere_table.specs.Table.{row, join, noPlace, acceptsAt, begins, emptyWord}
 
 -- out with the row after the place p, where p takes b
 abbrev pub put : List ℕ → List ℕ → ℕ → ℕ → List ℕ
-put t out b p = cond (takesAt t p b) (join out (row t (p + 2))) out
+put t out b p = cond (acceptsAt t p b) (join out (row t (p + 2))) out
 
 -- out with the rows after those places that take b: of word w of a set, which is x, the places below digit n
 unfoldable pub stepWord : List ℕ → ℕ → ℕ → ℕ → List ℕ → ℕ → List ℕ

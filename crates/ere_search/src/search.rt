@@ -48,7 +48,7 @@ fn entry(t: &[u64], s: usize) -> [u64; 3]
 
 // best, or n + 1 where a walk may stop at the set and n bytes are enough. The longest match is kept as a number, its length and 1, and 0 for none:
 // an enum, with its unused bytes, was copied through memory at each step, in pieces that the processor had to wait for.
-fn noted(best: usize, live: [u64; 3], at_end: bool, least: usize, n: usize) -> usize
+fn longest(best: usize, live: [u64; 3], at_end: bool, least: usize, n: usize) -> usize
     requires { ⌜ n < 2 ^ 63 ⌝ }
     ensures { λ r. ⌜ r ≡ note best live «at_end» least n ⌝ }
 {
@@ -69,7 +69,7 @@ fn longest_from(t: &[u64], rest: &[u8], at: usize, least: usize, s: usize) -> us
     let mut best: usize = 0;
     let mut n: usize = 0;
     while s + n < rest.len() {
-        let b = noted(best, live, false, least, n);
+        let b = longest(best, live, false, least, n);
         best = b;
         if dead(live) {
             return best;
@@ -78,7 +78,7 @@ fn longest_from(t: &[u64], rest: &[u8], at: usize, least: usize, s: usize) -> us
         live = next;
         n += 1;
     }
-    noted(best, live, true, least, n)
+    longest(best, live, true, least, n)
 }
 
 // Whether a match of at least so many bytes may be empty.

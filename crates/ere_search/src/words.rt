@@ -2,14 +2,14 @@
 ghost use mathlib.Core.Path.{_≡_};
 ghost use Prim.Native.Nat.{_+_, _<_};
 ghost use lib.ListN.{length};
-ghost use Rattle.ere_table.specs.Table.{tableWords, placeCount, row, join, takesAt};
+ghost use Rattle.ere_table.specs.Table.{tableWords, placeCount, row, join, acceptsAt};
 ghost use Rattle.ere_search.specs.Walk.{stepWord, put as putOf, step as stepOf};
 use ere_table::ROWS;
 
 // Whether the place p takes the byte b.
-pub fn takes(t: &[u64], p: usize, b: u8) -> bool
+pub fn accepts(t: &[u64], p: usize, b: u8) -> bool
     requires { ⌜ (length (now t) ≡ tableWords) × (p < placeCount) ⌝ }
-    ensures { λ r. ⌜ r ≡ takesAt (now (t .entry)) p b ⌝ }
+    ensures { λ r. ⌜ r ≡ acceptsAt (now (t .entry)) p b ⌝ }
 {
     (t[ROWS + 4 * p + (b / 64) as usize] >> (b % 64)) % 2 == 1
 }
@@ -27,7 +27,7 @@ pub fn put(t: &[u64], out: [u64; 3], b: u8, p: usize) -> [u64; 3]
     requires { ⌜ (length (now t) ≡ tableWords) × (p < placeCount) ⌝ }
     ensures { λ r. ⌜ r ≡ putOf (now (t .entry)) out b p ⌝ }
 {
-    if takes(t, p, b) {
+    if accepts(t, p, b) {
         return with_row(out, t, p + 2);
     }
     out

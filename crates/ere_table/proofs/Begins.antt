@@ -11,12 +11,12 @@ use lib.ListN.{getD}
 use lib.Bits.{bitOr}
 use lib.Dec.{eqb}
 use borrow.Author.Tests.{eqb-true}
+use Rattle.lists.proofs.Tests.{or-left, or-right}
 use Rattle.lists.specs.Digit.{bit}
-use Rattle.ere_table.specs.Table.{mem, row, takesAt, begins, emptyWord}
+use Rattle.ere_table.specs.Table.{mem, row, acceptsAt, begins, emptyWord}
 use Rattle.ere_table.specs.Wiring.{stopIn, beginWords, Sealed}
 use Rattle.ere_table.specs.Build.{entered, joinClass, gather, beginTo}
 use Rattle.lists.proofs.Digits.{bit-or}
-use Rattle.ere_meaning.proofs.Tests.{or-left, or-right}
 
 pub begin-more : (t : List ℕ) (p : ℕ) (out r : List ℕ) → out ≡ beginTo t p → r ≡ gather t out p → r ≡ beginTo t (p + 1)
 unfolding beginTo
@@ -78,7 +78,7 @@ module _ (t : List ℕ) where
       pick (suc (suc r)) h b = absurd (omega arith)
 
 module _ (t : List ℕ) (S : Sealed t) where
-  pub begins-with : (r p b : ℕ) → r < 2 → p < 128 → b < 256 → mem (row t r) p ≡ true → takesAt t p b ≡ true → begins t b ≡ true
+  pub begins-with : (r p b : ℕ) → r < 2 → p < 128 → b < 256 → mem (row t r) p ≡ true → acceptsAt t p b ≡ true → begins t b ≡ true
   begins-with r p b hr hp hb m k =
       ap (λ (x : ℕ). bit x (b % 64)) (sym (begin-at t (b / 64) (omega arith)) ∙ ap (λ (l : List ℕ). getD l (b / 64) 0) (S .begin))
       ∙ gathered t (b / 64) (b % 64) (omega arith) 128 p hp (enters t r p hr hp m) k

@@ -9,13 +9,13 @@ use native.Mathlib.Omega.{arith}
 use lib.ListN.{length, getD}
 use lib.Dec.{eqb, ltb}
 use borrow.Author.Tests.{ltb-true, ltb-false, lt-ltb, eq-eqb, ne-eqb, eqb-true, eqb-false}
+use Rattle.lists.proofs.Tests.{and-true, and-of}
 use Rattle.ere_meaning.specs.Tree.{Ere, place, bol, eol, cat, alt, star, plus, opt}
 use Rattle.ere_table.specs.Nexts.{Next, stop, go, Nexts}
 use Rattle.lists.specs.Digit.{bit}
 use Rattle.ere_table.specs.Table.{mem, row, join, noPlace}
 use Rattle.ere_table.specs.Wiring.{nextIn, afterPlace}
 use Rattle.ere_table.specs.Build.{link, withRow, linkRows, orStop, stops, endStop, single}
-use Rattle.ere_meaning.proofs.Tests.{and-both, and-of}
 use Rattle.ere_table.proofs.Sets.{mem-none}
 use Rattle.lists.proofs.Digits.{bit-zero, bit-pow, word-pow}
 use Rattle.ere_table.proofs.Rows.{link-next, join-next, row-same, row-other, linked-in, linked-out}
@@ -49,9 +49,9 @@ stop-next x true stop = (λ h. refl, λ h. inr refl)
 stop-next x false stop = (λ h. refl, λ h. inr refl)
 stop-next x true (go q) = (⊎-elim (λ h. h) (λ e. let z : _≡_ {A = ℕ} 0 1 = cc in absurd (omega arith)), inl)
 stop-next x false (go q) = (
-  ⊎-elim (λ h. let z = and-both (ltb q 128) _ h in and-of (ltb q 128) _ (z .0) (stop-word x q (ltb-true q 128 (z .0)) ∙ z .1))
+  ⊎-elim (λ h. let z = and-true (ltb q 128) _ h in and-of (ltb q 128) _ (z .0) (stop-word x q (ltb-true q 128 (z .0)) ∙ z .1))
       (λ e. let z : _≡_ {A = ℕ} 0 1 = cc in absurd (omega arith)),
-  λ h. let z = and-both (ltb q 128) _ h in inl (and-of (ltb q 128) _ (z .0) (sym (stop-word x q (ltb-true q 128 (z .0))) ∙ z .1)),
+  λ h. let z = and-true (ltb q 128) _ h in inl (and-of (ltb q 128) _ (z .0) (sym (stop-word x q (ltb-true q 128 (z .0))) ∙ z .1)),
 )
 
 entry-stop : (f₁ l₁ : List ℕ) → Same (OrStop (Entry f₁ l₁)) (Entry (orStop f₁) (orStop l₁))
@@ -150,7 +150,7 @@ single-next p h f stop =
     (λ x. absurd (true≢false (sym x ∙ single-stop p f)), ⊎-elim (λ t. let e = t .1 in let z : _≡_ {A = ℕ} 0 1 = cc in absurd (omega arith)) (λ t. absurd (t .0)))
 single-next p h true (go q) = (λ x. absurd (true≢false (sym x)), ⊎-elim (λ t. absurd (true≢false (t .0))) (λ t. absurd (t .0)))
 single-next p h false (go q) = (
-  λ x. let z = and-both (ltb q 128) _ x in inl (refl, ap go (eqb-true q p (sym (single-go p q h (ltb-true q 128 (z .0))) ∙ z .1))),
+  λ x. let z = and-true (ltb q 128) _ x in inl (refl, ap go (eqb-true q p (sym (single-go p q h (ltb-true q 128 (z .0))) ∙ z .1))),
   ⊎-elim
       (λ t. let e = t .1 in let z : q ≡ p = cc in
       and-of (ltb q 128) _ (lt-ltb q 128 (omega arith)) (single-go p q h (omega arith) ∙ eq-eqb q p z))
@@ -162,7 +162,7 @@ stops-next true stop = (λ x. refl, λ x. refl)
 stops-next false stop = (λ x. refl, λ x. refl)
 stops-next true (go q) = (λ x. absurd (true≢false (sym x)), λ e. let z : _≡_ {A = ℕ} 0 1 = cc in absurd (omega arith))
 stops-next false (go q) = (
-  λ x. let z = and-both (ltb q 128) _ x in absurd (true≢false (sym (z .1) ∙ stop-word noPlace q (ltb-true q 128 (z .0)) ∙ mem-none q)),
+  λ x. let z = and-true (ltb q 128) _ x in absurd (true≢false (sym (z .1) ∙ stop-word noPlace q (ltb-true q 128 (z .0)) ∙ mem-none q)),
   λ e. let z : _≡_ {A = ℕ} 0 1 = cc in absurd (omega arith),
 )
 
@@ -184,7 +184,7 @@ none-next : (f : Bool) (r : Next) → nextIn noPlace f r ≡ true → ⊥
 none-next true stop h = true≢false (sym h)
 none-next false stop h = true≢false (sym h)
 none-next true (go q) h = true≢false (sym h)
-none-next false (go q) h = let z = and-both (ltb q 128) _ h in true≢false (sym (z .1) ∙ mem-none q)
+none-next false (go q) h = let z = and-true (ltb q 128) _ h in true≢false (sym (z .1) ∙ mem-none q)
 
 none-entry : (s f : Bool) (r : Next) → Entry noPlace noPlace s f r → ⊥
 none-entry true f r h = none-next f r h
@@ -201,7 +201,7 @@ seq-next x false (go q) = (
   where
     no-place : nextIn stops false (go q) ≡ true → ⊥
     no-place y =
-        let z = and-both (ltb q 128) _ y in
+        let z = and-true (ltb q 128) _ y in
         true≢false (sym (z .1) ∙ stop-word noPlace q (ltb-true q 128 (z .0)) ∙ mem-none q)
 
 -- no alternatives before
@@ -233,7 +233,7 @@ end-next false (go q) = (λ t. absurd (true≢false (sym (t .0))), λ h. absurd 
 
     none-here : nextIn endStop false (go q) ≡ true → ⊥
     none-here h =
-        let z = and-both (ltb q 128) _ h in
+        let z = and-true (ltb q 128) _ h in
         let l = ltb-true q 128 (z .0) in
         true≢false (sym (z .1) ∙ ap (λ (w : ℕ). bit w (q % 64)) (word (q / 64) (omega arith)) ∙ bit-zero (q % 64))
 

@@ -12,6 +12,7 @@ use lib.Seq.{getD-set-same, getD-set-other}
 use lib.Bits.{bitOr, bitAnd}
 use lib.Dec.{ltb}
 use borrow.Author.Tests.{ltb-true}
+use Rattle.lists.proofs.Tests.{or-cases, or-left, or-right, and-true, and-of}
 use Rattle.ere_table.specs.Nexts.{Next, stop, go}
 use Rattle.lists.specs.Digit.{bit}
 use Rattle.ere_table.specs.Table.{mem, row, join}
@@ -19,7 +20,6 @@ use Rattle.ere_table.specs.Wiring.{nextIn}
 use Rattle.ere_table.specs.Build.{link, withRow, linkRows}
 use Rattle.ere_table.proofs.Parts.{Then}
 use Rattle.lists.proofs.Digits.{bit-or, bit-and}
-use Rattle.ere_meaning.proofs.Tests.{or-cases, or-left, or-right, and-both, and-of}
 use Rattle.ere_table.proofs.Sets.{mem-join, or-none}
 
 pub link-more : (t : List ℕ) (r i : ℕ) (y now next : List ℕ) → now ≡ linkRows t r i y → next ≡ withRow now (r + i) (link (row now (r + i)) y) → next ≡ linkRows t r (i + 1) y
@@ -65,25 +65,25 @@ module _ (x y : List ℕ) where
   Y f r = nextIn y f r ≡ true
 
   pub link-next : (f : Bool) (r : Next) → (nextIn (link x y) f r ≡ true) ↔ Then (X f) (Y f) r
-  link-next f stop = (λ h. and-both _ _ (sym (link-stop f) ∙ h), λ t. link-stop f ∙ and-of (nextIn x f stop) _ (t .0) (t .1))
+  link-next f stop = (λ h. and-true _ _ (sym (link-stop f) ∙ h), λ t. link-stop f ∙ and-of (nextIn x f stop) _ (t .0) (t .1))
   link-next true (go q) = (λ h. absurd (true≢false (sym h)), ⊎-elim (λ h. absurd (true≢false (sym h))) (λ t. absurd (true≢false (sym (t .1)))))
   link-next false (go q) = (to, ⊎-elim left right)
     where
       to : nextIn (link x y) false (go q) ≡ true → (X false (go q)) ⊎ ((X false stop) × (Y false (go q)))
       to h =
-          let z = and-both (ltb q 128) _ h in
+          let z = and-true (ltb q 128) _ h in
           let l = ltb-true q 128 (z .0) in
-          ⊎-map (λ m. and-of (ltb q 128) _ (z .0) m) (λ m. let u = and-both (mem x 128) _ m in (u .0, and-of (ltb q 128) _ (z .0) (u .1)))
+          ⊎-map (λ m. and-of (ltb q 128) _ (z .0) m) (λ m. let u = and-true (mem x 128) _ m in (u .0, and-of (ltb q 128) _ (z .0) (u .1)))
           (or-cases (mem x q) _ (sym (link-go q l) ∙ z .1))
 
       left : X false (go q) → nextIn (link x y) false (go q) ≡ true
       left h =
-          let z = and-both (ltb q 128) _ h in
+          let z = and-true (ltb q 128) _ h in
           and-of (ltb q 128) _ (z .0) (link-go q (ltb-true q 128 (z .0)) ∙ or-left (mem x q) _ (z .1))
 
       right : (X false stop) × (Y false (go q)) → nextIn (link x y) false (go q) ≡ true
       right t =
-          let z = and-both (ltb q 128) _ (t .1) in
+          let z = and-true (ltb q 128) _ (t .1) in
           and-of (ltb q 128) _ (z .0) (link-go q (ltb-true q 128 (z .0)) ∙ or-right (mem x q) _ (and-of (mem x 128) _ (t .0) (z .1)))
 
   pub join-next : (f : Bool) (r : Next) → (nextIn (join x y) f r ≡ true) ↔ ((X f r) ⊎ (Y f r))
@@ -94,13 +94,13 @@ module _ (x y : List ℕ) where
       low false = omega arith
   join-next true (go q) = (λ h. absurd (true≢false (sym h)), ⊎-elim (λ h. absurd (true≢false (sym h))) (λ h. absurd (true≢false (sym h))))
   join-next false (go q) = (
-    λ h. let z = and-both (ltb q 128) _ h in
+    λ h. let z = and-true (ltb q 128) _ h in
         let l = ltb-true q 128 (z .0) in
         ⊎-map (λ m. and-of (ltb q 128) _ (z .0) m) (λ m. and-of (ltb q 128) _ (z .0) m) (or-cases (mem x q) _ (sym (mem-join x y q (omega arith)) ∙ z .1)),
     ⊎-elim
-        (λ h. let z = and-both (ltb q 128) _ h in let l = ltb-true q 128 (z .0) in
+        (λ h. let z = and-true (ltb q 128) _ h in let l = ltb-true q 128 (z .0) in
         and-of (ltb q 128) _ (z .0) (mem-join x y q (omega arith) ∙ or-left (mem x q) _ (z .1)))
-        (λ h. let z = and-both (ltb q 128) _ h in let l = ltb-true q 128 (z .0) in
+        (λ h. let z = and-true (ltb q 128) _ h in let l = ltb-true q 128 (z .0) in
         and-of (ltb q 128) _ (z .0) (mem-join x y q (omega arith) ∙ or-right (mem x q) _ (z .1))),
   )
 

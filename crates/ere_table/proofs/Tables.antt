@@ -11,7 +11,7 @@ use borrow.Author.Tests.{ltb-true}
 use Rattle.ere_meaning.specs.Tree.{Ere, place}
 use Rattle.ere_table.specs.Nexts.{Next, stop, go, Enter, Last}
 use Rattle.lists.specs.Digit.{bit}
-use Rattle.ere_table.specs.Table.{mem, row, takesAt, tableWords}
+use Rattle.ere_table.specs.Table.{mem, row, acceptsAt, tableWords}
 use Rattle.ere_table.specs.Build.{withRow, withClass, sealed, single, stops}
 use Rattle.ere_table.specs.Wiring.{nextIn, afterPlace, Tabled}
 use Rattle.ere_table.proofs.Rows.{row-same, row-other}
@@ -64,7 +64,7 @@ module _ (t first later : List ℕ) (h : length t ≡ tableWords) where
       ∙ row-same (withRow t 0 first) 1 later (simp length-set (omega arith))
 
   -- the classes are kept
-  pub finished-class : (p b : ℕ) → p < 128 → b < 256 → takesAt (finished t first later) p b ≡ takesAt t p b
+  pub finished-class : (p b : ℕ) → p < 128 → b < 256 → acceptsAt (finished t first later) p b ≡ acceptsAt t p b
   finished-class p b hp hb =
       sealed-class (withRow (withRow t 0 first) 1 later) p b hp hb
       ∙ row-class (withRow t 0 first) 1 later p b (omega arith) ∙ row-class t 0 first p b (omega arith)

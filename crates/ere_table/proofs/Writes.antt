@@ -12,7 +12,7 @@ use lib.Bits.{bitOr}
 use lib.Dec.{eqb, ltb}
 use borrow.Author.Tests.{ltb-true, ltb-false}
 use Rattle.lists.specs.Digit.{bit}
-use Rattle.ere_table.specs.Table.{row, takesAt, emptyWord, tableWords}
+use Rattle.ere_table.specs.Table.{row, acceptsAt, emptyWord, tableWords}
 use Rattle.ere_table.specs.Build.{link, withRow, linkRows, fourAt, withClass, entered, joinClass, beginTo, beginOf, emptyOf, sealed}
 use Rattle.ere_table.specs.Wiring.{beginWords, Sealed}
 use Rattle.ere_table.proofs.Rows.{apart, three}
@@ -63,10 +63,10 @@ module _ (t : List ℕ) (i : ℕ) (c : List ℕ) where
 
 -- bit b % 64 of word b / 64 of the class that was put is set exactly if the place takes the byte b
 pub class-bit : (t : List ℕ) (p : ℕ) (c : List ℕ) (b : ℕ) → length t ≡ tableWords → p < 128 → b < 256
-    → takesAt (withClass t p c) p b ≡ bit (getD c (b / 64) 0) (b % 64)
+    → acceptsAt (withClass t p c) p b ≡ bit (getD c (b / 64) 0) (b % 64)
 class-bit t p c b h hp hb = ap (λ (x : ℕ). bit x (b % 64)) (four-at t (390 + 4 * p) c (b / 64) (omega arith) (omega arith))
 
-pub class-other : (t : List ℕ) (p : ℕ) (c : List ℕ) (q b : ℕ) → (q ≡ p → ⊥) → b < 256 → takesAt (withClass t p c) q b ≡ takesAt t q b
+pub class-other : (t : List ℕ) (p : ℕ) (c : List ℕ) (q b : ℕ) → (q ≡ p → ⊥) → b < 256 → acceptsAt (withClass t p c) q b ≡ acceptsAt t q b
 class-other t p c q b h hb = ap (λ (x : ℕ). bit x (b % 64)) (four-other t (390 + 4 * p) c (390 + 4 * q + b / 64) side)
   where
     side : (390 + 4 * q + b / 64 < 390 + 4 * p) ⊎ (390 + 4 * p + 4 ≤ 390 + 4 * q + b / 64)
@@ -85,11 +85,11 @@ pub length-class : (t : List ℕ) (p : ℕ) (c : List ℕ) → length (withClass
 length-class t p c = four-length t (390 + 4 * p) c
 
 -- rows keep the classes
-pub row-class : (t : List ℕ) (r : ℕ) (x : List ℕ) (p b : ℕ) → r < 130 → takesAt (withRow t r x) p b ≡ takesAt t p b
+pub row-class : (t : List ℕ) (r : ℕ) (x : List ℕ) (p b : ℕ) → r < 130 → acceptsAt (withRow t r x) p b ≡ acceptsAt t p b
 row-class t r x p b h =
     ap (λ (y : ℕ). bit y (b % 64)) (apart t r x (390 + 4 * p + b / 64) (λ e. omega arith) (λ e. omega arith) (λ e. omega arith))
 
-pub linked-class : (t : List ℕ) (r : ℕ) (y : List ℕ) (n p b : ℕ) → r + n ≤ 130 → takesAt (linkRows t r n y) p b ≡ takesAt t p b
+pub linked-class : (t : List ℕ) (r : ℕ) (y : List ℕ) (n p b : ℕ) → r + n ≤ 130 → acceptsAt (linkRows t r n y) p b ≡ acceptsAt t p b
 unfolding linkRows
 linked-class t r y zero p b h = refl
 linked-class t r y (suc n) p b h =
@@ -108,7 +108,7 @@ module _ (t : List ℕ) where
   pub sealed-row : (r : ℕ) → r < 130 → row (sealed t) r ≡ row t r
   sealed-row r h = three (below (3 * r) (omega arith)) (below (3 * r + 1) (omega arith)) (below (3 * r + 2) (omega arith))
 
-  pub sealed-class : (p b : ℕ) → p < 128 → b < 256 → takesAt (sealed t) p b ≡ takesAt t p b
+  pub sealed-class : (p b : ℕ) → p < 128 → b < 256 → acceptsAt (sealed t) p b ≡ acceptsAt t p b
   sealed-class p b hp hb = ap (λ (y : ℕ). bit y (b % 64)) (below (390 + 4 * p + b / 64) (omega arith))
 
 -- what is gathered depends on the rows and classes only

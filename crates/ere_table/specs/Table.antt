@@ -36,8 +36,8 @@ abbrev pub noPlace : List ℕ
 noPlace = 0 ∷ 0 ∷ 0 ∷ []
 
 -- the place p takes the byte b
-abbrev pub takesAt : List ℕ → ℕ → ℕ → Bool
-takesAt t p b = bit (getD t (rowWords + 4 * p + b / 64) 0) (b % 64)
+abbrev pub acceptsAt : List ℕ → ℕ → ℕ → Bool
+acceptsAt t p b = bit (getD t (rowWords + 4 * p + b / 64) 0) (b % 64)
 
 -- a match of at least a byte can begin with the byte b, by the table
 abbrev pub begins : List ℕ → ℕ → Bool

@@ -150,7 +150,7 @@ fn empty(t: &[u64]) -> u64
 }
 
 // Writes the table's last five words, from its rows and classes.
-pub fn seal(t: &mut [u64])
+pub fn put_first_bytes(t: &mut [u64])
     requires { ⌜ length (now t) ≡ tableWords ⌝ }
     ensures { λ u. ⌜ now (t .exit) ≡ sealed (now (t .entry)) ⌝ }
 {

@@ -15,7 +15,7 @@ pub const BEGIN: usize = ROWS + CLASSES;
 // And a word that is not 0 if a match may be empty.
 pub const EMPTY: usize = BEGIN + 4;
 // Words of a table.
-pub const TABLE: usize = ROWS + CLASSES + 5;
+pub const TABLE_WORDS: usize = ROWS + CLASSES + 5;
 
 // Whether q is in the set.
 pub fn has(s: [u64; 3], q: usize) -> bool

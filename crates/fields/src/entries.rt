@@ -28,7 +28,7 @@ pub struct Located {
 }
 
 // Splits a record that isn't too long, with a room for the fields from `first` on. The table is for a separator that is an ERE.
-fn fill_with(
+fn split_with(
     record: &[u8],
     separator: &[u8],
     edition: Edition,
@@ -44,7 +44,7 @@ fn fill_with(
     if let Kind::Refused = kind {
         return Splitting::BadSeparator;
     }
-    let n = spreading::spread(record, kind, edition, t, first, spans);
+    let n = spreading::split_into(record, kind, edition, t, first, spans);
     if Edition::FIELDS < n {
         return Splitting::ManyFields;
     }
@@ -52,7 +52,7 @@ fn fill_with(
 }
 
 // Splits a record, by edition 1. A separator of one byte needs no table, and making one takes longer than such a split.
-fn fill(record: &[u8], separator: &[u8], first: usize, spans: &mut [usize]) -> Splitting
+fn split_record(record: &[u8], separator: &[u8], first: usize, spans: &mut [usize]) -> Splitting
     ensures { λ r. ⌜ (r ≡ answer (splitOf 1 (now (separator .entry)) (now («record» .entry))))
         × (now (spans .exit) ≡ roomOf 1 (now (separator .entry)) (now («record» .entry)) first (now (spans .entry))) ⌝ }
 {
@@ -61,11 +61,11 @@ fn fill(record: &[u8], separator: &[u8], first: usize, spans: &mut [usize]) -> S
         return Splitting::LongRecord;
     }
     if 1 < separator.len() {
-        let mut t = [0u64; ere_table::TABLE];
-        return fill_with(record, separator, edition, &mut t, first, spans);
+        let mut t = [0u64; ere_table::TABLE_WORDS];
+        return split_with(record, separator, edition, &mut t, first, spans);
     }
     let mut t = [0u64; 1];
-    fill_with(record, separator, edition, &mut t, first, spans)
+    split_with(record, separator, edition, &mut t, first, spans)
 }
 
 // The outcome of splitting a record, with the number of its fields.
@@ -73,7 +73,7 @@ pub fn split(record: &[u8], separator: &[u8]) -> Splitting
     ensures { λ r. ⌜ r ≡ answer (splitOf 1 (now (separator .entry)) (now («record» .entry))) ⌝ }
 {
     let mut none = [0usize; 1];
-    fill(record, separator, 0, &mut none)
+    split_record(record, separator, 0, &mut none)
 }
 
 // The number before k.
@@ -93,7 +93,7 @@ pub fn locate(record: &[u8], separator: &[u8], k: usize) -> Located
 {
     let mut spans = [0usize; 2];
     let end = record.len();
-    let s = fill(record, separator, previous(k), &mut spans);
+    let s = split_record(record, separator, previous(k), &mut spans);
     if let Splitting::Fields(n) = s {
         if k == 0 {
             return Located {

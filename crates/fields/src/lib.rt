@@ -7,4 +7,4 @@ pub use entries::Splitting;
 pub use entries::field;
 pub use entries::locate;
 pub use entries::split;
-pub use spans::spread;
+pub use spans::split_into;

@@ -9,12 +9,12 @@ use native.Mathlib.Nat.{zero-add}
 use lib.ListN.{length, drop}
 use lib.Dec.{eqb}
 use borrow.Author.Tests.{le-leb, lt-leb, ne-eqb}
+use Rattle.lists.proofs.Options.{some-one, none-some}
+use Rattle.lists.specs.Parsing.{Parsed}
 use Rattle.edition.specs.Outcomes.{done, roomTooSmall, imageMalformed}
-use Rattle.ere_grammar.specs.Read.{Got}
 use Rattle.image_format.specs.Image.{Image}
 use Rattle.image_format.specs.Reading.{Source, readImage}
 use Rattle.image_format.specs.Writing.{written}
-use Rattle.image_format.proofs.Laws.{got-one, none-some}
 use Rattle.varint.specs.Room.{withAll}
 use Rattle.varint.proofs.Words.{all-fits}
 use Rattle.image_stages.specs.Transcript.{transcript, endedWith, mapped}
@@ -29,13 +29,13 @@ abbrev onto : List ℕ → Option (List ℕ) → Option Laid
 onto room none = none
 onto room (some w) = some (record { count = length w; room = withAll room 0 w; left = [] })
 
-onto-ended : (room : List ℕ) (o : Option (Got (List ℕ))) → nothingLeft (laid room 0 o) ≡ onto room (endedWith o)
+onto-ended : (room : List ℕ) (o : Option (Parsed (List ℕ))) → nothingLeft (laid room 0 o) ≡ onto room (endedWith o)
 unfolding laid
 onto-ended room none = refl
-onto-ended room (some g) = by (g .left)
+onto-ended room (some g) = by (g .rest)
   where
-    by : (left : List ℕ) → nothingLeft (some (record { count = 0 + length (g .it); room = withAll room 0 (g .it); left = left }))
-        ≡ onto room (cond (eqb (length left) 0) (some (g .it)) none)
+    by : (left : List ℕ) → nothingLeft (some (record { count = 0 + length (g .value); room = withAll room 0 (g .value); left = left }))
+        ≡ onto room (cond (eqb (length left) 0) (some (g .value)) none)
     by [] = rw zero-add
     by (x ∷ t) = rw (ne-eqb (suc (length t)) 0 (λ e. omega arith))
 
@@ -55,7 +55,7 @@ module _ (source : Source) (write : ℕ → List ℕ) where
     where
       by : (x : Bool) → r .ok ≡ x → (r .ok ≡ true) × (r .count ≡ length (written write i)) × (room' ≡ withAll room 0 (written write i))
       by true e =
-          let z = got-one {o = onto room (some (written write i))} (p .whole e) refl in
+          let z = some-one {o = onto room (some (written write i))} (p .whole e) refl in
           (e, ap (λ (x : Laid). x .count) z, ap (λ (x : Laid). x .room) z)
       by false e = absurd (none-some (sym (p .refused e)))
 

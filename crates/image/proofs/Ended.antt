@@ -9,7 +9,7 @@ use native.Mathlib.Nat.{add-zero}
 use lib.ListN.{length, drop, length-drop, drop-of-length-le}
 use lib.Dec.{eqb}
 use borrow.Author.Tests.{eqb-true, eqb-false, ne-eqb}
-use Rattle.ere_grammar.specs.Read.{got}
+use Rattle.lists.specs.Parsing.{parsed}
 use Rattle.image_format.specs.Reading.{Source}
 use Rattle.varint.specs.Room.{withAll}
 use Rattle.image_stages.specs.Transcript.{transcript}
@@ -37,7 +37,7 @@ module _ (source : Source) (write : ℕ → List ℕ) where
 
     module _ (room : List ℕ) (p : Pass) (g : Going room p) where
       -- an image that is whole is one only where nothing follows
-      alone : (x : Bool) → nothingLeft (laid room (p .count) (cond x (got [] (drop (p .at) l)) none))
+      alone : (x : Bool) → nothingLeft (laid room (p .count) (cond x (parsed [] (drop (p .at) l)) none))
           ≡ cond (x && eqb (p .at) (length l)) (some (record { count = p .count; room = room; left = [] })) none
       unfolding laid withAll
       alone false = refl

@@ -10,11 +10,11 @@ use lib.ListN.{length, drop, getD, drop-of-length-le}
 use lib.Seq.{drop-cons}
 use lib.Dec.{leb}
 use borrow.Author.Tests.{le-leb, lt-leb, leb-true}
+use Rattle.lists.proofs.Options.{some-one, none-some}
+use Rattle.lists.specs.Parsing.{Parsed, parsed}
 use Rattle.edition.specs.Limits.{numberBound}
-use Rattle.ere_grammar.specs.Read.{Got, got}
 use Rattle.image_format.specs.Numbers.{coded}
-use Rattle.image_format.specs.Reading.{Source, upTo, fromBytes, fromWords}
-use Rattle.image_format.proofs.Laws.{got-one, none-some}
+use Rattle.image_format.specs.Reading.{Source, wordUpTo, fromBytes, fromWords}
 use Rattle.image_stages.specs.Stages.{isByte, mostAt, takenAt, writtenAt}
 use Rattle.image_stages.specs.declared.stages.Stage.{Stage}
 use Rattle.varint.specs.Take.{TakesAt}
@@ -26,29 +26,29 @@ use Rattle.image.specs.Pass.{TakesStage}
 -- ---- a word up to a bound
 
 module _ (l : List ℕ) (at most : ℕ) where
-  pub up-taken : at < length l → getD l at 0 ≤ most → upTo most (drop at l) ≡ got (getD l at 0) (drop (at + 1) l)
+  pub up-taken : at < length l → getD l at 0 ≤ most → wordUpTo most (drop at l) ≡ parsed (getD l at 0) (drop (at + 1) l)
   up-taken h b = rw (add-one at, drop-cons l at 0 h, le-leb (getD l at 0) most b)
 
-  pub up-over : at < length l → most < getD l at 0 → upTo most (drop at l) ≡ none
+  pub up-over : at < length l → most < getD l at 0 → wordUpTo most (drop at l) ≡ none
   up-over h b = rw (drop-cons l at 0 h, lt-leb (getD l at 0) most b)
 
-  pub up-out : length l ≤ at → upTo most (drop at l) ≡ none
-  up-out h = ap (upTo most) (drop-of-length-le l {i = at} h)
+  pub up-out : length l ≤ at → wordUpTo most (drop at l) ≡ none
+  up-out h = ap (wordUpTo most) (drop-of-length-le l {i = at} h)
 
-up-most : (most : ℕ) (l : List ℕ) (v : ℕ) (t : List ℕ) → upTo most l ≡ got v t → v ≤ most
+up-most : (most : ℕ) (l : List ℕ) (v : ℕ) (t : List ℕ) → wordUpTo most l ≡ parsed v t → v ≤ most
 up-most most [] v t h = absurd (none-some h)
 up-most most (w ∷ l) v t h = by (leb w most) refl h
   where
-    by : (x : Bool) → leb w most ≡ x → cond x (got w l) none ≡ got v t → v ≤ most
-    by true e h = omega (arith, leb-true w most e, ap (λ (g : Got ℕ). g .it) (got-one refl h))
+    by : (x : Bool) → leb w most ≡ x → cond x (parsed w l) none ≡ parsed v t → v ≤ most
+    by true e h = omega (arith, leb-true w most e, ap (λ (g : Parsed ℕ). g .value) (some-one refl h))
     by false e h = absurd (none-some h)
 
 module _ (stage : Stage) where
   -- words come at each stage up to a bound
-  pub words-at : (l : List ℕ) → takenAt fromWords stage l ≡ upTo (mostAt stage) l
+  pub words-at : (l : List ℕ) → takenAt fromWords stage l ≡ wordUpTo (mostAt stage) l
   words-at l = by (isByte stage)
     where
-      by : (x : Bool) → cond x (upTo 255 l) (upTo numberBound l) ≡ upTo (cond x 255 numberBound) l
+      by : (x : Bool) → cond x (wordUpTo 255 l) (wordUpTo numberBound l) ≡ wordUpTo (cond x 255 numberBound) l
       by true = refl
       by false = refl
 

@@ -7,8 +7,8 @@ use Prim.Native.Nat.{ℕ, suc, _+_, _*_, _-_, _≤_, _<_}
 use native.Mathlib.Omega.{arith}
 use native.Mathlib.Nat.{mul-suc, mul-le-mul}
 use lib.ListN.{length, drop, length-append}
-use Rattle.ere_grammar.specs.Read.{Got, got}
-use Rattle.image_format.specs.Reading.{Source, then}
+use Rattle.lists.specs.Parsing.{Parsed, parsed, bind}
+use Rattle.image_format.specs.Reading.{Source}
 use Rattle.varint.specs.Room.{withAll}
 use Rattle.varint.specs.declared.numbers.Taken.the-variants.{Number}
 use Rattle.varint.proofs.Words.{all-append}
@@ -21,12 +21,12 @@ use Rattle.image.specs.Pass.{TakesStage, comesTo, Within, leftOf, Turns}
 use Rattle.image.specs.declared.passes.Pass.{Pass}
 
 -- what is written now, and the rest behind it
-pub laid-before : (room : List ℕ) (k : ℕ) (ws : List ℕ) (o : Option (Got (List ℕ))) → laid room k (before ws o) ≡ laid (withAll room k ws) (k + length ws) o
+pub laid-before : (room : List ℕ) (k : ℕ) (ws : List ℕ) (o : Option (Parsed (List ℕ))) → laid room k (before ws o) ≡ laid (withAll room k ws) (k + length ws) o
 unfolding laid
 laid-before room k ws none = refl
 laid-before room k ws (some g) =
-    let n : k + length (ws ++ g .it) ≡ k + length ws + length (g .it) = omega (arith, length-append ws (g .it)) in
-    ap₂ (λ (c : ℕ) (r : List ℕ). some (record { count = c; room = r; left = g .left })) n (all-append room k ws (g .it))
+    let n : k + length (ws ++ g .value) ≡ k + length ws + length (g .value) = omega (arith, length-append ws (g .value)) in
+    ap₂ (λ (c : ℕ) (r : List ℕ). some (record { count = c; room = r; left = g .rest })) n (all-append room k ws (g .value))
 
 module _ (source : Source) (write : ℕ → List ℕ) (most : ℕ) (l room : List ℕ) (p : Pass) (w : Within most l p) (opens : isOpen (p .state .stage) ≡ true) where
   -- what is left of a pass that goes on
@@ -34,10 +34,10 @@ module _ (source : Source) (write : ℕ → List ℕ) (most : ℕ) (l room : Lis
   open-left = rw opens
 
   -- what a pass comes to by what is taken
-  abbrev step : Option (Got ℕ) → Option Laid
-  step o = laid room (p .count) (then o (λ v t. before (writtenAt source write (p .state .stage) v) (rest source write (after (p .state) v) t)))
+  abbrev step : Option (Parsed ℕ) → Option Laid
+  step o = laid room (p .count) (bind o (λ v t. before (writtenAt source write (p .state .stage) v) (rest source write (after (p .state) v) t)))
 
-  comes-step : (o : Option (Got ℕ)) → takenAt source (p .state .stage) (drop (p .at) l) ≡ o → comesTo source write l room p ≡ step o
+  comes-step : (o : Option (Parsed ℕ)) → takenAt source (p .state .stage) (drop (p .at) l) ≡ o → comesTo source write l room p ≡ step o
   unfolding comesTo
   comes-step o e = ap (laid room (p .count)) (rest-step source write (p .state) opens (drop (p .at) l)) ∙ ap step e
 
@@ -57,7 +57,7 @@ module _ (source : Source) (write : ℕ → List ℕ) (most : ℕ) (l room : Lis
           ap₂ (λ (x : List ℕ) (y : ℕ). laid x y (rest source write next (drop n l))) r c
           ∙ ap (λ (z : State). laid (withAll room (p .count) ws) (p .count + length ws) (rest source write z (drop n l))) s
           ∙ sym (laid-before room (p .count) ws (rest source write (after (p .state) v) (drop n l)))
-          ∙ sym (comes-step (got v (drop n l)) (t .0))
+          ∙ sym (comes-step (parsed v (drop n l)) (t .0))
 
       bound : count ≤ most * n
       bound =

@@ -3,7 +3,7 @@ use mathlib.Core.List.{List}
 use mathlib.Core.Option.{Option, some, none}
 use Prim.Native.Nat.{ℕ, _+_}
 use lib.ListN.{length}
-use Rattle.ere_grammar.specs.Read.{Got}
+use Rattle.lists.specs.Parsing.{Parsed}
 use Rattle.varint.specs.Room.{withAll}
 
 -- how many elements there are, what the room has then, and what is left of the source
@@ -13,6 +13,6 @@ pub record Laid : Type 0 where
   pub left : List ℕ
 
 -- what is still to be written goes to the room from index k on
-unfoldable pub laid : List ℕ → ℕ → Option (Got (List ℕ)) → Option Laid
+unfoldable pub laid : List ℕ → ℕ → Option (Parsed (List ℕ)) → Option Laid
 laid room k none = none
-laid room k (some g) = some (record { count = k + length (g .it); room = withAll room k (g .it); left = g .left })
+laid room k (some g) = some (record { count = k + length (g .value); room = withAll room k (g .value); left = g .rest })

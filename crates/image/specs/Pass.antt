@@ -6,7 +6,7 @@ use mathlib.Core.Option.{Option, some, none}
 use Prim.Native.Nat.{ℕ, suc, _*_, _-_, _≤_, _<_}
 use lib.ListN.{length, drop}
 use lib.Dec.{eqb}
-use Rattle.ere_grammar.specs.Read.{got}
+use Rattle.lists.specs.Parsing.{parsed}
 use Rattle.image_format.specs.Reading.{Source}
 use Rattle.image.specs.Laid.{Laid, laid}
 use Rattle.image_stages.specs.Transcript.{transcript}
@@ -25,7 +25,7 @@ nothingLeft (some x) = cond (eqb (length (x .left)) 0) (some x) none
 module _ (source : Source) where
   -- what was taken at a stage, off the list from a place on, or that there is nothing to take
   abbrev pub TakesStage : List ℕ → Stage → ℕ → Taken → Type 0
-  TakesStage l stage at (Number v n) = (takenAt source stage (drop at l) ≡ got v (drop n l)) × (at < n) × (n ≤ length l)
+  TakesStage l stage at (Number v n) = (takenAt source stage (drop at l) ≡ parsed v (drop n l)) × (at < n) × (n ≤ length l)
   TakesStage l stage at Nothing = takenAt source stage (drop at l) ≡ none
 
   module _ (write : ℕ → List ℕ) where

@@ -8,36 +8,39 @@ use native.Mathlib.Omega.{arith}
 use lib.Dec.{eqb}
 use lib.ListN.{length, drop, length-drop}
 use borrow.Author.Tests.{le-leb, eq-eqb, eqb-true}
+use Rattle.image_index.proofs.Following.{read-made}
+use Rattle.image_index.specs.Header.{SectionsIn, Follows, HeaderAt}
+use Rattle.lists.proofs.Tests.{and-true}
+use Rattle.lists.specs.Elements.{allFrom}
 use Rattle.edition.specs.Limits.{userNames}
 use Rattle.edition.specs.Outcomes.{done, imageMalformed, imageFailsCheck}
 use Rattle.image_format.specs.Codes.{next}
 use Rattle.image_format.specs.Image.{Image}
-use Rattle.image_format.specs.Reading.{fromBytes, upTo, counted, instruction, readImage}
+use Rattle.image_format.specs.Reading.{fromBytes, wordUpTo, counted, instruction, readImage}
 use Rattle.image_format.proofs.Consequences.{reading-back}
-use Rattle.semantics.specs.Moves.{Section, begin, each, finish, sectionOf}
-use Rattle.semantics.specs.Check.{instructionChecks, allFrom, flowAllowed, sectionChecks, check}
+use Rattle.semantics.specs.Moves.{Section, begin, main, end, sectionOf}
+use Rattle.semantics.specs.Check.{instructionChecks, flowAllowed, sectionChecks, check}
 use Rattle.semantics.proofs.ImageSizes.{image-bytes}
 use Rattle.image.specs.Copy.{isImage}
 use Rattle.image_index.specs.Lists.{Fits, ListAt}
-use Rattle.image_index.specs.declared.lists.Kind.the-variants.{Constants, Eres, Instructions}
-use Rattle.image_index.specs.declared.lists.Listed.{Listed}
+use Rattle.image_index.specs.declared.indexes.Kind.the-variants.{Constants, Eres, Instructions}
+use Rattle.image_index.specs.declared.indexes.Listed.{Listed}
 use Rattle.image_index.proofs.Standing.{never}
-use Rattle.image_check.specs.Judge.{RulesOf, Judges}
-use Rattle.image_check.specs.Sections.{SectionsIn, Follows, Decides, SectionJudged, ImageJudged, HeaderAt, SectionsJudged}
+use Rattle.image_check.specs.Judge.{ContextOf, Judges}
+use Rattle.image_check.specs.Sections.{Decides, SectionJudged, ImageJudged, SectionsJudged}
 use Rattle.image_check.specs.Verdict.{judged, checkOf}
-use Rattle.image_check.specs.declared.rules.Rules.{Rules}
-use Rattle.image_check.specs.declared.checking.Header.{Header}
-use Rattle.image_check.proofs.Following.{read-made}
+use Rattle.image_check.specs.declared.context.Context.{Context}
+use Rattle.image_index.specs.declared.header.Header.{Header}
 use Rattle.image_check.proofs.Fitting.{and-both, unchecked, section-refuses, constants-fit, eres-fit, section-fits, check-all, list-refused, list-found}
 
 -- ---- one section
 
-module _ (rules : Rules) (l : List ℕ) (at : ℕ) (r : Listed) (index : List ℕ) (x : ListAt (rules .edition) Instructions l at r index) where
+module _ (context : Context) (l : List ℕ) (at : ℕ) (r : Listed) (index : List ℕ) (x : ListAt (context .edition) Instructions l at r index) where
   -- the list, in the image's edition
-  listed : (i : Image) (s : Section) → RulesOf rules i s → ListAt (i .edition) Instructions l at r index
+  listed : (i : Image) (s : Section) → ContextOf context i s → ListAt (i .edition) Instructions l at r index
   listed i s q = subst (λ (e : ℕ). ListAt e Instructions l at r index) (q .edition) x
 
-  pub section-unfit : r .ok ≡ false → SectionJudged rules l at r
+  pub section-unfit : r .ok ≡ false → SectionJudged context l at r
   section-unfit h =
       record {
         inside = λ g. never h g;
@@ -51,7 +54,7 @@ module _ (rules : Rules) (l : List ℕ) (at : ℕ) (r : Listed) (index : List �
         );
       }
 
-  pub section-judged : r .ok ≡ true → (ok : Bool) → Judges rules index (r .count) ok → SectionJudged rules l at (record { ok = ok; count = r .count; end = r .end })
+  pub section-judged : r .ok ≡ true → (ok : Bool) → Judges context index (r .count) ok → SectionJudged context l at (record { ok = ok; count = r .count; end = r .end })
   section-judged h ok j =
       record {
         inside = λ g. x .found h .1 .inside;
@@ -68,10 +71,10 @@ module _ (rules : Rules) (l : List ℕ) (at : ℕ) (r : Listed) (index : List �
 -- ---- the three sections
 
 -- a section in front of what follows it
-section-first : (rules : Rules) (l : List ℕ) (at : ℕ) (b : Listed) → SectionJudged rules l at b → (i : Image) (s : Section) → RulesOf rules i s
+section-first : (context : Context) (l : List ℕ) (at : ℕ) (b : Listed) → SectionJudged context l at b → (i : Image) (s : Section) → ContextOf context i s
     → (K : List ℕ → Type 0) → Follows (instruction fromBytes (i .edition)) (sectionOf i s) K (drop at l)
     → (Decides i (b .ok) (sectionChecks i s)) × (b .ok ≡ true → K (drop (b .end) l))
-section-first rules l at b x i s q K p =
+section-first context l at b x i s q K p =
     let f = x .judged i s (p .0) q (p .1) in
     (f .0, λ g. subst K (f .1 g) (p .2))
 
@@ -87,59 +90,55 @@ decides-all true d k = sym (k (d .passed refl))
 decides-all false d k = sym (d .refused refl)
 
 -- a list that ends where the bytes do, if there is one
-ends-it : (b : Bool) (l : List ℕ) (end : ℕ) → (b ≡ true → end ≤ length l) → (b ≡ true → length (drop end l) ≡ 0) → b ≡ (b && eqb end (length l))
-ends-it true l end k h = sym (eq-eqb end (length l) (omega (arith, length-drop end l, h refl, k refl)))
-ends-it false l end k h = refl
-
-both-of : (a b : Bool) → (a && b) ≡ true → (a ≡ true) × (b ≡ true)
-both-of true b h = (refl, h)
-both-of false b h = never refl h
+ends-it : (b : Bool) (l : List ℕ) (e : ℕ) → (b ≡ true → e ≤ length l) → (b ≡ true → length (drop e l) ≡ 0) → b ≡ (b && eqb e (length l))
+ends-it true l e k h = sym (eq-eqb e (length l) (omega (arith, length-drop e l, h refl, k refl)))
+ends-it false l e k h = refl
 
 -- nothing is left at the end
-none-left : (l : List ℕ) (end : ℕ) → end ≡ length l → length (drop end l) ≡ 0
-none-left l end h = omega (arith, length-drop end l)
+none-left : (l : List ℕ) (e : ℕ) → e ≡ length l → length (drop e l) ≡ 0
+none-left l e h = omega (arith, length-drop e l)
 
 module _ (edition users constants eres : ℕ) where
-  abbrev rulesBy : Bool → Rules
-  rulesBy records = record { edition = edition; users = users; constants = constants; eres = eres; records = records }
+  abbrev contextBy : Bool → Context
+  contextBy records = record { edition = edition; users = users; constants = constants; eres = eres; main = records }
 
-  rules-of : (i : Image) (s : Section) → edition ≡ i .edition → users ≡ i .users → constants ≡ length (i .constants) → eres ≡ length (i .eres)
-      → RulesOf (rulesBy (flowAllowed i s next)) i s
-  rules-of i s e u c r = record { edition = e; users = u; constants = c; eres = r; nexts = refl }
+  context-of : (i : Image) (s : Section) → edition ≡ i .edition → users ≡ i .users → constants ≡ length (i .constants) → eres ≡ length (i .eres)
+      → ContextOf (contextBy (flowAllowed i s next)) i s
+  context-of i s e u c r = record { edition = e; users = u; constants = c; eres = r; nexts = refl }
 
-  module _ (l : List ℕ) (at : ℕ) (b : Listed) (x : SectionJudged (rulesBy false) l at b) where
+  module _ (l : List ℕ) (at : ℕ) (b : Listed) (x : SectionJudged (contextBy false) l at b) where
     pub first-refused : b .ok ≡ false → SectionsJudged edition users constants eres l at false
     first-refused h =
         record {
-          judged = λ i e u c r p. decides-no _ (section-first (rulesBy false) l at b x i begin (rules-of i begin e u c r) _ p .0) h;
+          judged = λ i e u c r p. decides-no _ (section-first (contextBy false) l at b x i begin (context-of i begin e u c r) _ p .0) h;
           there = λ g. never refl g;
         }
 
-    module _ (first-ok : b .ok ≡ true) (d : Listed) (y : SectionJudged (rulesBy true) l (b .end) d) where
+    module _ (first-ok : b .ok ≡ true) (d : Listed) (y : SectionJudged (contextBy true) l (b .end) d) where
       -- the record section, behind the first
       second : (i : Image) → edition ≡ i .edition → users ≡ i .users → constants ≡ length (i .constants) → eres ≡ length (i .eres) → SectionsIn i (drop at l)
-          → (Decides i (b .ok) (sectionChecks i begin)) × (Decides i (d .ok) (sectionChecks i each))
-          × (d .ok ≡ true → Follows (instruction fromBytes (i .edition)) (i .ends) (λ t. length t ≡ 0) (drop (d .end) l))
+          → (Decides i (b .ok) (sectionChecks i begin)) × (Decides i (d .ok) (sectionChecks i main))
+          × (d .ok ≡ true → Follows (instruction fromBytes (i .edition)) (i .end) (λ t. length t ≡ 0) (drop (d .end) l))
       second i e u c r p =
-          let one = section-first (rulesBy false) l at b x i begin (rules-of i begin e u c r) _ p in
-          let two = section-first (rulesBy true) l (b .end) d y i each (rules-of i each e u c r) _ (one .1 first-ok) in
+          let one = section-first (contextBy false) l at b x i begin (context-of i begin e u c r) _ p in
+          let two = section-first (contextBy true) l (b .end) d y i main (context-of i main e u c r) _ (one .1 first-ok) in
           (one .0, two .0, two .1)
 
       pub second-refused : d .ok ≡ false → SectionsJudged edition users constants eres l at false
       second-refused h = record { judged = λ i e u c r p. decides-no _ (second i e u c r p .1) h; there = λ g. never refl g }
 
-      pub third-judged : d .ok ≡ true → (f : Listed) → SectionJudged (rulesBy false) l (d .end) f → (ok : Bool) → ok ≡ (f .ok && eqb (f .end) (length l))
+      pub third-judged : d .ok ≡ true → (f : Listed) → SectionJudged (contextBy false) l (d .end) f → (ok : Bool) → ok ≡ (f .ok && eqb (f .end) (length l))
           → SectionsJudged edition users constants eres l at ok
       third-judged second-ok f z ok o =
           record {
             judged = λ i e u c r p.
                 let two = second i e u c r p in
-                let three = section-first (rulesBy false) l (d .end) f z i finish (rules-of i finish e u c r) _ (two .2 second-ok) in
+                let three = section-first (contextBy false) l (d .end) f z i end (context-of i end e u c r) _ (two .2 second-ok) in
                 let same : f .ok ≡ ok = ends-it (f .ok) l (f .end) (z .inside) (three .1) ∙ sym o in
-                let last : Decides i ok (sectionChecks i finish) = subst (λ (a : Bool). Decides i a (sectionChecks i finish)) same (three .0) in
+                let last : Decides i ok (sectionChecks i end) = subst (λ (a : Bool). Decides i a (sectionChecks i end)) same (three .0) in
                 decides-then (two .0) first-ok (decides-then (two .1) second-ok last);
             there = λ g.
-                let h = both-of _ _ (sym o ∙ g) in
+                let h = and-true _ _ (sym o ∙ g) in
                 let one = x .there first-ok in
                 let two = y .there second-ok in
                 let three = z .there (h .0) in
@@ -186,11 +185,11 @@ module _ (l : List ℕ) (h : Header) (x : HeaderAt l h) where
         -- the constants, and the EREs and sections behind them
         behind : (i : Image) (r : readImage fromBytes l ≡ some i)
             → (c .count ≡ length (i .constants)) × (Fits (i .edition) Constants l (i .constants))
-            × (Follows (counted fromBytes (upTo 255)) (i .eres) (SectionsIn i) (drop (c .end) l))
+            × (Follows (counted fromBytes (wordUpTo 255)) (i .eres) (SectionsIn i) (drop (c .end) l))
         behind i r =
             let f = x .found there i r in
             let k = list-found i Constants (i .constants) l (h .at) c index (constants-listed i r) (f .2 .0) (f .2 .1) constants-ok in
-            (k .1, k .2, subst (Follows (counted fromBytes (upTo 255)) (i .eres) (SectionsIn i)) (k .0) (f .2 .2))
+            (k .1, k .2, subst (Follows (counted fromBytes (wordUpTo 255)) (i .eres) (SectionsIn i)) (k .0) (f .2 .2))
 
         pub eres-refused : e .ok ≡ false → ImageJudged l false
         eres-refused g =
@@ -211,9 +210,9 @@ module _ (l : List ℕ) (h : Header) (x : HeaderAt l h) where
                 users = h .users;
                 constants = k .0;
                 eres = f .0;
-                begins = s .0;
-                records = s .1;
-                ends = s .2;
+                begin = s .0;
+                main = s .1;
+                end = s .2;
               } in
               (i, read-made l i (n .0, n .1, n .2, (drop (h .at) l, n .3, (drop (c .end) l, k .1 .taken, (drop (e .end) l, f .1 .taken, s .3)))))
 

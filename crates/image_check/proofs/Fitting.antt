@@ -7,22 +7,22 @@ use Prim.Native.Nat.{ℕ, suc, _≤_}
 use native.Mathlib.Omega.{arith}
 use lib.ListN.{length, drop}
 use borrow.Author.Tests.{le-leb}
+use Rattle.image_index.proofs.Following.{taken-same}
+use Rattle.lists.proofs.Elements.{every-of}
+use Rattle.lists.specs.Elements.{nth, Every, all, isSome, empty, cons}
+use Rattle.lists.specs.Parsing.{parsed}
 use Rattle.edition.specs.Limits.{userNames}
-use Rattle.ere_grammar.specs.Read.{got}
-use Rattle.image_format.specs.Codes.{nth}
-use Rattle.image_format.specs.Formed.{Every, none as no-more, both}
 use Rattle.image_format.specs.Image.{Constant, number, text, Image}
 use Rattle.image_format.specs.Reading.{fromBytes, counted}
-use Rattle.semantics.specs.Moves.{Section, begin, each, finish, sectionOf}
-use Rattle.semantics.specs.Check.{all, isSome, smallConstant, sectionChecks, check}
+use Rattle.semantics.specs.Moves.{Section, begin, main, end, sectionOf}
+use Rattle.semantics.specs.Check.{smallConstant, sectionChecks, check}
 use Rattle.semantics.specs.Checked.{Short, Checked}
 use Rattle.semantics.proofs.Checks.{check-exactly}
 use Rattle.semantics.proofs.ImageSizes.{instruction-small}
 use Rattle.image_index.specs.Lists.{ItemOf, takerOf, FitsOf, Indexes, Fits, ListAt}
-use Rattle.image_index.specs.declared.lists.Kind.{Kind}
-use Rattle.image_index.specs.declared.lists.Kind.the-variants.{Constants, Eres, Instructions}
-use Rattle.image_index.specs.declared.lists.Listed.{Listed}
-use Rattle.image_check.proofs.Following.{taken-same}
+use Rattle.image_index.specs.declared.indexes.Kind.{Kind}
+use Rattle.image_index.specs.declared.indexes.Kind.the-variants.{Constants, Eres, Instructions}
+use Rattle.image_index.specs.declared.indexes.Listed.{Listed}
 
 -- ---- tests
 
@@ -34,16 +34,9 @@ not-so : (b : Bool) → (b ≡ true → ⊥) → b ≡ false
 not-so true h = absurd (h refl)
 not-so false h = refl
 
--- ---- lists
-
-every-nth : {A : Type 0} {P : A → Type 0} (l : List A) → ((n : ℕ) (a : A) → nth l n ≡ some a → P a) → Every P l
-unfolding nth
-every-nth [] h = no-more
-every-nth (a ∷ l) h = both (h 0 a refl) (every-nth l (λ n b e. h (suc n) b e))
-
 all-every : {A : Type 0} {P : A → Type 0} {f : A → Bool} {l : List A} → ((a : A) → P a → f a ≡ true) → Every P l → all f l ≡ true
-all-every h no-more = refl
-all-every h (both {a} p e) = and-both _ _ (h a p) (all-every h e)
+all-every h empty = refl
+all-every h (cons {a} p e) = and-both _ _ (h a p) (all-every h e)
 
 module _ (i : Image) where
   -- ---- what the check refuses
@@ -54,8 +47,8 @@ module _ (i : Image) where
   pub section-refuses : (s : Section) → sectionChecks i s ≡ false → check i ≡ false
   unfolding check
   section-refuses begin e = rw e (simp and-false)
-  section-refuses each e = rw e (simp and-false)
-  section-refuses finish e = rw e (simp and-false)
+  section-refuses main e = rw e (simp and-false)
+  section-refuses end e = rw e (simp and-false)
 
   -- ---- what fits
 
@@ -72,24 +65,24 @@ module _ (i : Image) where
     constants-fit = record {
       some-items = omega arith;
       few = c .constants;
-      each = every-nth (i .constants) (λ n a h. constant-fits a (c .texts n a h));
+      each = every-of (i .constants) (λ n a h. constant-fits a (c .texts n a h));
     }
 
     pub eres-fit : Fits (i .edition) Eres l (i .eres)
-    eres-fit = record { some-items = omega arith; few = c .eres; each = every-nth (i .eres) (c .reads) }
+    eres-fit = record { some-items = omega arith; few = c .eres; each = every-of (i .eres) (c .reads) }
 
     pub section-fits : (s : Section) → Fits (i .edition) Instructions l (sectionOf i s)
     section-fits s = record {
       some-items = c .some-code s;
       few = c .few s;
-      each = every-nth (sectionOf i s) (λ n j h.
+      each = every-of (sectionOf i s) (λ n j h.
           let x = instruction-small i c s n j h in
           (x .depth, x .numbers));
     }
 
   -- lists that fit, and sections that pass, are all of the check
   pub check-all : (l : List ℕ) → i .users ≤ userNames → Fits (i .edition) Constants l (i .constants) → Fits (i .edition) Eres l (i .eres)
-      → (sectionChecks i begin && (sectionChecks i each && sectionChecks i finish)) ≡ true → check i ≡ true
+      → (sectionChecks i begin && (sectionChecks i main && sectionChecks i end)) ≡ true → check i ≡ true
   unfolding check
   check-all l u c e s =
       and-both _ _
@@ -100,7 +93,7 @@ module _ (i : Image) where
   -- ---- a list by what the code found
 
   module _ (k : Kind) (xs : List (ItemOf k)) (l : List ℕ) (at : ℕ) (r : Listed) (index : List ℕ) (x : ListAt (i .edition) k l at r index)
-      (t : List ℕ) (e : counted fromBytes (takerOf (i .edition) k) (drop at l) ≡ got xs t) where
+      (t : List ℕ) (e : counted fromBytes (takerOf (i .edition) k) (drop at l) ≡ parsed xs t) where
     pub list-refused : (Checked i → Fits (i .edition) k l xs) → r .ok ≡ false → check i ≡ false
     list-refused fit h = unchecked (λ c. x .refused h xs t e (fit c))
 

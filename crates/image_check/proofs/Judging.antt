@@ -9,18 +9,20 @@ use native.Mathlib.Omega.{arith}
 use lib.ListN.{length, take, drop, getD}
 use lib.Dec.{eqb, ltb}
 use borrow.Author.Tests.{ltb-true, ltb-false}
-use Rattle.image_format.specs.Codes.{nth, next, Code, codes, codeOf}
+use Rattle.lists.proofs.Options.{some-one, none-some}
+use Rattle.lists.proofs.Elements.{nth-none}
+use Rattle.lists.specs.Elements.{nth, allFrom}
+use Rattle.image_format.specs.Codes.{next, Code, codes, codeOf}
 use Rattle.image_format.specs.Image.{Instruction, Image}
-use Rattle.image_format.proofs.Laws.{got-one, none-some}
 use Rattle.opcodes.specs.Rows.{rows, operandsIn}
 use Rattle.semantics.specs.Moves.{Section, sectionOf}
-use Rattle.semantics.specs.Check.{allFrom, depthIs, flowAllowed, holdsFor, byCode, instructionChecks}
+use Rattle.semantics.specs.Check.{depthIs, flowAllowed, holdsFor, byCode, instructionChecks}
 use Rattle.semantics.proofs.Tables.{nth-some}
 use Rattle.image_index.specs.Stands.{instructionOf}
 use Rattle.image_index.specs.Lists.{Indexes}
-use Rattle.image_index.specs.declared.lists.Kind.the-variants.{Instructions}
-use Rattle.image_check.specs.Judge.{judgedBy, hasDepth, judgedAt, RulesOf, Judges}
-use Rattle.image_check.specs.declared.rules.Rules.{Rules}
+use Rattle.image_index.specs.declared.indexes.Kind.the-variants.{Instructions}
+use Rattle.image_check.specs.Judge.{judgedBy, hasDepth, judgedAt, ContextOf, Judges}
+use Rattle.image_check.specs.declared.context.Context.{Context}
 
 -- each element with its number, the first of which is n
 abbrev AllFrom : {A : Type 0} → (ℕ → A → Type 0) → ℕ → List A → Type 0
@@ -32,23 +34,15 @@ unfolding nth
 from-of P m [] x n k a h e = absurd (none-some h)
 from-of P m (b ∷ l) x zero k a h e =
     let here : k ≡ m = omega arith in
-    rw (← (got-one refl h), here) (x .0)
+    rw (← (some-one refl h), here) (x .0)
 from-of P m (b ∷ l) x (suc n) k a h e = from-of P (suc m) l (x .1) n k a h (omega arith)
-
--- ---- lists walked by number
-
-pub nth-none : {A : Type 0} (l : List A) (n : ℕ) → length l ≤ n → nth l n ≡ none
-unfolding nth
-nth-none [] n h = refl
-nth-none (a ∷ l) zero h = absurd (omega arith)
-nth-none (a ∷ l) (suc n) h = nth-none l n (omega arith)
 
 -- the next element is taken off
 walk-one : {A : Type 0} (f : ℕ → A → Bool) (m : ℕ) (l : List A) (n : ℕ) (a : A) → nth l n ≡ some a
     → allFrom f m (drop n l) ≡ (f m a && allFrom f (suc m) (drop (suc n) l))
 unfolding nth
 walk-one f m [] n a h = absurd (none-some h)
-walk-one f m (b ∷ l) zero a h = rw (← (got-one refl h))
+walk-one f m (b ∷ l) zero a h = rw (← (some-one refl h))
 walk-one f m (b ∷ l) (suc n) a h = walk-one f m l n a h
 
 walk-out : {A : Type 0} (f : ℕ → A → Bool) (m : ℕ) (l : List A) (n : ℕ) → length l ≤ n → allFrom f m (drop n l) ≡ true
@@ -63,33 +57,33 @@ module _ (i : Image) (s : Section) where
   abbrev hasIn : ℕ → ℕ → Bool
   hasIn m d = depthIs i s d (nth (sectionOf i s) m)
 
-  abbrev rulesIn : Rules
-  rulesIn = record {
+  abbrev contextIn : Context
+  contextIn = record {
     edition = i .edition;
     users = i .users;
     constants = length (i .constants);
     eres = length (i .eres);
-    records = flowAllowed i s next;
+    main = flowAllowed i s next;
   }
 
   module _ (n : ℕ) where
     Agree : ℕ → Code → Type 0
     Agree c k =
-        (d v : ℕ) → holdsFor i s n (record { code = c; depth = d; named = take (length (k .names)) (v ∷ []) }) k
-        ≡ judgedBy rulesIn (length (sectionOf i s)) hasIn n c d v
+        (d v : ℕ) → holdsFor i s n (record { code = c; depth = d; immediates = take (length (k .immediates)) (v ∷ []) }) k
+        ≡ judgedBy contextIn (length (sectionOf i s)) hasIn n c d v
 
     all-agree : AllFrom Agree 0 (codes (i .edition))
     unfolding Agree holdsFor rows codeOf nth
     all-agree = ((λ d v. refl), ((λ d v. refl), ((λ d v. refl), ((λ d v. refl), ((λ d v. refl), ((λ d v. refl), ((λ d v. refl), ((λ d v. refl), ((λ d v. refl), ((λ d v. refl), ((λ d v. refl), ((λ d v. refl), ((λ d v. refl), ((λ d v. refl), ((λ d v. refl), ((λ d v. refl), ((λ d v. refl), ((λ d v. refl), ((λ d v. refl), ((λ d v. refl), ((λ d v. refl), ((λ d v. refl), ((λ d v. refl), ((λ d v. refl), ((λ d v. refl), ((λ d v. refl), ((λ d v. refl), ((λ d v. refl), ((λ d v. refl), ((λ d v. refl), ((λ d v. refl), ((λ d v. refl), tt))))))))))))))))))))))))))))))))
 
     by-numbers : (c d v : ℕ)
-        → instructionChecks i s n (instructionOf (i .edition) c d v) ≡ judgedBy rulesIn (length (sectionOf i s)) hasIn n c d v
+        → instructionChecks i s n (instructionOf (i .edition) c d v) ≡ judgedBy contextIn (length (sectionOf i s)) hasIn n c d v
     unfolding Agree codeOf
     by-numbers c d v = by (codeOf (i .edition) c) refl
       where
         by : (o : Option Code) → codeOf (i .edition) c ≡ o
-            → byCode i s n (record { code = c; depth = d; named = take (operandsIn o) (v ∷ []) }) o
-            ≡ judgedBy rulesIn (length (sectionOf i s)) hasIn n c d v
+            → byCode i s n (record { code = c; depth = d; immediates = take (operandsIn o) (v ∷ []) }) o
+            ≡ judgedBy contextIn (length (sectionOf i s)) hasIn n c d v
         by none e = rw e
         by (some k) e = from-of Agree 0 (codes (i .edition)) all-agree c c k e (omega arith) d v
 
@@ -105,26 +99,26 @@ module _ (i : Image) (s : Section) where
         by false e = rw (nth-none (sectionOf i s) m (ltb-false m (length (sectionOf i s)) e))
 
     -- an instruction judged from the index
-    judged-one : (r : Rules) → RulesOf r i s → (n : ℕ) (j : Instruction) → n < length (sectionOf i s) → nth (sectionOf i s) n ≡ some j
+    judged-one : (r : Context) → ContextOf r i s → (n : ℕ) (j : Instruction) → n < length (sectionOf i s) → nth (sectionOf i s) n ≡ some j
         → judgedAt r index (length (sectionOf i s)) n ≡ instructionChecks i s n j
     unfolding judgedAt
     judged-one r x n j k h =
-        let rules : r ≡ rulesIn = rw (← (x .edition), ← (x .users), ← (x .constants), ← (x .eres), ← (x .nexts)) in
+        let context : r ≡ contextIn = rw (← (x .edition), ← (x .users), ← (x .constants), ← (x .eres), ← (x .nexts)) in
         let has : hasDepth index (length (sectionOf i s)) ≡ hasIn = fun-ext (λ m. fun-ext (λ d. has-is m d)) in
         let w = getD index n 0 in
-        let judged : Rules → (ℕ → ℕ → Bool) → Bool = λ r has. judgedBy r (length (sectionOf i s)) has n (w % 64) (w / 64 % 64) (w / 4096) in
-        ap (λ (r : Rules). judged r (hasDepth index (length (sectionOf i s)))) rules
-        ∙ ap (λ (has : ℕ → ℕ → Bool). judged rulesIn has) has
+        let judged : Context → (ℕ → ℕ → Bool) → Bool = λ r has. judgedBy r (length (sectionOf i s)) has n (w % 64) (w / 64 % 64) (w / 4096) in
+        ap (λ (r : Context). judged r (hasDepth index (length (sectionOf i s)))) context
+        ∙ ap (λ (has : ℕ → ℕ → Bool). judged contextIn has) has
         ∙ sym (by-numbers n (w % 64) (w / 64 % 64) (w / 4096))
         ∙ ap (instructionChecks i s n) (indexed n j h (omega arith))
 
 -- ---- the section
 
-module _ (r : Rules) (index : List ℕ) (count : ℕ) where
+module _ (r : Context) (index : List ℕ) (count : ℕ) where
   -- what the first n instructions leave to be checked
   abbrev pub Reached : ℕ → Type 0
   Reached n =
-      (i : Image) (s : Section) (l : List ℕ) → RulesOf r i s → Indexes (i .edition) Instructions l (sectionOf i s) index → count ≡ length (sectionOf i s)
+      (i : Image) (s : Section) (l : List ℕ) → ContextOf r i s → Indexes (i .edition) Instructions l (sectionOf i s) index → count ≡ length (sectionOf i s)
       → allFrom (instructionChecks i s) 0 (sectionOf i s) ≡ allFrom (instructionChecks i s) n (drop n (sectionOf i s))
 
   pub reached-start : Reached 0
@@ -134,7 +128,7 @@ module _ (r : Rules) (index : List ℕ) (count : ℕ) where
   reached-end n h k i s l x y e = sym (h i s l x y e ∙ walk-out (instructionChecks i s) n (sectionOf i s) n (omega arith))
 
   module _ (n : ℕ) (h : Reached n) (below : n < count) (room : count ≤ length index) where
-    turn : (x : Bool) → x ≡ judgedAt r index count n → (i : Image) (s : Section) (l : List ℕ) → RulesOf r i s
+    turn : (x : Bool) → x ≡ judgedAt r index count n → (i : Image) (s : Section) (l : List ℕ) → ContextOf r i s
         → Indexes (i .edition) Instructions l (sectionOf i s) index → count ≡ length (sectionOf i s)
         → allFrom (instructionChecks i s) 0 (sectionOf i s) ≡ (x && allFrom (instructionChecks i s) (suc n) (drop (suc n) (sectionOf i s)))
     turn x q i s l y z e =

@@ -1,7 +1,5 @@
 -- Laws of the check by numbers.
 pub mod Judging
 pub mod Clauses
-pub mod Assigning
-pub mod Following
 pub mod Fitting
 pub mod Deciding

@@ -5,31 +5,32 @@ use mathlib.Core.List.{List}
 use Prim.Native.Nat.{ℕ, suc, _+_, _-_, _/_, _%_}
 use lib.ListN.{length, getD}
 use lib.Dec.{eqb, ltb, leb}
+use Rattle.lists.specs.Elements.{agree, allFrom}
 use Rattle.edition.specs.Limits.{operandDepth}
 use Rattle.image_format.specs.Codes.{next, codeOf}
 use Rattle.image_format.specs.Image.{Image}
 use Rattle.opcodes.specs.Rows.{rows, isKnown}
 use Rattle.semantics.specs.Variables.{specials, assignable}
 use Rattle.semantics.specs.Moves.{Section, sectionOf}
-use Rattle.semantics.specs.Check.{same, allFrom, flowAllowed, instructionChecks}
+use Rattle.semantics.specs.Check.{flowAllowed, instructionChecks}
 use Rattle.image_index.specs.Lists.{numbersOf, Indexes}
-use Rattle.image_index.specs.declared.lists.Kind.the-variants.{Instructions}
-use Rattle.image_check.specs.declared.rules.Rules.{Rules}
+use Rattle.image_index.specs.declared.indexes.Kind.the-variants.{Instructions}
+use Rattle.image_check.specs.declared.context.Context.{Context}
 
 -- ---- by numbers
 
 -- "code 0", 30 and 31 lead nowhere in their section
-abbrev pub leavesOf : ℕ → Bool
-leavesOf c = eqb c 0 || (eqb c 30 || eqb c 31)
+abbrev pub terminatesOf : ℕ → Bool
+terminatesOf c = eqb c 0 || (eqb c 30 || eqb c 31)
 
 -- what a code takes, by its row: a print takes what it names
-abbrev pub takesOf : ℕ → ℕ → ℕ
-takesOf row v = cond (eqb (row / 8) 5) v (row % 4)
+abbrev pub popsOf : ℕ → ℕ → ℕ
+popsOf row v = cond (eqb (row / 8) 5) v (row % 4)
 
 abbrev pub givesOf : ℕ → ℕ
 givesOf row = row / 4 % 2
 
-module _ (r : Rules) (count : ℕ) where
+module _ (r : Context) (count : ℕ) where
   -- "every number named exists"
   abbrev pub existsOf : ℕ → ℕ → Bool
   existsOf names v =
@@ -40,25 +41,25 @@ module _ (r : Rules) (count : ℕ) where
   -- "print's n from 1; no set of 0, 1, 5, 6; 30 only in the record section"
   abbrev pub allowedOf : ℕ → ℕ → Bool
   allowedOf c v =
-      cond (eqb c 3) (assignable (r .edition) v && true) (cond (eqb c 29) (leb 1 v && true) (cond (eqb c 30) (r .records) true))
+      cond (eqb c 3) (assignable (r .edition) v && true) (cond (eqb c 29) (leb 1 v && true) (cond (eqb c 30) (r .main) true))
 
   -- "code 0 last in its section and only there; depth 0 at its start, at 0, 30 and 31, and at most 32"
   abbrev pub placedOf : ℕ → ℕ → ℕ → Bool → Bool
   placedOf n c d rest =
-      same (eqb c 0) (eqb (suc n) count) && ((not (eqb n 0) || eqb d 0) && ((not (leavesOf c) || eqb d 0) && (leb d operandDepth && rest)))
+      agree (eqb c 0) (eqb (suc n) count) && ((not (eqb n 0) || eqb d 0) && ((not (terminatesOf c) || eqb d 0) && (leb d operandDepth && rest)))
 
   -- "each successor inside the section and its depth as the instruction leaves it": `has m d` says that instruction m is there, with the depth d before it
   module _ (has : ℕ → ℕ → Bool) where
     abbrev pub leadsOf : ℕ → ℕ → ℕ → ℕ → Bool
     leadsOf n c v after =
-        cond (leavesOf c) true
+        cond (terminatesOf c) true
         (cond (eqb c 27) (has v after && true) (has (suc n) after && cond (eqb c 28) (has v after && true) true))
 
     -- all clauses on instruction n
     abbrev pub judgedBy : ℕ → ℕ → ℕ → ℕ → Bool
     judgedBy n c d v =
         let row = getD (rows (r .edition)) c 0 in
-        let takes = takesOf row v in
+        let takes = popsOf row v in
         isKnown (codeOf (r .edition) c)
         && (existsOf (row / 8) v && placedOf n c d (leb takes d && (leadsOf n c v (d - takes + givesOf row) && allowedOf c v)))
 
@@ -67,7 +68,7 @@ abbrev pub hasDepth : List ℕ → ℕ → ℕ → ℕ → Bool
 hasDepth index count m d = ltb m count && eqb (numbersOf (getD index m 0) .depth) d
 
 -- instruction n of an index
-unfoldable pub judgedAt : Rules → List ℕ → ℕ → ℕ → Bool
+unfoldable pub judgedAt : Context → List ℕ → ℕ → ℕ → Bool
 judgedAt r index count n =
     let j = numbersOf (getD index n 0) in
     judgedBy r count (hasDepth index count) n (j .code) (j .depth) (j .operand)
@@ -75,15 +76,15 @@ judgedAt r index count n =
 -- ---- for the image that the numbers are of
 
 -- the sizes are those of an image, and `records` says whether a section is the record section
-pub record RulesOf (r : Rules) (i : Image) (s : Section) : Type 0 where
+pub record ContextOf (r : Context) (i : Image) (s : Section) : Type 0 where
   pub edition : r .edition ≡ i .edition
   pub users : r .users ≡ i .users
   pub constants : r .constants ≡ length (i .constants)
   pub eres : r .eres ≡ length (i .eres)
-  pub nexts : r .records ≡ flowAllowed i s next
+  pub nexts : r .main ≡ flowAllowed i s next
 
 -- all instructions of a section, by its index
-abbrev pub Judges : Rules → List ℕ → ℕ → Bool → Type 0
+abbrev pub Judges : Context → List ℕ → ℕ → Bool → Type 0
 Judges r index count ok =
-    (i : Image) (s : Section) (l : List ℕ) → RulesOf r i s → Indexes (i .edition) Instructions l (sectionOf i s) index
+    (i : Image) (s : Section) (l : List ℕ) → ContextOf r i s → Indexes (i .edition) Instructions l (sectionOf i s) index
     → count ≡ length (sectionOf i s) → ok ≡ allFrom (instructionChecks i s) 0 (sectionOf i s)

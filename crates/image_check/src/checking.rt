@@ -1,16 +1,14 @@
 // The check of an image.
 ghost use mathlib.Core.Path.{_≡_};
-ghost use mathlib.Core.Bool.{false};
 ghost use Prim.Native.Nat.{_≤_, _<_};
 ghost use lib.ListN.{length};
-ghost use Rattle.image_check.specs.Sections.{SectionJudged, SectionsJudged, HeaderAt, ImageJudged};
+ghost use Rattle.image_check.specs.Sections.{SectionJudged, SectionsJudged, ImageJudged};
 ghost use Rattle.image_check.specs.Verdict.{outcomeOf, checkOf};
-use crate::judge;
-use crate::rules::Rules;
+use crate::context::Context;
+use crate::instructions;
 use edition::Edition;
 use image_index::Kind;
 use image_index::Listed;
-use varint::Taken;
 
 // What the checker answers.
 pub enum Verdict {
@@ -19,57 +17,17 @@ pub enum Verdict {
     Rejected,
 }
 
-// The numbers before the lists, and where these start; unless `ok`, there are none.
-pub struct Header {
-    pub ok: bool,
-    pub edition: u64,
-    pub users: u64,
-    pub at: usize,
-}
-
-fn no_header() -> Header
-    ensures { λ r. ⌜ r .ok ≡ false ⌝ }
-{
-    Header {
-        ok: false,
-        edition: 0,
-        users: 0,
-        at: 0,
-    }
-}
-
-// The numbers before the lists of an image.
-pub fn header_of(image: &[u8]) -> Header
-    ensures { λ r. ⌜ HeaderAt (now (image .entry)) r ⌝ }
-{
-    let Taken::Number(edition, behind) = varint::take_number(image, 0) else {
-        return no_header();
-    };
-    if !opcodes::is_known(edition) {
-        return no_header();
-    }
-    let Taken::Number(users, at) = varint::take_number(image, behind) else {
-        return no_header();
-    };
-    Header {
-        ok: true,
-        edition,
-        users,
-        at,
-    }
-}
-
 // The section at a place, its index, and whether it passes.
-fn section(image: &[u8], rules: Rules, at: usize, index: &mut [u32]) -> Listed
-    requires { ⌜ (at ≤ length (now image)) × (length (now image) < 65536) × (1024 ≤ length (now index)) × (rules .users ≤ 25) ⌝ }
-    ensures { λ r. ⌜ SectionJudged rules (now (image .entry)) at r ⌝ }
+fn section(image: &[u8], context: Context, at: usize, index: &mut [u32]) -> Listed
+    requires { ⌜ (at ≤ length (now image)) × (length (now image) < 65536) × (1024 ≤ length (now index)) × (context .users ≤ 25) ⌝ }
+    ensures { λ r. ⌜ SectionJudged context (now (image .entry)) at r ⌝ }
 {
-    let s = image_index::list_at(image, rules.edition, Kind::Instructions, at, index);
+    let s = image_index::list_at(image, context.edition, Kind::Instructions, at, index);
     if !s.ok {
         return s;
     }
     Listed {
-        ok: judge::judge_all(index, rules, s.count),
+        ok: instructions::check_instructions(index, context, s.count),
         count: s.count,
         end: s.end,
     }
@@ -88,30 +46,30 @@ fn sections(
     ensures { λ r. ⌜ SectionsJudged edition users constants eres (now (image .entry)) at r ⌝ }
 {
     let mut index = [0u32; Edition::INSTRUCTIONS];
-    let elsewhere = Rules {
+    let outside_main = Context {
         edition,
         users,
         constants: constants as u64,
         eres: eres as u64,
-        records: false,
+        main: false,
     };
-    let on_records = Rules {
+    let in_main = Context {
         edition,
         users,
         constants: constants as u64,
         eres: eres as u64,
-        records: true,
+        main: true,
     };
-    let begin = section(image, elsewhere, at, &mut index);
+    let begin = section(image, outside_main, at, &mut index);
     if !begin.ok {
         return false;
     }
-    let each = section(image, on_records, begin.end, &mut index);
-    if !each.ok {
+    let main = section(image, in_main, begin.end, &mut index);
+    if !main.ok {
         return false;
     }
-    let finish = section(image, elsewhere, each.end, &mut index);
-    finish.ok && finish.end == image.len()
+    let end = section(image, outside_main, main.end, &mut index);
+    end.ok && end.end == image.len()
 }
 
 // Whether the bytes are an image that passes the check.
@@ -120,7 +78,7 @@ fn passes(image: &[u8]) -> bool
     ensures { λ r. ⌜ ImageJudged (now (image .entry)) r ⌝ }
 {
     let mut places = [0u32; 0];
-    let h = header_of(image);
+    let h = image_index::header_of(image);
     if !h.ok {
         return false;
     }
@@ -149,7 +107,7 @@ fn passes(image: &[u8]) -> bool
 pub fn check(image: &[u8]) -> Verdict
     ensures { λ r. ⌜ outcomeOf r ≡ checkOf (now (image .entry)) ⌝ }
 {
-    if image.len() < image_index::IMAGE && passes(image) {
+    if image.len() < image_index::IMAGE_BYTES && passes(image) {
         return Verdict::Accepted;
     }
     if image::is_image(image) {

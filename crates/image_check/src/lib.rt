@@ -1,12 +1,7 @@
-// The checker of images.
+// The checker of images: the verifier of their bytecode.
 mod checking;
-mod judge;
-mod rules;
-mod variables;
+mod context;
+mod instructions;
 
-pub use checking::Header;
 pub use checking::Verdict;
 pub use checking::check;
-pub use checking::header_of;
-pub use variables::assignable;
-pub use variables::specials;

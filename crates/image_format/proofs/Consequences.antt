@@ -4,10 +4,10 @@ use mathlib.Core.Logic.{_↔_}
 use mathlib.Core.List.{List}
 use mathlib.Core.Option.{Option, some, none}
 use Prim.Native.Nat.{ℕ}
+use Rattle.lists.proofs.Options.{some-one, none-some}
 use Rattle.image_format.specs.Image.{Image}
 use Rattle.image_format.specs.Reading.{readImage, fromBytes, fromWords}
 use Rattle.image_format.specs.Writing.{bytesOf, contentOf}
-use Rattle.image_format.proofs.Laws.{got-one, none-some}
 use Rattle.image_format.proofs.Sources.{bytes-agree, words-agree}
 use Rattle.image_format.proofs.Images.{read-written, read-only}
 
@@ -28,7 +28,7 @@ pub same-content : (a b : List ℕ) (i j : Image) → readImage fromBytes a ≡ 
 same-content a b i j h k e =
     let x = reading-back a i h in
     let y = reading-back b j k in
-    let same : i ≡ j = got-one (x .0) (rw e (y .0)) in
+    let same : i ≡ j = some-one (x .0) (rw e (y .0)) in
     rw (← (x .1), ← (y .1), same)
 
 -- content is refused exactly if no reading gives it

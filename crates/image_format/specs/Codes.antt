@@ -3,10 +3,11 @@ use mathlib.Core.List.{List, [], _∷_}
 use mathlib.Core.Option.{Option, some, none}
 use Prim.Native.Nat.{ℕ, zero, suc}
 use lib.ListN.{getD}
+use Rattle.lists.specs.Elements.{nth}
 
 -- what a number of an instruction names
-pub data Named : Type 0 where
-  a-constant a-variable an-ere an-instruction a-count : Named
+pub data ImmediateKind : Type 0 where
+  a-constant a-variable an-ere an-instruction a-count : ImmediateKind
 
 pub data Arithmetic : Type 0 where
   add subtract multiply divide remainder : Arithmetic
@@ -24,7 +25,7 @@ pub data Action : Type 0 where
 
 -- what leads elsewhere than to the next instruction
 pub data Flow : Type 0 where
-  end jump jump-if-false next exit : Flow
+  section-end jump jump-if-false next exit : Flow
 
 pub data Operation : Type 0 where
   action : Action → Operation
@@ -33,22 +34,22 @@ pub data Operation : Type 0 where
 -- what a code does, how many operands it takes and leaves, given the numbers that it names, and what these name
 pub record Code : Type 0 where
   pub operation : Operation
-  pub takes : List ℕ → ℕ
-  pub leaves : List ℕ → ℕ
-  pub names : List Named
+  pub pops : List ℕ → ℕ
+  pub pushes : List ℕ → ℕ
+  pub immediates : List ImmediateKind
 
 -- "(taken-left)": numbers, whatever it names
-abbrev pub code : Operation → ℕ → ℕ → List Named → Code
-code o a b names = record { operation = o; takes = λ ns. a; leaves = λ ns. b; names = names }
+abbrev pub code : Operation → ℕ → ℕ → List ImmediateKind → Code
+code o a b kinds = record { operation = o; pops = λ ns. a; pushes = λ ns. b; immediates = kinds }
 
 -- "29 print n (n-0)"
 abbrev pub printing : Code
-printing = record { operation = action print; takes = λ ns. getD ns 0 0; leaves = λ ns. 0; names = a-count ∷ [] }
+printing = record { operation = action print; pops = λ ns. getD ns 0 0; pushes = λ ns. 0; immediates = a-count ∷ [] }
 
 -- the codes of an edition, from 0 on
 abbrev pub codes : ℕ → List Code
 codes edition =
-    code (flow end) 0 0 []
+    code (flow section-end) 0 0 []
     ∷ code (action constant) 0 1 (a-constant ∷ [])
     ∷ code (action get) 0 1 (a-variable ∷ [])
     ∷ code (action set) 1 1 (a-variable ∷ [])
@@ -81,12 +82,6 @@ codes edition =
     ∷ code (flow next) 0 0 []
     ∷ code (flow exit) 0 0 []
     ∷ []
-
--- element n of a list, if it has one
-unfoldable pub nth : {A : Type 0} → List A → ℕ → Option A
-nth [] n = none
-nth (a ∷ l) zero = some a
-nth (a ∷ l) (suc n) = nth l n
 
 -- "an unknown .. code" has none
 unfoldable pub codeOf : ℕ → ℕ → Option Code

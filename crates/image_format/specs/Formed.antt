@@ -6,13 +6,9 @@ use mathlib.Core.Option.{some}
 use Prim.Native.Nat.{ℕ, _≤_, _<_}
 use lib.ListN.{length}
 use Rattle.edition.specs.Limits.{numberBound}
+use Rattle.lists.specs.Elements.{Every}
 use Rattle.image_format.specs.Codes.{Code, codeOf}
 use Rattle.image_format.specs.Image.{Constant, number, text, Instruction, Image, known}
-
--- each element
-pub data Every {A : Type 0} (P : A → Type 0) : List A → Type 0 where
-  none : Every P []
-  both : {a : A} {l : List A} → P a → Every P l → Every P (a ∷ l)
 
 abbrev pub Small : ℕ → Type 0
 Small n = n ≤ numberBound
@@ -32,14 +28,14 @@ pub record FormedInstruction (edition : ℕ) (i : Instruction) : Type 0 where
   pub has : codeOf edition (i .code) ≡ some row
   pub code : Small (i .code)
   pub depth : Small (i .depth)
-  pub many : length (i .named) ≡ length (row .names)
-  pub named : Every Small (i .named)
+  pub many : length (i .immediates) ≡ length (row .immediates)
+  pub immediates : Every Small (i .immediates)
 
 pub record Formed (i : Image) : Type 0 where
   pub edition : known (i .edition) ≡ true
   pub users : Small (i .users)
   pub constants : Listed FormedConstant (i .constants)
   pub eres : Listed Text (i .eres)
-  pub begins : Listed (FormedInstruction (i .edition)) (i .begins)
-  pub records : Listed (FormedInstruction (i .edition)) (i .records)
-  pub ends : Listed (FormedInstruction (i .edition)) (i .ends)
+  pub begin : Listed (FormedInstruction (i .edition)) (i .begin)
+  pub main : Listed (FormedInstruction (i .edition)) (i .main)
+  pub end : Listed (FormedInstruction (i .edition)) (i .end)

@@ -13,7 +13,7 @@ pub data Constant : Type 0 where
 pub record Instruction : Type 0 where
   pub code : ℕ
   pub depth : ℕ
-  pub named : List ℕ
+  pub immediates : List ℕ
 
 -- "edition 1; the count of user variables; constants ..; EREs ..; then BEGIN, record and END sections"
 pub record Image : Type 0 where
@@ -21,9 +21,9 @@ pub record Image : Type 0 where
   pub users : ℕ
   pub constants : List Constant
   pub eres : List (List ℕ)
-  pub begins : List Instruction
-  pub records : List Instruction
-  pub ends : List Instruction
+  pub begin : List Instruction
+  pub main : List Instruction
+  pub end : List Instruction
 
 -- "an unknown edition" is refused
 abbrev pub known : ℕ → Bool

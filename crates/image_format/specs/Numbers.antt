@@ -5,8 +5,8 @@ use mathlib.Core.List.{List, [], _∷_}
 use mathlib.Core.Option.{Option, some, none}
 use Prim.Native.Nat.{ℕ, zero, suc, _+_, _-_, _*_, _/_, _%_, _<_}
 use lib.Dec.{eqb, ltb, leb}
+use Rattle.lists.specs.Parsing.{Parsed, parsed}
 use Rattle.edition.specs.Limits.{numberBound}
-use Rattle.ere_grammar.specs.Read.{Got, got}
 
 -- The bytes are the number's. That the part above the low group isn't 0 is "no longer than needed".
 pub data Coded : ℕ → List ℕ → Type 0 where
@@ -23,18 +23,18 @@ unfoldable pub coded : ℕ → List ℕ
 coded n = groups 8 n
 
 -- a low group, and what stands above it
-abbrev pub above : ℕ → Option (Got ℕ) → Option (Got ℕ)
+abbrev pub above : ℕ → Option (Parsed ℕ) → Option (Parsed ℕ)
 above g none = none
-above g (some r) = cond (eqb (r .it) 0) none (got (g + 128 * (r .it)) (r .left))
+above g (some r) = cond (eqb (r .value) 0) none (parsed (g + 128 * (r .value)) (r .rest))
 
 -- a number off the front of bytes, however great
-unfoldable pub takeGroups : List ℕ → Option (Got ℕ)
+unfoldable pub takeGroups : List ℕ → Option (Parsed ℕ)
 takeGroups [] = none
-takeGroups (b ∷ t) = cond (ltb b 128) (got b t) (cond (ltb b 256) (above (b - 128) (takeGroups t)) none)
+takeGroups (b ∷ t) = cond (ltb b 128) (parsed b t) (cond (ltb b 256) (above (b - 128) (takeGroups t)) none)
 
-abbrev pub bounded : Option (Got ℕ) → Option (Got ℕ)
+abbrev pub bounded : Option (Parsed ℕ) → Option (Parsed ℕ)
 bounded none = none
-bounded (some r) = cond (leb (r .it) numberBound) (some r) none
+bounded (some r) = cond (leb (r .value) numberBound) (some r) none
 
-unfoldable pub takeNumber : List ℕ → Option (Got ℕ)
+unfoldable pub takeNumber : List ℕ → Option (Parsed ℕ)
 takeNumber l = bounded (takeGroups l)

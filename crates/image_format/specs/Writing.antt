@@ -23,7 +23,7 @@ module _ (write : ℕ → List ℕ) where
   constantIn (text l) = write 1 ++ bytes l
 
   abbrev pub instructionIn : Instruction → List ℕ
-  instructionIn i = write (i .code) ++ (write (i .depth) ++ all write (i .named))
+  instructionIn i = write (i .code) ++ (write (i .depth) ++ all write (i .immediates))
 
   unfoldable pub written : Image → List ℕ
   written i =
@@ -31,9 +31,9 @@ module _ (write : ℕ → List ℕ) where
       ++ (write (i .users)
       ++ (listed constantIn (i .constants)
       ++ (listed bytes (i .eres)
-      ++ (listed instructionIn (i .begins)
-      ++ (listed instructionIn (i .records)
-      ++ listed instructionIn (i .ends))))))
+      ++ (listed instructionIn (i .begin)
+      ++ (listed instructionIn (i .main)
+      ++ listed instructionIn (i .end))))))
 
 abbrev pub bytesOf : Image → List ℕ
 bytesOf = written coded

@@ -8,22 +8,22 @@ use native.Mathlib.Omega.{arith}
 use lib.ListN.{length, take, drop}
 use lib.Dec.{eqb}
 use borrow.Author.Tests.{eqb-true}
+use Rattle.lists.proofs.Many.{same-item}
+use Rattle.lists.proofs.Options.{none-some}
+use Rattle.lists.specs.Elements.{Every, empty, cons}
 use Rattle.edition.specs.Limits.{textBytes, instructionCount, operandDepth}
 use Rattle.buffer.specs.Parts.{part}
 use Rattle.buffer.proofs.Parts.{length-part}
 use Rattle.image_format.specs.Codes.{codeOf}
-use Rattle.image_format.specs.Formed.{Every, none as no-more, both}
 use Rattle.image_format.specs.Image.{number, text}
-use Rattle.image_format.proofs.Laws.{none-some}
 use Rattle.opcodes.specs.Rows.{operandsIn}
 use Rattle.image_index.specs.Stands.{Stands, ConstantAt, constantOf, instructionOf}
 use Rattle.image_index.specs.Lists.{ItemOf, takerOf, FitsOf, TellsOf, packed, unpacked, EntryAt}
 use Rattle.image_index.specs.declared.items.Found.{Found}
-use Rattle.image_index.specs.declared.lists.Kind.{Kind}
-use Rattle.image_index.specs.declared.lists.Kind.the-variants.{Constants, Instructions}
-use Rattle.image_index.specs.declared.lists.Entry.{Entry}
+use Rattle.image_index.specs.declared.indexes.Kind.{Kind}
+use Rattle.image_index.specs.declared.indexes.Kind.the-variants.{Constants, Instructions}
+use Rattle.image_index.specs.declared.indexes.Entry.{Entry}
 use Rattle.image_index.proofs.Standing.{never}
-use Rattle.image_format.proofs.Many.{same-item}
 
 -- ---- of any kind
 
@@ -74,9 +74,9 @@ module _ (edition code depth operand : ℕ) where
   instruction-fits d o = (d, by (operandsIn (codeOf edition code)))
     where
       by : (n : ℕ) → Every (λ v. v < instructionCount) (take n (operand ∷ []))
-      by zero = no-more
-      by (suc zero) = both o no-more
-      by (suc (suc n)) = both o no-more
+      by zero = empty
+      by (suc zero) = cons o empty
+      by (suc (suc n)) = cons o empty
 
   pub instruction-deep : operandDepth < depth → FitsOf edition Instructions (instructionOf edition code depth operand) → ⊥
   instruction-deep h f = omega (arith, f .0)
@@ -87,7 +87,7 @@ module _ (edition code depth operand : ℕ) where
     where
       by : (n : ℕ) → (n ≡ 0 → operand ≡ 0) → Every (λ v. v < instructionCount) (take n (operand ∷ [])) → ⊥
       by zero z e = omega (arith, z refl)
-      by (suc n) z (both x e) = omega arith
+      by (suc n) z (cons x e) = omega arith
 
   -- the numbers come back out of their entry
   pub unpacked-packed : code < 64 → depth < 64 → unpacked edition (packed code depth operand) ≡ instructionOf edition code depth operand

@@ -7,11 +7,12 @@ use Prim.Native.Nat.{ℕ, _≤_, _<_}
 use native.Mathlib.Omega.{arith}
 use lib.ListN.{length, take, drop}
 use borrow.Author.Tests.{ltb-true}
-use Rattle.ere_grammar.specs.Read.{got}
+use Rattle.lists.proofs.Many.{on}
+use Rattle.lists.specs.Parsing.{parsed, Parser, bind, succeed, many}
 use Rattle.image_format.specs.Codes.{Code, codeOf}
 use Rattle.image_format.specs.Image.{Instruction}
 use Rattle.image_format.specs.Numbers.{takeNumber}
-use Rattle.image_format.specs.Reading.{Taker, fromBytes, then, done, many, instruction, instructionOf}
+use Rattle.image_format.specs.Reading.{fromBytes, instruction, instructionOf}
 use Rattle.opcodes.specs.Rows.{isKnown, operandsIn}
 use Rattle.opcodes.proofs.Below.{known-below}
 use Rattle.opcodes.proofs.Naming.{names-few}
@@ -19,7 +20,6 @@ use Rattle.varint.specs.Take.{TakesAt}
 use Rattle.varint.specs.declared.numbers.Taken.the-variants.{Number}
 use Rattle.image_index.specs.Stands.{OperandAt, InstructionAt, instructionOf as instructionIn}
 use Rattle.image_index.specs.declared.items.Fetched.{Fetched}
-use Rattle.image_format.proofs.Many.{on}
 use Rattle.image_index.proofs.Standing.{never}
 
 -- ---- the operand
@@ -32,7 +32,7 @@ module _ (edition code depth : ℕ) (l : List ℕ) (at : ℕ) where
       record {
         refused = λ g. never g refl;
         found = λ g. (
-          subst (λ (n : ℕ). many takeNumber n (drop at l) ≡ got (take n (0 ∷ [])) (drop at l)) (sym e) refl,
+          subst (λ (n : ℕ). many takeNumber n (drop at l) ≡ parsed (take n (0 ∷ [])) (drop at l)) (sym e) refl,
           omega arith,
           h,
           refl,
@@ -54,7 +54,7 @@ module _ (edition code depth : ℕ) (l : List ℕ) (at : ℕ) where
     unfolding many
     operand-missing r e t =
         record {
-          refused = λ g. subst (λ (n : ℕ). many takeNumber n (drop at l) ≡ none) (sym one-named) (on (λ a l. then (many takeNumber 0 l) (λ rest. done (a ∷ rest))) t);
+          refused = λ g. subst (λ (n : ℕ). many takeNumber n (drop at l) ≡ none) (sym one-named) (on (λ a l. bind (many takeNumber 0 l) (λ rest. succeed (a ∷ rest))) t);
           found = λ g. never e g;
           plain = λ g. never e g;
         }
@@ -66,8 +66,8 @@ module _ (edition code depth : ℕ) (l : List ℕ) (at : ℕ) where
         record {
           refused = λ g. never g refl;
           found = λ g. (
-            subst (λ (m : ℕ). many takeNumber m (drop at l) ≡ got (take m (v ∷ [])) (drop n l)) (sym one-named)
-                (on (λ a l. then (many takeNumber 0 l) (λ rest. done (a ∷ rest))) (t .0)),
+            subst (λ (m : ℕ). many takeNumber m (drop at l) ≡ parsed (take m (v ∷ [])) (drop n l)) (sym one-named)
+                (on (λ a l. bind (many takeNumber 0 l) (λ rest. succeed (a ∷ rest))) (t .0)),
             omega (arith, t .1),
             t .2,
             refl,
@@ -79,9 +79,9 @@ module _ (edition code depth : ℕ) (l : List ℕ) (at : ℕ) where
 -- ---- the instruction
 
 -- behind a code that names n things
-abbrev numbers : ℕ → ℕ → Taker Instruction
+abbrev numbers : ℕ → ℕ → Parser Instruction
 numbers code n l =
-    then (takeNumber l) (λ depth l. then (many takeNumber n l) (λ named. done (record { code = code; depth = depth; named = named })))
+    bind (takeNumber l) (λ depth l. bind (many takeNumber n l) (λ named. succeed (record { code = code; depth = depth; immediates = named })))
 
 code-there : (code : ℕ) (o : Option Code) (l : List ℕ) → isKnown o ≡ true → instructionOf fromBytes code o l ≡ numbers code (operandsIn o) l
 code-there code none l h = never refl h
@@ -114,16 +114,16 @@ module _ (edition : ℕ) (l : List ℕ) (at : ℕ) where
       code-below = ltb-true code 32 (sym (known-below edition code) ∙ k)
 
       -- what follows the depth
-      abbrev behindDepth : ℕ → Taker Instruction
+      abbrev behindDepth : ℕ → Parser Instruction
       behindDepth depth l =
-          then (many takeNumber (operandsIn (codeOf edition code)) l) (λ named. done (record { code = code; depth = depth; named = named }))
+          bind (many takeNumber (operandsIn (codeOf edition code)) l) (λ named. succeed (record { code = code; depth = depth; immediates = named }))
 
       pub depth-missing : takeNumber (drop behind l) ≡ none → instruction fromBytes edition (drop at l) ≡ none
       depth-missing e = on-numbers ∙ on behindDepth e
 
       pub depth-there : (depth last : ℕ) → TakesAt l behind (Number depth last) → (r : Fetched) → OperandAt edition code depth l last r → InstructionAt edition l at r
       depth-there depth last d r y =
-          let made : (named : List ℕ) → Taker Instruction = λ named. done (record { code = code; depth = depth; named = named }) in
+          let made : (named : List ℕ) → Parser Instruction = λ named. succeed (record { code = code; depth = depth; immediates = named }) in
           record {
             refused = λ g. on-numbers ∙ on behindDepth (d .0) ∙ on made (y .refused g);
             found = λ g.
@@ -133,7 +133,7 @@ module _ (edition : ℕ) (l : List ℕ) (at : ℕ) where
                       on-numbers
                       ∙ on behindDepth (d .0)
                       ∙ on made (s .0)
-                      ∙ ap₂ (λ (c m : ℕ). got (instructionIn edition c m (r .operand)) (drop (r .end) l)) (sym (s .3)) (sym (s .4));
+                      ∙ ap₂ (λ (c m : ℕ). parsed (instructionIn edition c m (r .operand)) (drop (r .end) l)) (sym (s .3)) (sym (s .4));
                   forward = omega (arith, t .1, d .1, s .1);
                   inside = s .2;
                 };

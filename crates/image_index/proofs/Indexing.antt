@@ -8,22 +8,22 @@ use native.Mathlib.Omega.{arith}
 use native.Mathlib.Numerals.{add-one}
 use lib.ListN.{length, drop, set, length-set}
 use lib.Seq.{getD-set-same, getD-set-other}
-use Rattle.ere_grammar.specs.Read.{got}
-use Rattle.image_format.specs.Codes.{nth}
-use Rattle.image_format.specs.Formed.{Every, none as no-more}
+use Rattle.lists.proofs.Elements.{every-more, nth-more}
+use Rattle.lists.proofs.Many.{on, many-length, many-more, many-next}
+use Rattle.lists.proofs.Options.{none-some}
+use Rattle.lists.specs.Elements.{nth, Every, empty, cons}
+use Rattle.lists.specs.Parsing.{parsed, many}
 use Rattle.image_format.specs.Numbers.{takeNumber}
-use Rattle.image_format.specs.Reading.{fromBytes, many, counted}
-use Rattle.image_format.proofs.Laws.{none-some}
+use Rattle.image_format.specs.Reading.{fromBytes, counted}
 use Rattle.varint.specs.Room.{withOne}
 use Rattle.varint.specs.Take.{TakesAt}
 use Rattle.varint.specs.declared.numbers.Taken.the-variants.{Number}
 use Rattle.varint.proofs.Words.{one-set}
 use Rattle.image_index.specs.Lists.{ItemOf, mostOf, leastOf, takerOf, FitsOf, TellsOf, EntryAt, Indexes, ItemsAt, ListAt}
-use Rattle.image_index.specs.declared.lists.Kind.{Kind}
-use Rattle.image_index.specs.declared.lists.Entry.{Entry}
-use Rattle.image_index.specs.declared.lists.Listed.{Listed}
+use Rattle.image_index.specs.declared.indexes.Kind.{Kind}
+use Rattle.image_index.specs.declared.indexes.Entry.{Entry}
+use Rattle.image_index.specs.declared.indexes.Listed.{Listed}
 use Rattle.image_index.proofs.Standing.{never}
-use Rattle.image_format.proofs.Many.{on, many-length, many-more, many-next, every-more, nth-more}
 
 module _ (edition : ℕ) (k : Kind) (l : List ℕ) where
   -- another item's entry, behind those that there are
@@ -40,7 +40,7 @@ module _ (edition : ℕ) (k : Kind) (l : List ℕ) where
   module _ (first : ℕ) where
     pub record Passed (count at : ℕ) (index : List ℕ) : Type 0 where
       pub items : List (ItemOf k)
-      pub taken : many (takerOf edition k) count (drop first l) ≡ got items (drop at l)
+      pub taken : many (takerOf edition k) count (drop first l) ≡ parsed items (drop at l)
       pub forward : first ≤ at
       pub inside : at ≤ length l
       pub each : Every (FitsOf edition k) items
@@ -54,7 +54,7 @@ module _ (edition : ℕ) (k : Kind) (l : List ℕ) where
           taken = refl;
           forward = omega arith;
           inside = h;
-          each = no-more;
+          each = empty;
           told = λ n a e. absurd (none-some e);
         }
 
@@ -68,7 +68,7 @@ module _ (edition : ℕ) (k : Kind) (l : List ℕ) where
             refused = λ g. never g refl;
             found = λ g. (
               p .items,
-              subst (λ (m : ℕ). many (takerOf edition k) m (drop first l) ≡ got (p .items) (drop at l)) e (p .taken),
+              subst (λ (m : ℕ). many (takerOf edition k) m (drop first l) ≡ parsed (p .items) (drop at l)) e (p .taken),
               p .forward,
               p .inside,
               refl,

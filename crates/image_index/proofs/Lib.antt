@@ -4,3 +4,4 @@ pub mod Fetching
 pub mod Entering
 pub mod Indexing
 pub mod Reaching
+pub mod Following

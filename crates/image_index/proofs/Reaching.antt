@@ -7,16 +7,16 @@ use native.Mathlib.Nat.{add-comm}
 use native.Mathlib.Omega.{arith}
 use lib.ListN.{length}
 use lib.Dec.{eqb}
+use Rattle.lists.proofs.Many.{same-item}
+use Rattle.lists.proofs.Options.{none-some}
 use Rattle.buffer.specs.Parts.{part}
 use Rattle.buffer.proofs.Parts.{length-part}
 use Rattle.image_format.specs.Image.{number, text}
 use Rattle.image_format.specs.Reading.{fromBytes, constant}
-use Rattle.image_format.proofs.Laws.{none-some}
 use Rattle.image_index.specs.Stands.{Stands, aText, bytesOf, TextAt, ConstantAt}
 use Rattle.image_index.specs.Lists.{IsPart}
 use Rattle.image_index.specs.declared.items.Text.{Text}
 use Rattle.image_index.specs.declared.items.Found.{Found}
-use Rattle.image_format.proofs.Many.{same-item}
 
 module _ (l : List ℕ) where
   pub is-part : (p : ℕ × ℕ) (start end : ℕ) → start ≤ end → end ≤ length l → IsPart l p (part start (end - start) l) (p .0, start + p .1)

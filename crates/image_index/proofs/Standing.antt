@@ -7,15 +7,15 @@ use Prim.Native.Nat.{ℕ, _+_, _-_, _≤_, _<_}
 use native.Mathlib.Omega.{arith}
 use lib.ListN.{length, drop, getD}
 use borrow.Author.Tests.{ne-eqb}
+use Rattle.lists.proofs.Many.{on}
+use Rattle.lists.specs.Parsing.{parsed, bind, succeed, many}
 use Rattle.buffer.specs.Parts.{part}
-use Rattle.ere_grammar.specs.Read.{got}
 use Rattle.image_format.specs.Image.{Constant, number, text}
 use Rattle.image_format.specs.Numbers.{takeNumber}
-use Rattle.image_format.specs.Reading.{fromBytes, upTo, then, done, many, constant, constantOf}
+use Rattle.image_format.specs.Reading.{fromBytes, wordUpTo, constant, constantOf}
 use Rattle.varint.specs.Take.{TakesAt}
 use Rattle.varint.specs.declared.numbers.Taken.the-variants.{Number}
 use Rattle.varint.proofs.Bytes.{take-bytes, miss-bytes}
-use Rattle.image_format.proofs.Many.{on}
 use Rattle.image_index.specs.Stands.{aText, TextAt, NumberAt, ConstantAt, constantOf as constantIn}
 use Rattle.image_index.specs.declared.items.Text.{Text}
 use Rattle.image_index.specs.declared.items.Found.{Found}
@@ -32,7 +32,7 @@ module _ (l : List ℕ) (at : ℕ) where
 
   module _ (n start : ℕ) (t : TakesAt l at (Number n start)) (bytes : (i : ℕ) → i < length l → getD l i 0 < 256) where
     pub text-short : length l - start < n → aText (drop at l) ≡ none
-    text-short h = on (many (upTo 255)) (t .0) ∙ miss-bytes l bytes start (t .2) n h
+    text-short h = on (many (wordUpTo 255)) (t .0) ∙ miss-bytes l bytes start (t .2) n h
 
     pub text-there : n ≤ length l - start → TextAt l at (record { ok = true; start = start; end = start + n })
     text-there h =
@@ -40,7 +40,7 @@ module _ (l : List ℕ) (at : ℕ) where
         record {
           refused = λ g. never g refl;
           found = λ g. record {
-            taken = on (many (upTo 255)) (t .0) ∙ take-bytes l bytes start (t .2) n h ∙ ap (λ (m : ℕ). got (part start m l) (drop (start + n) l)) e;
+            taken = on (many (wordUpTo 255)) (t .0) ∙ take-bytes l bytes start (t .2) n h ∙ ap (λ (m : ℕ). parsed (part start m l) (drop (start + n) l)) e;
             forward = omega (arith, t .1);
             inside = omega (arith, t .2);
           };
@@ -89,14 +89,14 @@ module _ (l : List ℕ) (at : ℕ) where
 
     pub kind-number : kind ≡ 0 → (r : Found) → NumberAt l behind r → ConstantAt l at r
     kind-number e r y =
-        let k : constant fromBytes (drop at l) ≡ then (takeNumber (drop behind l)) (λ n. done (number n)) = on-kind ∙ (rw e) in
+        let k : constant fromBytes (drop at l) ≡ bind (takeNumber (drop behind l)) (λ n. succeed (number n)) = on-kind ∙ (rw e) in
         record {
-          refused = λ g. k ∙ on (λ n. done (number n)) (y .refused g);
+          refused = λ g. k ∙ on (λ n. succeed (number n)) (y .refused g);
           found = λ g.
               let s = y .found g in
               let c : number (r .value) ≡ constantIn l r = rw (y .kind g) in
               record {
-                taken = k ∙ on (λ n. done (number n)) (s .taken) ∙ ap (λ (x : Constant). got x (drop (r .end) l)) c;
+                taken = k ∙ on (λ n. succeed (number n)) (s .taken) ∙ ap (λ (x : Constant). parsed x (drop (r .end) l)) c;
                 forward = omega (arith, t .1, s .forward);
                 inside = s .inside;
               };
@@ -107,13 +107,13 @@ module _ (l : List ℕ) (at : ℕ) where
 
     pub kind-text : kind ≡ 1 → (x : Text) → TextAt l behind x → ConstantAt l at (record { ok = x .ok; kind = kind; value = 0; start = x .start; end = x .end })
     kind-text e x y =
-        let k : constant fromBytes (drop at l) ≡ then (aText (drop behind l)) (λ bs. done (text bs)) = on-kind ∙ (rw e) in
+        let k : constant fromBytes (drop at l) ≡ bind (aText (drop behind l)) (λ bs. succeed (text bs)) = on-kind ∙ (rw e) in
         record {
-          refused = λ g. k ∙ on (λ bs. done (text bs)) (y .refused g);
+          refused = λ g. k ∙ on (λ bs. succeed (text bs)) (y .refused g);
           found = λ g.
               let s = y .found g in
               record {
-                taken = k ∙ on (λ bs. done (text bs)) (s .taken) ∙ (rw e);
+                taken = k ∙ on (λ bs. succeed (text bs)) (s .taken) ∙ (rw e);
                 forward = omega (arith, t .1, s .forward);
                 inside = s .inside;
               };

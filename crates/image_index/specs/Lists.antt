@@ -5,19 +5,19 @@ use mathlib.Core.List.{List}
 use mathlib.Core.Option.{some}
 use Prim.Native.Nat.{ℕ, _+_, _*_, _/_, _%_, _≤_, _<_}
 use lib.ListN.{length, drop, getD}
+use Rattle.lists.specs.Elements.{nth, Every}
+use Rattle.lists.specs.Parsing.{parsed, Parser, many}
 use Rattle.edition.specs.Limits.{textBytes, constantCount, ereCount, instructionCount, operandDepth}
 use Rattle.buffer.specs.Parts.{part}
 use Rattle.ere_meaning.specs.Tree.{Class, Ere}
-use Rattle.ere_grammar.specs.Read.{got, readEre}
-use Rattle.image_format.specs.Codes.{nth}
-use Rattle.image_format.specs.Formed.{Every}
+use Rattle.ere_grammar.specs.Read.{readEre}
 use Rattle.image_format.specs.Image.{Constant, number, text, Instruction}
-use Rattle.image_format.specs.Reading.{Taker, fromBytes, many, counted, constant, instruction}
+use Rattle.image_format.specs.Reading.{fromBytes, counted, constant, instruction}
 use Rattle.image_index.specs.Stands.{Stands, aText, instructionOf}
-use Rattle.image_index.specs.declared.lists.Kind.{Kind}
-use Rattle.image_index.specs.declared.lists.Kind.the-variants.{Constants, Eres, Instructions}
-use Rattle.image_index.specs.declared.lists.Entry.{Entry}
-use Rattle.image_index.specs.declared.lists.Listed.{Listed}
+use Rattle.image_index.specs.declared.indexes.Kind.{Kind}
+use Rattle.image_index.specs.declared.indexes.Kind.the-variants.{Constants, Eres, Instructions}
+use Rattle.image_index.specs.declared.indexes.Entry.{Entry}
+use Rattle.image_index.specs.declared.indexes.Listed.{Listed}
 use Rattle.image_index.specs.declared.access.Numbers.{Numbers}
 
 abbrev pub ItemOf : Kind → Type 0
@@ -51,7 +51,7 @@ abbrev pub numbersOf : ℕ → Numbers
 numbersOf w = record { code = w % 64; depth = w / 64 % 64; operand = w / 4096 }
 
 module _ (edition : ℕ) where
-  abbrev pub takerOf : (k : Kind) → Taker (ItemOf k)
+  abbrev pub takerOf : (k : Kind) → Parser (ItemOf k)
   takerOf Constants = constant fromBytes
   takerOf Eres = aText
   takerOf Instructions = instruction fromBytes edition
@@ -61,7 +61,7 @@ module _ (edition : ℕ) where
   FitsOf Constants (number n) = Unit {0}
   FitsOf Constants (text l) = length l ≤ textBytes
   FitsOf Eres l = (e : Ere Class) × (readEre edition l ≡ some e)
-  FitsOf Instructions j = (j .depth ≤ operandDepth) × (Every (λ v. v < instructionCount) (j .named))
+  FitsOf Instructions j = (j .depth ≤ operandDepth) × (Every (λ v. v < instructionCount) (j .immediates))
 
   -- An entry of an index tells an item: of an instruction its numbers, of any other its place.
   abbrev pub TellsOf : (k : Kind) → List ℕ → ℕ → ItemOf k → Type 0
@@ -72,7 +72,7 @@ module _ (edition : ℕ) where
   module _ (k : Kind) (l : List ℕ) where
     -- an item that fits, and its entry
     pub record EntryAt (at : ℕ) (r : Entry) : Type 0 where
-      pub refused : r .ok ≡ false → (a : ItemOf k) (t : List ℕ) → takerOf k (drop at l) ≡ got a t → FitsOf k a → ⊥
+      pub refused : r .ok ≡ false → (a : ItemOf k) (t : List ℕ) → takerOf k (drop at l) ≡ parsed a t → FitsOf k a → ⊥
       pub found : r .ok ≡ true → (a : ItemOf k) × (Stands (takerOf k) l at a (r .end)) × (FitsOf k a) × (TellsOf k l (r .entry) a)
 
     -- each entry that the index has tells its item
@@ -87,13 +87,13 @@ module _ (edition : ℕ) where
 
     -- so many items, each of which fits
     pub record ItemsAt (n at : ℕ) (r : Listed) (index : List ℕ) : Type 0 where
-      pub refused : r .ok ≡ false → (xs : List (ItemOf k)) (t : List ℕ) → many (takerOf k) n (drop at l) ≡ got xs t → Every (FitsOf k) xs → ⊥
+      pub refused : r .ok ≡ false → (xs : List (ItemOf k)) (t : List ℕ) → many (takerOf k) n (drop at l) ≡ parsed xs t → Every (FitsOf k) xs → ⊥
       pub found : r .ok ≡ true
-          → (xs : List (ItemOf k)) × (many (takerOf k) n (drop at l) ≡ got xs (drop (r .end) l)) × (at ≤ r .end) × (r .end ≤ length l) × (r .count ≡ n)
+          → (xs : List (ItemOf k)) × (many (takerOf k) n (drop at l) ≡ parsed xs (drop (r .end) l)) × (at ≤ r .end) × (r .end ≤ length l) × (r .count ≡ n)
           × (length xs ≡ n) × (Every (FitsOf k) xs) × (Indexes xs index)
 
     pub record ListAt (at : ℕ) (r : Listed) (index : List ℕ) : Type 0 where
-      pub refused : r .ok ≡ false → (xs : List (ItemOf k)) (t : List ℕ) → counted fromBytes (takerOf k) (drop at l) ≡ got xs t → Fits xs → ⊥
+      pub refused : r .ok ≡ false → (xs : List (ItemOf k)) (t : List ℕ) → counted fromBytes (takerOf k) (drop at l) ≡ parsed xs t → Fits xs → ⊥
       pub found : r .ok ≡ true
           → (xs : List (ItemOf k)) × (Stands (counted fromBytes (takerOf k)) l at xs (r .end)) × (r .count ≡ length xs) × (Fits xs) × (Indexes xs index)
 

@@ -6,25 +6,25 @@ use mathlib.Core.Option.{none}
 use Prim.Native.Nat.{ℕ, _-_, _≤_, _<_}
 use lib.ListN.{length, take, drop}
 use lib.Dec.{eqb}
+use Rattle.lists.specs.Parsing.{parsed, Parser, many}
 use Rattle.buffer.specs.Parts.{part}
-use Rattle.ere_grammar.specs.Read.{got}
 use Rattle.image_format.specs.Codes.{codeOf}
 use Rattle.image_format.specs.Image.{Constant, number, text, Instruction}
 use Rattle.image_format.specs.Numbers.{takeNumber}
-use Rattle.image_format.specs.Reading.{Taker, fromBytes, upTo, many, counted, constant, instruction}
+use Rattle.image_format.specs.Reading.{fromBytes, wordUpTo, counted, constant, instruction}
 use Rattle.opcodes.specs.Rows.{operandsIn}
 use Rattle.image_index.specs.declared.items.Text.{Text}
 use Rattle.image_index.specs.declared.items.Found.{Found}
 use Rattle.image_index.specs.declared.items.Fetched.{Fetched}
 
 -- p takes a off the bytes from `at` on, and goes on at `end`
-pub record Stands {A : Type 0} (p : Taker A) (l : List ℕ) (at : ℕ) (a : A) (end : ℕ) : Type 0 where
-  pub taken : p (drop at l) ≡ got a (drop end l)
+pub record Stands {A : Type 0} (p : Parser A) (l : List ℕ) (at : ℕ) (a : A) (end : ℕ) : Type 0 where
+  pub taken : p (drop at l) ≡ parsed a (drop end l)
   pub forward : at < end
   pub inside : end ≤ length l
 
-abbrev pub aText : Taker (List ℕ)
-aText = counted fromBytes (upTo 255)
+abbrev pub aText : Parser (List ℕ)
+aText = counted fromBytes (wordUpTo 255)
 
 -- ---- a text
 
@@ -62,13 +62,13 @@ pub record ConstantAt (l : List ℕ) (at : ℕ) (r : Found) : Type 0 where
 -- an instruction by its numbers: the operand counts where the code names something
 abbrev pub instructionOf : ℕ → ℕ → ℕ → ℕ → Instruction
 instructionOf edition code depth operand =
-    record { code = code; depth = depth; named = take (operandsIn (codeOf edition code)) (operand ∷ []) }
+    record { code = code; depth = depth; immediates = take (operandsIn (codeOf edition code)) (operand ∷ []) }
 
 -- behind code and depth, as many numbers as the code names
 pub record OperandAt (edition code depth : ℕ) (l : List ℕ) (at : ℕ) (r : Fetched) : Type 0 where
   pub refused : r .ok ≡ false → many takeNumber (operandsIn (codeOf edition code)) (drop at l) ≡ none
   pub found : r .ok ≡ true
-      → (many takeNumber (operandsIn (codeOf edition code)) (drop at l) ≡ got (take (operandsIn (codeOf edition code)) (r .operand ∷ [])) (drop (r .end) l))
+      → (many takeNumber (operandsIn (codeOf edition code)) (drop at l) ≡ parsed (take (operandsIn (codeOf edition code)) (r .operand ∷ [])) (drop (r .end) l))
       × (at ≤ r .end) × (r .end ≤ length l) × (r .code ≡ code) × (r .depth ≡ depth)
   pub plain : r .ok ≡ true → operandsIn (codeOf edition code) ≡ 0 → r .operand ≡ 0
 

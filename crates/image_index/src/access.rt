@@ -6,7 +6,7 @@ ghost use lib.ListN.{length, getD};
 ghost use Rattle.image_format.specs.Image.{text};
 ghost use Rattle.image_index.specs.Stands.{ConstantAt};
 ghost use Rattle.image_index.specs.Lists.{numbersOf, TellsOf, IsPart};
-ghost use Rattle.image_index.specs.declared.lists.Kind.the-variants.{Constants, Eres};
+ghost use Rattle.image_index.specs.declared.indexes.Kind.the-variants.{Constants, Eres};
 use crate::items;
 use crate::items::Found;
 

@@ -159,7 +159,7 @@ pub fn instruction_at(image: &[u8], edition: u64, at: usize) -> Fetched
     let Taken::Number(code, behind) = varint::take_number(image, at) else {
         return no_instruction();
     };
-    if !opcodes::known(edition, code) {
+    if !opcodes::known_code(edition, code) {
         return no_instruction();
     }
     let Taken::Number(depth, last) = varint::take_number(image, behind) else {

@@ -5,18 +5,18 @@ use mathlib.Core.List.{List}
 use mathlib.Core.Option.{some}
 use Prim.Native.Nat.{ℕ}
 use lib.ListN.{length, drop}
+use Rattle.image_index.specs.Header.{Follows, SectionsIn, HeaderAt}
 use Rattle.image_format.specs.Image.{Image}
 use Rattle.image_format.specs.Reading.{fromBytes, readImage}
-use Rattle.semantics.specs.Moves.{Section, begin, each, finish, sectionOf}
+use Rattle.semantics.specs.Moves.{Section, begin, main, end, sectionOf}
 use Rattle.semantics.specs.Check.{check}
 use Rattle.semantics.specs.Checked.{Checked}
 use Rattle.image_index.specs.Lists.{ItemOf, takerOf, Fits, ListAt}
-use Rattle.image_index.specs.declared.lists.Kind.{Kind}
-use Rattle.image_index.specs.declared.lists.Kind.the-variants.{Constants, Eres, Instructions}
-use Rattle.image_index.specs.declared.lists.Listed.{Listed}
+use Rattle.image_index.specs.declared.indexes.Kind.{Kind}
+use Rattle.image_index.specs.declared.indexes.Kind.the-variants.{Constants, Eres, Instructions}
+use Rattle.image_index.specs.declared.indexes.Listed.{Listed}
 use Rattle.image_index.proofs.Standing.{never}
-use Rattle.image_check.specs.Sections.{Follows, SectionsIn, HeaderAt}
-use Rattle.image_check.specs.declared.checking.Header.{Header}
+use Rattle.image_index.specs.declared.header.Header.{Header}
 use Rattle.image_check.proofs.Fitting.{constants-fit, eres-fit, section-fits, list-refused, list-found}
 use Rattle.image_loader.specs.Loads.{rooms, LoadsList, SectionsLoaded, LoadsAccepted}
 use Rattle.image_loader.specs.declared.loading.Counts.{Counts}
@@ -50,24 +50,24 @@ module _ (i : Image) (passes : check i ≡ true) (l : List ℕ) (edition : ℕ) 
 -- ---- the three sections
 
 abbrev Ends : Image → List ℕ → Type 0
-Ends i = Follows (takerOf (i .edition) Instructions) (i .ends) (λ t. length t ≡ 0)
+Ends i = Follows (takerOf (i .edition) Instructions) (i .end) (λ t. length t ≡ 0)
 
 module _ (edition : ℕ) (l : List ℕ) (at : ℕ) (b : Listed) (bs : List ℕ) (x : ListAt edition Instructions l at b bs) where
   pub begins-walked : (i : Image) → edition ≡ i .edition → check i ≡ true → SectionsIn i (drop at l)
-      → Walked i l Instructions (i .begins) (Follows (takerOf (i .edition) Instructions) (i .records) (Ends i)) b bs
+      → Walked i l Instructions (i .begin) (Follows (takerOf (i .edition) Instructions) (i .main) (Ends i)) b bs
   begins-walked i e h p = section-walked i h l edition e begin _ at p b bs x
 
   module _ (r : Listed) (rs : List ℕ) (y : ListAt edition Instructions l (b .end) r rs) where
     pub records-walked : (i : Image) → edition ≡ i .edition → check i ≡ true → SectionsIn i (drop at l)
-        → Walked i l Instructions (i .records) (Ends i) r rs
-    records-walked i e h p = section-walked i h l edition e each _ (b .end) (begins-walked i e h p .rest) r rs y
+        → Walked i l Instructions (i .main) (Ends i) r rs
+    records-walked i e h p = section-walked i h l edition e main _ (b .end) (begins-walked i e h p .rest) r rs y
 
     pub sections-loaded : (f : Listed) (fs : List ℕ) → ListAt edition Instructions l (r .end) f fs
-        → SectionsLoaded edition l at (record { begins = b .count; records = r .count; ends = f .count }) bs rs fs
+        → SectionsLoaded edition l at (record { begin = b .count; main = r .count; end = f .count }) bs rs fs
     sections-loaded f fs z i e h p =
         let one = begins-walked i e h p in
         let two = records-walked i e h p in
-        (one .loaded, two .loaded, section-walked i h l edition e finish _ (r .end) (two .rest) f fs z .loaded)
+        (one .loaded, two .loaded, section-walked i h l edition e end _ (r .end) (two .rest) f fs z .loaded)
 
 -- ---- the whole
 
@@ -90,7 +90,7 @@ module _ (l : List ℕ) (h : Header) (x : HeaderAt l h) where
 
       pub image-loaded : (s : Counts) (bs rs fs : List ℕ) → SectionsLoaded (h .edition) l (e .end) s bs rs fs
           → LoadsAccepted l
-          (record { edition = h .edition; users = h .users; constants = c .count; eres = e .count; begins = s .begins; records = s .records; ends = s .ends })
+          (record { edition = h .edition; users = h .users; constants = c .count; eres = e .count; begin = s .begin; main = s .main; end = s .end })
           (rooms cs es bs rs fs)
       image-loaded s bs rs fs w i r k =
           let f = x .found (header-there i r) i r in
@@ -103,11 +103,11 @@ module _ (l : List ℕ) (h : Header) (x : HeaderAt l h) where
             constant-count = one .count;
             ere-count = two .loaded .count;
             begin-count = three .0 .count;
-            record-count = three .1 .count;
+            main-count = three .1 .count;
             end-count = three .2 .count;
             constants = one .indexed;
             eres = two .loaded .indexed;
-            begins = three .0 .indexed;
-            records = three .1 .indexed;
-            ends = three .2 .indexed;
+            begin = three .0 .indexed;
+            main = three .1 .indexed;
+            end = three .2 .indexed;
           }

@@ -10,23 +10,23 @@ pub struct Loaded {
     pub users: u64,
     pub constants: usize,
     pub eres: usize,
-    pub begins: usize,
-    pub records: usize,
-    pub ends: usize,
+    pub begin: usize,
+    pub main: usize,
+    pub end: usize,
 }
 
 // How many instructions each section has.
 pub struct Counts {
-    pub begins: usize,
-    pub records: usize,
-    pub ends: usize,
+    pub begin: usize,
+    pub main: usize,
+    pub end: usize,
 }
 
 fn no_counts() -> Counts {
     Counts {
-        begins: 0,
-        records: 0,
-        ends: 0,
+        begin: 0,
+        main: 0,
+        end: 0,
     }
 }
 
@@ -36,9 +36,9 @@ fn nothing() -> Loaded {
         users: 0,
         constants: 0,
         eres: 0,
-        begins: 0,
-        records: 0,
-        ends: 0,
+        begin: 0,
+        main: 0,
+        end: 0,
     }
 }
 
@@ -47,26 +47,26 @@ fn sections(
     image: &[u8],
     edition: u64,
     at: usize,
-    begins: &mut [u32],
-    records: &mut [u32],
-    ends: &mut [u32],
+    begin: &mut [u32],
+    main: &mut [u32],
+    end: &mut [u32],
 ) -> Counts
     requires { ⌜ (at ≤ length (now image)) × (length (now image) < 65536) ⌝ }
-    ensures { λ r. ⌜ SectionsLoaded edition (now (image .entry)) at r (now (begins .exit)) (now (records .exit)) (now (ends .exit)) ⌝ }
+    ensures { λ r. ⌜ SectionsLoaded edition (now (image .entry)) at r (now (begin .exit)) (now (main .exit)) (now (end .exit)) ⌝ }
 {
-    let b = image_index::list_at(image, edition, Kind::Instructions, at, begins);
+    let b = image_index::list_at(image, edition, Kind::Instructions, at, begin);
     if !b.ok {
         return no_counts();
     }
-    let r = image_index::list_at(image, edition, Kind::Instructions, b.end, records);
+    let r = image_index::list_at(image, edition, Kind::Instructions, b.end, main);
     if !r.ok {
         return no_counts();
     }
-    let f = image_index::list_at(image, edition, Kind::Instructions, r.end, ends);
+    let f = image_index::list_at(image, edition, Kind::Instructions, r.end, end);
     Counts {
-        begins: b.count,
-        records: r.count,
-        ends: f.count,
+        begin: b.count,
+        main: r.count,
+        end: f.count,
     }
 }
 
@@ -75,17 +75,17 @@ pub fn load(
     image: &[u8],
     constants: &mut [u32],
     eres: &mut [u32],
-    begins: &mut [u32],
-    records: &mut [u32],
-    ends: &mut [u32],
+    begin: &mut [u32],
+    main: &mut [u32],
+    end: &mut [u32],
 ) -> Loaded
     ensures { λ r. ⌜ LoadsAccepted (now (image .entry)) r
-        (rooms (now (constants .exit)) (now (eres .exit)) (now (begins .exit)) (now (records .exit)) (now (ends .exit))) ⌝ }
+        (rooms (now (constants .exit)) (now (eres .exit)) (now (begin .exit)) (now (main .exit)) (now (end .exit))) ⌝ }
 {
-    if image_index::IMAGE <= image.len() {
+    if image_index::IMAGE_BYTES <= image.len() {
         return nothing();
     }
-    let h = image_check::header_of(image);
+    let h = image_index::header_of(image);
     if !h.ok {
         return nothing();
     }
@@ -97,14 +97,14 @@ pub fn load(
     if !e.ok {
         return nothing();
     }
-    let s = sections(image, h.edition, e.end, begins, records, ends);
+    let s = sections(image, h.edition, e.end, begin, main, end);
     Loaded {
         edition: h.edition,
         users: h.users,
         constants: c.count,
         eres: e.count,
-        begins: s.begins,
-        records: s.records,
-        ends: s.ends,
+        begin: s.begin,
+        main: s.main,
+        end: s.end,
     }
 }

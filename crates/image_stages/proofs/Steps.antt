@@ -7,16 +7,16 @@ use Prim.Native.Nat.{ℕ, zero, suc, _-_}
 use native.Mathlib.Omega.{arith}
 use lib.Dec.{eqb}
 use borrow.Author.Tests.{ne-eqb}
-use Rattle.ere_grammar.specs.Read.{got}
+use Rattle.lists.specs.Parsing.{parsed, bind}
 use Rattle.image_format.specs.Codes.{Code as Row, codeOf}
 use Rattle.image_format.specs.Image.{known}
-use Rattle.image_format.specs.Reading.{Source, then}
+use Rattle.image_format.specs.Reading.{Source}
 use Rattle.image_stages.specs.Transcript.{Rest, before, refused, aNumber, aByte, times, numbers, bytes, aText, ofKind, ofCode, aConstant, anInstruction, anItem, lists, behindEdition, transcript}
 use Rattle.image_stages.specs.Stages.{state, itemsLeft, unitsLeft, afterKind, afterCode, afterEdition, after, start, at, isOpen, isEnd, takenAt, writtenAt, restBy, rest}
 use Rattle.image_stages.specs.declared.stages.Stage.{Stage}
 use Rattle.image_stages.specs.declared.stages.Stage.the-variants.{Edition, Users, Count, Kind, Value, Length, Byte, Code, Depth, Operand, End, Refused}
 use Rattle.image_stages.specs.declared.stages.State.{State}
-use Rattle.image_stages.proofs.Then.{then-same}
+use Rattle.image_stages.proofs.Then.{bind-same}
 
 -- one more is some, and one less than that is what it was
 some-left : (n : ℕ) → eqb (suc n) 0 ≡ false
@@ -100,29 +100,29 @@ module _ (source : Source) (write : ℕ → List ℕ) where
 
   step-at : (stage : Stage) (e b i n : ℕ) → isOpen stage ≡ true → (l : List ℕ)
       → rest source write (state stage e b i n) l
-      ≡ then (takenAt source stage l) (λ v l. before (writtenAt source write stage v) (rest source write (after (state stage e b i n) v) l))
+      ≡ bind (takenAt source stage l) (λ v l. before (writtenAt source write stage v) (rest source write (after (state stage e b i n) v) l))
   unfolding rest times lists
-  step-at Edition e b i n h l = then-same (source .takes l) (λ v l. ap (before (write v)) (edition-rest v l))
+  step-at Edition e b i n h l = bind-same (source .number l) (λ v l. ap (before (write v)) (edition-rest v l))
   step-at Users e b i n h l = refl
-  step-at Count e b i n h l = then-same (source .takes l) (λ v l. ap (before (write v)) (sym (items-rest (state Count e b i n) v l)))
-  step-at Kind e b i n h l = then-same (source .takes l) (λ v l. ap (before (write v)) (kind-rest (state Kind e b i n) v l))
-  step-at Value e b i n h l = then-same (source .takes l) (λ v l. ap (before (write v)) (sym (items-rest (state Value e b i n) i l)))
-  step-at Length e b i n h l = then-same (source .takes l) (λ v l. ap (before (write v)) (sym (bytes-rest (state Length e b i n) v l)))
-  step-at Byte e b i n h l = then-same (source .byte l) (λ v l. ap (before (v ∷ [])) (sym (bytes-rest (state Byte e b i n) n l)))
-  step-at Code e b i n h l = then-same (source .takes l) (λ v l. ap (before (write v)) (code-rest (state Code e b i n) (codeOf e v) l))
-  step-at Depth e b i n h l = then-same (source .takes l) (λ v l. ap (before (write v)) (sym (operands-rest (state Depth e b i n) n l)))
-  step-at Operand e b i n h l = then-same (source .takes l) (λ v l. ap (before (write v)) (sym (operands-rest (state Operand e b i n) n l)))
+  step-at Count e b i n h l = bind-same (source .number l) (λ v l. ap (before (write v)) (sym (items-rest (state Count e b i n) v l)))
+  step-at Kind e b i n h l = bind-same (source .number l) (λ v l. ap (before (write v)) (kind-rest (state Kind e b i n) v l))
+  step-at Value e b i n h l = bind-same (source .number l) (λ v l. ap (before (write v)) (sym (items-rest (state Value e b i n) i l)))
+  step-at Length e b i n h l = bind-same (source .number l) (λ v l. ap (before (write v)) (sym (bytes-rest (state Length e b i n) v l)))
+  step-at Byte e b i n h l = bind-same (source .byte l) (λ v l. ap (before (v ∷ [])) (sym (bytes-rest (state Byte e b i n) n l)))
+  step-at Code e b i n h l = bind-same (source .number l) (λ v l. ap (before (write v)) (code-rest (state Code e b i n) (codeOf e v) l))
+  step-at Depth e b i n h l = bind-same (source .number l) (λ v l. ap (before (write v)) (sym (operands-rest (state Depth e b i n) n l)))
+  step-at Operand e b i n h l = bind-same (source .number l) (λ v l. ap (before (write v)) (sym (operands-rest (state Operand e b i n) n l)))
   step-at End e b i n h l = absurd (true≢false (sym h))
   step-at Refused e b i n h l = absurd (true≢false (sym h))
 
   pub rest-step : (s : State) → isOpen (s .stage) ≡ true → (l : List ℕ)
-      → rest source write s l ≡ then (takenAt source (s .stage) l) (λ v l. before (writtenAt source write (s .stage) v) (rest source write (after s v) l))
+      → rest source write s l ≡ bind (takenAt source (s .stage) l) (λ v l. before (writtenAt source write (s .stage) v) (rest source write (after s v) l))
   rest-step s = step-at (s .stage) (s .edition) (s .behind) (s .items) (s .left)
 
   -- ---- where there is no step, and where the first is
 
   -- where nothing is to come, an image is whole or there is none
-  closed : (s : State) (l : List ℕ) (g : Stage) → isOpen g ≡ false → restBy source write s g l ≡ cond (isEnd g) (got [] l) none
+  closed : (s : State) (l : List ℕ) (g : Stage) → isOpen g ≡ false → restBy source write s g l ≡ cond (isEnd g) (parsed [] l) none
   closed s l Edition h = absurd (true≢false h)
   closed s l Users h = absurd (true≢false h)
   closed s l Count h = absurd (true≢false h)
@@ -136,7 +136,7 @@ module _ (source : Source) (write : ℕ → List ℕ) where
   closed s l End h = refl
   closed s l Refused h = refl
 
-  pub rest-closed : (s : State) → isOpen (s .stage) ≡ false → (l : List ℕ) → rest source write s l ≡ cond (isEnd (s .stage)) (got [] l) none
+  pub rest-closed : (s : State) → isOpen (s .stage) ≡ false → (l : List ℕ) → rest source write s l ≡ cond (isEnd (s .stage)) (parsed [] l) none
   unfolding rest
   rest-closed s h l = closed s l (s .stage) h
 

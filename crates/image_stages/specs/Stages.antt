@@ -5,10 +5,11 @@ use mathlib.Core.Option.{Option, some, none}
 use Prim.Native.Nat.{ℕ, suc, _-_}
 use lib.ListN.{length}
 use lib.Dec.{eqb}
+use Rattle.lists.specs.Parsing.{Parser, succeed}
 use Rattle.edition.specs.Limits.{numberBound}
 use Rattle.image_format.specs.Codes.{Code as Row, codeOf}
 use Rattle.image_format.specs.Image.{known}
-use Rattle.image_format.specs.Reading.{Taker, Source, done}
+use Rattle.image_format.specs.Reading.{Source}
 use Rattle.image_stages.specs.Transcript.{Rest, refused, aNumber, times, numbers, bytes, aText, aConstant, anInstruction, anItem, lists, transcript}
 use Rattle.image_stages.specs.declared.stages.Stage.{Stage}
 use Rattle.image_stages.specs.declared.stages.Stage.the-variants.{Edition, Users, Count, Kind, Value, Length, Byte, Code, Depth, Operand, End, Refused}
@@ -48,7 +49,7 @@ afterKind s v = cond (eqb v 0) (at Value s) (cond (eqb v 1) (at Length s) (refus
 -- an operand where the code names something
 abbrev pub afterCode : State → Option Row → State
 afterCode s none = refusal s
-afterCode s (some c) = state Depth (s .edition) (s .behind) (s .items) (length (c .names))
+afterCode s (some c) = state Depth (s .edition) (s .behind) (s .items) (length (c .immediates))
 
 abbrev pub afterEdition : ℕ → State
 afterEdition v = cond (known v) (state Users v 0 0 0) (state Refused v 0 0 0)
@@ -124,8 +125,8 @@ abbrev pub mostAt : Stage → ℕ
 mostAt stage = cond (isByte stage) 255 numberBound
 
 -- what is taken at a stage
-abbrev pub takenAt : Source → Stage → Taker ℕ
-takenAt source stage l = cond (isByte stage) (source .byte l) (source .takes l)
+abbrev pub takenAt : Source → Stage → Parser ℕ
+takenAt source stage l = cond (isByte stage) (source .byte l) (source .number l)
 
 module _ (source : Source) (write : ℕ → List ℕ) where
   -- how what is taken at a stage is written
@@ -148,7 +149,7 @@ module _ (source : Source) (write : ℕ → List ℕ) where
     restBy Code = anInstruction source write (s .edition) behindItem
     restBy Depth = aNumber source write (λ d. numbers source write (s .left) behindItem)
     restBy Operand = numbers source write (suc (s .left)) behindItem
-    restBy End = done []
+    restBy End = succeed []
     restBy Refused = refused
 
     unfoldable pub rest : Rest

@@ -6,19 +6,19 @@ use mathlib.Core.Option.{Option, some, none}
 use Prim.Native.Nat.{ℕ, zero, suc}
 use lib.ListN.{length}
 use lib.Dec.{eqb}
-use Rattle.ere_grammar.specs.Read.{Got, got}
+use Rattle.lists.specs.Parsing.{Parsed, parsed, Parser, bind, succeed}
 use Rattle.image_format.specs.Codes.{Code, codeOf}
 use Rattle.image_format.specs.Image.{Image, known}
-use Rattle.image_format.specs.Reading.{Taker, Source, then, done, parts}
+use Rattle.image_format.specs.Reading.{Source, parts}
 
 -- what is written from here on
 abbrev pub Rest : Type 0
-Rest = Taker (List ℕ)
+Rest = Parser (List ℕ)
 
 -- with something before it
-abbrev pub before : List ℕ → Option (Got (List ℕ)) → Option (Got (List ℕ))
+abbrev pub before : List ℕ → Option (Parsed (List ℕ)) → Option (Parsed (List ℕ))
 before w none = none
-before w (some g) = got (w ++ g .it) (g .left)
+before w (some g) = parsed (w ++ g .value) (g .rest)
 
 abbrev pub refused : Rest
 refused l = none
@@ -26,11 +26,11 @@ refused l = none
 module _ (source : Source) (write : ℕ → List ℕ) where
   -- a number, and what it leads to
   abbrev pub aNumber : (ℕ → Rest) → Rest
-  aNumber k l = then (source .takes l) (λ n l. before (write n) (k n l))
+  aNumber k l = bind (source .number l) (λ n l. before (write n) (k n l))
 
   -- a text byte
   abbrev pub aByte : Rest → Rest
-  aByte k l = then (source .byte l) (λ b l. before (b ∷ []) (k l))
+  aByte k l = bind (source .byte l) (λ b l. before (b ∷ []) (k l))
 
   -- so many bytes, numbers or items
   unfoldable pub times : (Rest → Rest) → ℕ → Rest → Rest
@@ -54,7 +54,7 @@ module _ (source : Source) (write : ℕ → List ℕ) where
 
   abbrev pub ofCode : Option Code → Rest → Rest
   ofCode none k = refused
-  ofCode (some c) k = aNumber (λ depth. numbers (length (c .names)) k)
+  ofCode (some c) k = aNumber (λ depth. numbers (length (c .immediates)) k)
 
   module _ (edition : ℕ) where
     abbrev pub anInstruction : Rest → Rest
@@ -66,7 +66,7 @@ module _ (source : Source) (write : ℕ → List ℕ) where
 
     -- so many lists
     unfoldable pub lists : ℕ → Rest
-    lists zero = done []
+    lists zero = succeed []
     lists (suc behind) = aNumber (λ n. times (anItem behind) n (lists behind))
 
   -- the whole
@@ -79,19 +79,19 @@ module _ (source : Source) (write : ℕ → List ℕ) where
 -- ---- what `coding` says of the same
 
 -- an image, before it is asked whether anything follows
-abbrev pub unended : Source → Taker Image
-unended source l = then (source .takes l) (λ edition l. cond (known edition) (parts source edition l) none)
+abbrev pub unended : Source → Parser Image
+unended source l = bind (source .number l) (λ edition l. cond (known edition) (parts source edition l) none)
 
 -- what was taken, written
-abbrev pub told : {A : Type 0} → (A → List ℕ) → Option (Got A) → Option (Got (List ℕ))
+abbrev pub told : {A : Type 0} → (A → List ℕ) → Option (Parsed A) → Option (Parsed (List ℕ))
 told w none = none
-told w (some g) = got (w (g .it)) (g .left)
+told w (some g) = parsed (w (g .value)) (g .rest)
 
 abbrev pub mapped : {A B : Type 0} → (A → B) → Option A → Option B
 mapped f none = none
 mapped f (some a) = some (f a)
 
 -- what was written, if nothing is left
-abbrev pub endedWith : Option (Got (List ℕ)) → Option (List ℕ)
+abbrev pub endedWith : Option (Parsed (List ℕ)) → Option (List ℕ)
 endedWith none = none
-endedWith (some g) = cond (eqb (length (g .left)) 0) (some (g .it)) none
+endedWith (some g) = cond (eqb (length (g .rest)) 0) (some (g .value)) none

@@ -97,7 +97,7 @@ fn units_left(stage: Stage, s: State, n: u64) -> State
 fn after_edition(v: u64) -> State
     ensures { λ r. ⌜ r ≡ afterEdition v ⌝ }
 {
-    if opcodes::is_known(v) {
+    if opcodes::known_edition(v) {
         return at(Stage::Users, v, 0, 0);
     }
     at(Stage::Refused, v, 0, 0)
@@ -118,7 +118,7 @@ fn after_kind(s: State, v: u64) -> State
 fn after_code(s: State, v: u64) -> State
     ensures { λ r. ⌜ r ≡ afterCode s (codeOf (s .edition) v) ⌝ }
 {
-    if opcodes::known(s.edition, v) {
+    if opcodes::known_code(s.edition, v) {
         return State {
             stage: Stage::Depth,
             edition: s.edition,

@@ -1,2 +1,4 @@
--- The digits of a word.
+-- What several crates need of lists, of parsers and of words.
+pub mod Parsing
+pub mod Elements
 pub mod Digit

@@ -9,12 +9,13 @@ use lib.IntN.{pos}
 use lib.ListN.{length, take, drop}
 use lib.Dec.{eqb, ltb}
 use borrow.Author.Tests.{lt-ltb, le-ltb, eq-eqb, ne-eqb, eqb-true}
+use Rattle.lists.specs.Elements.{All, empty, cons, leading}
 use Rattle.edition.specs.Limits.{numberBound}
 use Rattle.edition.specs.Outcomes.{numberOutOfRange, numberNotWhole}
 use Rattle.number.specs.Range.{number, stop}
-use Rattle.numeral.specs.Form.{All, none, more, isDigit, leading, isNegative, digitsFrom, wholeDigits, fractionDigits, hasPoint, pointAt, prefixLength}
+use Rattle.numeral.specs.Form.{isDigit, isNegative, digitsFrom, wholeDigits, fractionDigits, hasPoint, pointAt, prefixLength}
 use Rattle.numeral.specs.Judgement.{appended, valueAfter, digitsValue, nonzeroDigit, withSign, judged, prefixNumber}
-use Rattle.numeral.specs.Mirror.{capped, judgedBy}
+use Rattle.numeral.specs.Capped.{capped, judgedBy}
 use Rattle.numeral.proofs.Runs.{digit-range}
 use Rattle.numeral.proofs.Prefixes.{fraction-none, prefix-pointed, prefix-unpointed}
 
@@ -22,12 +23,12 @@ use Rattle.numeral.proofs.Prefixes.{fraction-none, prefix-pointed, pref
 
 module _ (kind : ℕ → Bool) where
   run-by : (b : Bool) (x : ℕ) (t : List ℕ) → kind x ≡ b → All kind (take (leading kind t) t) → All kind (take (cond b (suc (leading kind t)) 0) (x ∷ t))
-  run-by true x t e h = more e h
-  run-by false x t e h = none
+  run-by true x t e h = cons e h
+  run-by false x t e h = empty
 
   pub run-all : (t : List ℕ) → All kind (take (leading kind t) t)
   unfolding leading
-  run-all [] = none
+  run-all [] = empty
   run-all (x ∷ t) = run-by (kind x) x t refl (run-all t)
 
 pub digits-all : (a : ℕ) (t : List ℕ) → All isDigit (digitsFrom a t)
@@ -36,7 +37,7 @@ digits-all a t = run-all isDigit (drop a t)
 
 fraction-by : (b : Bool) (t : List ℕ) → All isDigit (cond b (digitsFrom (pointAt t + 1) t) [])
 fraction-by true t = digits-all (pointAt t + 1) t
-fraction-by false t = none
+fraction-by false t = empty
 
 pub fraction-all : (t : List ℕ) → All isDigit (fractionDigits t)
 unfolding fractionDigits
@@ -60,8 +61,8 @@ nonzero-by x t h (no ne) ih =
 
 pub nonzero-value : {t : List ℕ} → All isDigit t → ltb 0 (digitsValue t) ≡ nonzeroDigit t
 unfolding nonzeroDigit valueAfter
-nonzero-value none = refl
-nonzero-value (more {b = x} {t = t} d a) = nonzero-by x t (digit-range x d .0) (ℕ-discrete x 48) (nonzero-value a)
+nonzero-value empty = refl
+nonzero-value (cons {a = x} {l = t} d a) = nonzero-by x t (digit-range x d .0) (ℕ-discrete x 48) (nonzero-value a)
 
 -- ---- cutting off changes no judgement
 

@@ -9,7 +9,8 @@ use lib.ListN.{length, getD, take, drop, length-append, length-drop, take-append
 use lib.Seq.{take-all, drop-at, getD-take, getD-append-add, length-take-le}
 use lib.Dec.{eqb}
 use borrow.Author.Tests.{eq-eqb, ne-eqb, eqb-true, eqb-false, not-true}
-use Rattle.numeral.specs.Form.{All, none, more, Maybe, absent, present, Fraction, unpointed, pointed, Numeral, Looks, isBlank, isDigit, isSign, leading, prefixLength, afterBlanks, blankAfter, looksNumeric}
+use Rattle.lists.specs.Elements.{All, empty, cons, leading}
+use Rattle.numeral.specs.Form.{Maybe, absent, present, Fraction, unpointed, pointed, Numeral, Looks, isBlank, isDigit, isSign, prefixLength, afterBlanks, blankAfter, looksNumeric}
 use Rattle.numeral.proofs.Prefixes.{prefix-inside}
 use Rattle.numeral.proofs.Judging.{run-all}
 use Rattle.numeral.proofs.Numerals.{leading-append, digit-no-blank, prefix-numeral, prefix-longest, numeral-some}
@@ -17,23 +18,23 @@ use Rattle.numeral.proofs.Numerals.{leading-append, digit-no-blank, pre
 -- ---- texts of one kind
 
 pub all-append : {kind : ℕ → Bool} {a b : List ℕ} → All kind a → All kind b → All kind (a ++ b)
-all-append none q = q
-all-append (more e p) q = more e (all-append p q)
+all-append empty q = q
+all-append (cons e p) q = cons e (all-append p q)
 
 all-map : {kind other : ℕ → Bool} {a : List ℕ} → ((x : ℕ) → kind x ≡ true → other x ≡ true) → All kind a → All other a
-all-map f none = none
-all-map f (more {b = x} e p) = more (f x e) (all-map f p)
+all-map f empty = empty
+all-map f (cons {a = x} e p) = cons (f x e) (all-map f p)
 
 pub all-at : {kind : ℕ → Bool} {a : List ℕ} → All kind a → (i : ℕ) → i < length a → kind (getD a i 0) ≡ true
-all-at none i h = absurd (omega arith)
-all-at (more e p) zero h = e
-all-at (more e p) (suc i) h = all-at p i (omega arith)
+all-at empty i h = absurd (omega arith)
+all-at (cons e p) zero h = e
+all-at (cons e p) (suc i) h = all-at p i (omega arith)
 
 module _ (kind : ℕ → Bool) where
   pub run-whole : {a : List ℕ} → All kind a → leading kind a ≡ length a
   unfolding leading
-  run-whole none = refl
-  run-whole (more e p) = rw e (ap suc (run-whole p))
+  run-whole empty = refl
+  run-whole (cons e p) = rw e (ap suc (run-whole p))
 
   whole-run : (a : List ℕ) → leading kind a ≡ length a → All kind a
   whole-run a e = subst (All kind) (take-all (leading kind a) a (omega arith)) (run-all kind a)
@@ -56,15 +57,15 @@ sign-no-blank x h = no-blank-by (eqb x 43) refl h
     no-blank-by false e k = ap isNoBlank (eqb-true x 45 k)
 
 sign-clear : {g : List ℕ} → Maybe isSign g → All isNoBlank g
-sign-clear absent = none
-sign-clear (present {b = x} e) = more (sign-no-blank x e) none
+sign-clear absent = empty
+sign-clear (present {b = x} e) = cons (sign-no-blank x e) empty
 
 digits-clear : {w : List ℕ} → All isDigit w → All isNoBlank w
 digits-clear d = all-map (λ x e. ap not (digit-no-blank x e)) d
 
 fraction-clear : {p f : List ℕ} → Fraction p f → All isNoBlank (p ++ f)
-fraction-clear unpointed = none
-fraction-clear (pointed a) = more refl (digits-clear a)
+fraction-clear unpointed = empty
+fraction-clear (pointed a) = cons refl (digits-clear a)
 
 numeral-clear : {m : List ℕ} → Numeral m → All isNoBlank m
 numeral-clear n =

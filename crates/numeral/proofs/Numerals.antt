@@ -10,8 +10,10 @@ use lib.ListN.{length, getD, take, drop, length-append, take-append-drop, List·
 use lib.Seq.{getD-at, take-add, take-suc, take-at, drop-at, length-take-le}
 use lib.Dec.{eqb}
 use borrow.Author.Tests.{eq-eqb, ne-eqb, eqb-true, eqb-false}
-use Rattle.numeral.specs.Form.{All, none, more, Maybe, absent, present, Fraction, unpointed, pointed, Numeral, isBlank, isDigit, isSign, leading, digitsFrom, signLength, wholeDigits, pointAt, hasPoint, fractionDigits, prefixLength}
-use Rattle.numeral.proofs.Runs.{leading-le, digit-range}
+use Rattle.lists.proofs.Leading.{leading-le}
+use Rattle.lists.specs.Elements.{All, empty, cons, leading}
+use Rattle.numeral.specs.Form.{Maybe, absent, present, Fraction, unpointed, pointed, Numeral, isBlank, isDigit, isSign, digitsFrom, signLength, wholeDigits, pointAt, hasPoint, fractionDigits, prefixLength}
+use Rattle.numeral.proofs.Runs.{digit-range}
 use Rattle.numeral.proofs.Prefixes.{inside, length-digits, fraction-some, prefix-unpointed, prefix-pointed}
 use Rattle.numeral.proofs.Judging.{digits-all}
 
@@ -19,8 +21,8 @@ use Rattle.numeral.proofs.Judging.{digits-all}
 
 pub leading-append : (kind : ℕ → Bool) {a : List ℕ} (b : List ℕ) → All kind a → leading kind (a ++ b) ≡ length a + leading kind b
 unfolding leading
-leading-append kind b none = omega arith
-leading-append kind b (more {b = x} {t = a} e h) = rw e (omega (arith, leading-append kind b h))
+leading-append kind b empty = omega arith
+leading-append kind b (cons {a = x} {l = a} e h) = rw e (omega (arith, leading-append kind b h))
 
 -- a digit is no sign, no point and no blank
 pub digit-no-sign : (x : ℕ) → isDigit x ≡ true → isSign x ≡ false
@@ -116,9 +118,9 @@ spell sign whole point fraction rest = sign ++ (whole ++ (point ++ (fraction ++ 
 
 -- the first byte tells whether there is a sign
 no-sign : {w p f : List ℕ} (rest : List ℕ) → All isDigit w → Fraction p f → 0 < length w + length f → isSign (getD (w ++ (p ++ (f ++ rest))) 0 0) ≡ false
-no-sign rest (more {b = x} e a) f h = digit-no-sign x e
-no-sign rest none (pointed a) h = refl
-no-sign rest none unpointed h = absurd (omega arith)
+no-sign rest (cons {a = x} e a) f h = digit-no-sign x e
+no-sign rest empty (pointed a) h = refl
+no-sign rest empty unpointed h = absurd (omega arith)
 
 sign-counted : {g w p f : List ℕ} (rest : List ℕ) → Maybe isSign g → All isDigit w → Fraction p f → 0 < length w + length f
     → signLength (spell g w p f rest) ≡ length g

@@ -11,12 +11,13 @@ use lib.Seq.{length-take-le}
 use lib.Dec.{eqb}
 use borrow.Author.Tests.{eqb-true}
 use borrow.Rule.Slice.PartMut.{midOf}
+use Rattle.lists.proofs.Leading.{leading-le}
+use Rattle.lists.specs.Elements.{leading}
 use Rattle.buffer.proofs.Lent.{tail-lent}
-use Rattle.numeral.specs.Form.{isDigit, isSign, leading, digitsFrom, signLength, wholeDigits, pointAt, hasPoint, fractionDigits, prefixLength}
+use Rattle.numeral.specs.Form.{isDigit, isSign, digitsFrom, signLength, wholeDigits, pointAt, hasPoint, fractionDigits, prefixLength}
 use Rattle.numeral.specs.Judgement.{digitsValue}
-use Rattle.numeral.specs.Mirror.{capped, ReadsDigits}
+use Rattle.numeral.specs.Capped.{capped, ReadsDigits}
 use Rattle.numeral.specs.declared.digits.Digits.{Digits}
-use Rattle.numeral.proofs.Runs.{leading-le}
 
 -- a byte that is not 0 stands before the end
 pub inside : (t : List ℕ) (k : ℕ) → (getD t k 0 ≡ 0 → ⊥) → k < length t

@@ -7,9 +7,10 @@ use native.Mathlib.Omega.{arith}
 use lib.IntN.{ℤ, pos, negsuc}
 use lib.ListN.{length, getD, drop, length-append, List·getD-append}
 use borrow.Author.Tests.{le-leb, ne-eqb, le-ltb}
+use Rattle.lists.specs.Elements.{All, empty, cons, leading}
 use Rattle.edition.specs.Limits.{numberBound}
 use Rattle.number.specs.Range.{InRange, number}
-use Rattle.numeral.specs.Form.{All, none, more, Maybe, absent, present, Numeral, Looks, isBlank, isDigit, isSign, leading, wholeDigits, afterBlanks, looksNumeric, isNegative}
+use Rattle.numeral.specs.Form.{Maybe, absent, present, Numeral, Looks, isBlank, isDigit, isSign, wholeDigits, afterBlanks, looksNumeric, isNegative}
 use Rattle.numeral.specs.Judgement.{digitsValue, valueAfter, nonzeroDigit, withSign, judged, prefixNumber, numberOf}
 use Rattle.numeral.specs.Decimal.{decimalDigits, decimalText, Spells, digit, longer}
 use Rattle.numeral.proofs.Runs.{digit-range}
@@ -32,8 +33,8 @@ one-digit : (d : ℕ) → d < 10 → isDigit (48 + d) ≡ true
 one-digit d h = simp (le-leb 48 (48 + d) (omega arith), le-leb (48 + d) 57 (omega arith))
 
 spelled-all : {n : ℕ} {l : List ℕ} → Spells n l → All isDigit l
-spelled-all (digit {n = n} h) = more (one-digit n h) none
-spelled-all (longer {d = d} h s k) = all-append (spelled-all s) (more (one-digit d k) none)
+spelled-all (digit {n = n} h) = cons (one-digit n h) empty
+spelled-all (longer {d = d} h s k) = all-append (spelled-all s) (cons (one-digit d k) empty)
 
 spelled-some : {n : ℕ} {l : List ℕ} → Spells n l → 0 < length l
 spelled-some (digit h) = omega arith
@@ -83,8 +84,8 @@ module _ (g : List ℕ) (n : ℕ) (sign : Maybe isSign g) where
         numeral = g ++ decimalDigits n;
         after = [];
         spelled = sym (append-nil (g ++ decimalDigits n));
-        blank-before = none;
-        blank-after = none;
+        blank-before = empty;
+        blank-after = empty;
         form = text-form;
       }
 

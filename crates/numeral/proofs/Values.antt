@@ -8,7 +8,7 @@ use lib.ListN.{length, getD, take}
 use lib.Seq.{take-suc}
 use Rattle.edition.specs.Limits.{numberBound}
 use Rattle.numeral.specs.Judgement.{appended, valueAfter, digitsValue}
-use Rattle.numeral.specs.Mirror.{capped}
+use Rattle.numeral.specs.Capped.{capped}
 
 pub value-append : (a b : List ℕ) (v : ℕ) → valueAfter v (a ++ b) ≡ valueAfter (valueAfter v a) b
 unfolding valueAfter

@@ -5,6 +5,7 @@ use mathlib.Core.List.{List, [], _∷_, _++_}
 use Prim.Native.Nat.{ℕ, suc, _+_, _<_}
 use lib.ListN.{length, getD, take, drop}
 use lib.Dec.{eqb, leb}
+use Rattle.lists.specs.Elements.{All, leading}
 
 -- "blanks (space, tab)"
 abbrev pub isBlank : ℕ → Bool
@@ -15,11 +16,6 @@ isDigit b = cond (leb 48 b) (leb b 57) false
 
 abbrev pub isSign : ℕ → Bool
 isSign b = cond (eqb b 43) true (eqb b 45)
-
--- every byte of a text is of a kind
-pub data All (kind : ℕ → Bool) : List ℕ → Type 0 where
-  none : All kind []
-  more : {b : ℕ} {t : List ℕ} → kind b ≡ true → All kind t → All kind (b ∷ t)
 
 -- an optional byte of a kind
 pub data Maybe (kind : ℕ → Bool) : List ℕ → Type 0 where
@@ -53,12 +49,7 @@ pub record Looks (t : List ℕ) : Type 0 where
   pub blank-after : All isBlank after
   pub form : Numeral numeral
 
--- The same, computed. How many bytes of a kind a text begins with.
-unfoldable pub leading : (ℕ → Bool) → List ℕ → ℕ
-leading kind [] = 0
-leading kind (b ∷ t) = cond (kind b) (suc (leading kind t)) 0
-
--- the digits from index a on
+-- The same, computed. the digits from index a on
 unfoldable pub digitsFrom : ℕ → List ℕ → List ℕ
 digitsFrom a t = take (leading isDigit (drop a t)) (drop a t)
 

@@ -3,4 +3,4 @@ pub mod Form
 pub mod Judgement
 pub mod Decimal
 pub mod Answers
-pub mod Mirror
+pub mod Capped

@@ -8,7 +8,7 @@ ghost use Rattle.numeral.specs.Decimal.{decimalDigits, decimalText};
 use edition::Edition;
 
 // The most bytes that a number's text has.
-pub const DECIMAL: usize = 17;
+pub const DECIMAL_BYTES: usize = 17;
 
 // How many digits `n` has.
 fn digit_count(n: u64) -> usize

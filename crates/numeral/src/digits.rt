@@ -1,10 +1,11 @@
 // Runs of bytes of one kind at the front of a text.
 ghost use mathlib.Core.Path.{_≡_};
 ghost use Prim.Native.Nat.{_+_, _≤_};
+ghost use Rattle.lists.specs.Elements.{leading};
 ghost use Rattle.edition.specs.Limits.{numberBound};
-ghost use Rattle.numeral.specs.Form.{isBlank, isDigit, leading};
+ghost use Rattle.numeral.specs.Form.{isBlank, isDigit};
 ghost use Rattle.numeral.specs.Judgement.{appended};
-ghost use Rattle.numeral.specs.Mirror.{capped, ReadsDigits};
+ghost use Rattle.numeral.specs.Capped.{capped, ReadsDigits};
 use edition::Edition;
 
 // Digits at the front of a text: how many, and their value up to one past the greatest number.

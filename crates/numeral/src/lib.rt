@@ -4,7 +4,7 @@ mod digits;
 mod prefix;
 mod reading;
 
-pub use decimal::DECIMAL;
+pub use decimal::DECIMAL_BYTES;
 pub use decimal::decimal_length;
 pub use decimal::write_decimal;
 pub use reading::Reading;

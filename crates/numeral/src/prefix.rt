@@ -4,7 +4,7 @@ ghost use mathlib.Core.Bool.{cond};
 ghost use lib.ListN.{getD};
 ghost use lib.Dec.{eqb};
 ghost use Rattle.numeral.specs.Form.{isSign};
-ghost use Rattle.numeral.specs.Mirror.{ReadsPrefix};
+ghost use Rattle.numeral.specs.Capped.{ReadsPrefix};
 use crate::digits;
 
 // A prefix: its length, 0 where there is none, its sign, and the values of its digits before and after the point, each up to

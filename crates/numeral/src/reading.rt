@@ -3,7 +3,7 @@ ghost use mathlib.Core.Path.{_≡_};
 ghost use mathlib.Core.Bool.{cond, false};
 ghost use Prim.Native.Nat.{_+_, _≤_};
 ghost use lib.Dec.{eqb};
-ghost use Rattle.numeral.specs.Mirror.{judgedBy};
+ghost use Rattle.numeral.specs.Capped.{judgedBy};
 ghost use Rattle.numeral.specs.Answers.{Values, ReadsStripped, Reads};
 use crate::digits;
 use crate::prefix;

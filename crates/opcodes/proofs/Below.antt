@@ -6,7 +6,8 @@ use native.Mathlib.Omega.{arith}
 use lib.ListN.{length}
 use lib.Dec.{ltb, leb·suc-suc}
 use borrow.Author.Tests.{lt-ltb, le-ltb}
-use Rattle.image_format.specs.Codes.{nth, Code, codes, codeOf}
+use Rattle.lists.specs.Elements.{nth}
+use Rattle.image_format.specs.Codes.{Code, codes, codeOf}
 use Rattle.opcodes.specs.Rows.{isKnown}
 
 known-nth : (l : List Code) (n : ℕ) → isKnown (nth l n) ≡ ltb n (length l)

@@ -6,7 +6,8 @@ use Prim.Native.Nat.{ℕ, _*_, _^_, _/_, _%_, _<_}
 use lib.Dec.{eqb}
 use lib.ListN.{getD}
 use borrow.Author.Tests.{eqb-true}
-use Rattle.ere_grammar.proofs.Marks.{all, all-at}
+use Rattle.lists.proofs.Elements.{below-at}
+use Rattle.lists.specs.Elements.{allBelow}
 use Rattle.opcodes.specs.Rows.{rows}
 
 -- the code's answer, from its words
@@ -18,5 +19,5 @@ agree : ℕ → ℕ → Bool
 agree edition code = eqb (rowByte code) (getD (rows edition) code 0)
 
 pub row-byte : (edition code : ℕ) → code < 32 → rowByte code ≡ getD (rows edition) code 0
-unfolding all agree rows
-row-byte edition code h = eqb-true (rowByte code) (getD (rows edition) code 0) (all-at (agree edition) 32 refl code h)
+unfolding allBelow agree rows
+row-byte edition code h = eqb-true (rowByte code) (getD (rows edition) code 0) (below-at (agree edition) 32 refl code h)

@@ -1,4 +1,5 @@
--- Laws of the table of codes.
+-- Laws of the instruction set.
 pub mod Below
 pub mod Naming
 pub mod Bytes
+pub mod Assigning

@@ -7,8 +7,8 @@ use native.Mathlib.Omega.{arith}
 use lib.ListN.{length, getD}
 use lib.Dec.{eqb}
 use borrow.Author.Tests.{eq-eqb, ne-eqb}
-use Rattle.image_format.specs.Codes.{nth, Code, codes, codeOf}
-use Rattle.image_format.specs.Formed.{Every, none as no-more, both}
+use Rattle.lists.specs.Elements.{nth, Every, empty, cons}
+use Rattle.image_format.specs.Codes.{Code, codes, codeOf}
 use Rattle.opcodes.specs.Rows.{rowNumber, rows, operandsIn}
 
 -- none or one, by a row
@@ -16,17 +16,17 @@ abbrev byRow : ℕ → ℕ
 byRow r = cond (eqb (r / 8) 0) 0 1
 
 Counts : Code → Type 0
-Counts k = byRow (rowNumber k) ≡ length (k .names)
+Counts k = byRow (rowNumber k) ≡ length (k .immediates)
 
 all-count : (edition : ℕ) → Every Counts (codes edition)
 unfolding Counts
-all-count edition = search (both, no-more) depth 80 fits 2000
+all-count edition = search (cons, empty) depth 80 fits 2000
 
 counted : (l : List Code) → Every Counts l → (n : ℕ) → n < length l → byRow (getD (map rowNumber l) n 0) ≡ operandsIn (nth l n)
 unfolding nth Counts
 counted [] e n h = absurd (omega arith)
-counted (k ∷ l) (both x e) zero h = x
-counted (k ∷ l) (both x e) (suc n) h = counted l e n (omega arith)
+counted (k ∷ l) (cons x e) zero h = x
+counted (k ∷ l) (cons x e) (suc n) h = counted l e n (omega arith)
 
 row-operands : (edition code : ℕ) → code < 32 → byRow (getD (rows edition) code 0) ≡ operandsIn (codeOf edition code)
 unfolding rows codeOf

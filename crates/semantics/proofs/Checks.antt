@@ -7,17 +7,18 @@ use mathlib.Core.Option.{Option, some, none}
 use Prim.Native.Nat.{ℕ, suc, _+_, _-_, _≤_, _<_}
 use native.Mathlib.Omega.{arith}
 use lib.ListN.{length, getD}
+use Rattle.lists.proofs.Options.{some-one, none-some}
+use Rattle.lists.proofs.Says.{Says, restated, true-says, leb-says, ltb-says, eqb-says, and-then, and-says, agree-says, if-says, isSome-says, all-says, all-places, numbered-says}
+use Rattle.lists.specs.Elements.{nth}
 use Rattle.edition.specs.Limits.{textBytes, userNames, constantCount, ereCount, instructionCount, operandDepth}
 use Rattle.ere_grammar.specs.Read.{readEre}
-use Rattle.image_format.specs.Codes.{nth, Named, a-constant, a-variable, an-ere, an-instruction, a-count, Code, codeOf, Operation, action, flow, constant, get, set, field, set-field, drop, arithmetic, negate, to-number, negation, compare, join, matches, match, length-of, index, substr, print, end, jump, jump-if-false, next, exit}
+use Rattle.image_format.specs.Codes.{ImmediateKind, a-constant, a-variable, an-ere, an-instruction, a-count, Code, codeOf, Operation, action, flow, constant, get, set, field, set-field, drop, arithmetic, negate, to-number, negation, compare, join, matches, match, length-of, index, substr, print, section-end, jump, jump-if-false, next, exit}
 use Rattle.image_format.specs.Image.{Constant, number, text, Instruction, Image}
-use Rattle.image_format.proofs.Laws.{got-one, none-some}
 use Rattle.semantics.specs.Variables.{assignable}
-use Rattle.semantics.specs.Moves.{Section, begin, each, finish, sectionOf, isEnd}
-use Rattle.semantics.specs.Check.{exists, smallConstant, allExist, leaves, successors, depthIs, flowAllowed, allowed, holdsFor, byCode, instructionChecks, sectionChecks, check}
+use Rattle.semantics.specs.Moves.{Section, begin, main, end, sectionOf, isEnd}
+use Rattle.semantics.specs.Check.{exists, smallConstant, allExist, terminates, successors, depthIs, flowAllowed, allowed, holdsFor, byCode, instructionChecks, sectionChecks, check}
 use Rattle.semantics.specs.Checked.{Exists, AllExist, Allowed, Short, Checked}
 use Rattle.semantics.proofs.Tables.{rowOf, row-is}
-use Rattle.semantics.proofs.Says.{Says, restated, true-says, leb-says, ltb-says, eqb-says, and-then, and-says, same-says, if-says, isSome-says, all-says, all-places, numbered-says}
 
 -- ---- which clause of its own an operation has
 
@@ -42,75 +43,75 @@ clauseOf (action match) = 0
 clauseOf (action length-of) = 0
 clauseOf (action index) = 0
 clauseOf (action substr) = 0
-clauseOf (flow end) = 0
+clauseOf (flow section-end) = 0
 clauseOf (flow jump) = 0
 clauseOf (flow jump-if-false) = 0
 clauseOf (flow exit) = 0
 
 -- at which operations the depth is 0: end, next, exit
 abbrev Over : Operation → Type 0
-Over o = (o ≡ flow end) ⊎ ((o ≡ flow next) ⊎ (o ≡ flow exit))
+Over o = (o ≡ flow section-end) ⊎ ((o ≡ flow next) ⊎ (o ≡ flow exit))
 
 module _ (i : Image) where
   small-says : (a : Constant) → Says (smallConstant i a) (Short i a)
   small-says (number n) = (λ h. tt, λ h. refl)
   small-says (text l) = leb-says (length l) textBytes
 
-  isEnd-says : (o : Operation) → Says (isEnd i o) (o ≡ flow end)
+  isEnd-says : (o : Operation) → Says (isEnd i o) (o ≡ flow section-end)
   isEnd-says o = (is o, λ e. ap (isEnd i) e)
     where
-      is : (o : Operation) → isEnd i o ≡ true → o ≡ flow end
+      is : (o : Operation) → isEnd i o ≡ true → o ≡ flow section-end
       is (action a) h = absurd (false≢true h)
-      is (flow end) h = refl
+      is (flow section-end) h = refl
       is (flow jump) h = absurd (false≢true h)
       is (flow jump-if-false) h = absurd (false≢true h)
       is (flow next) h = absurd (false≢true h)
       is (flow exit) h = absurd (false≢true h)
 
   module _ (s : Section) where
-    exists-says : (k : Named) (n : ℕ) → Says (exists i s k n) (Exists i s k n)
+    exists-says : (k : ImmediateKind) (n : ℕ) → Says (exists i s k n) (Exists i s k n)
     exists-says a-constant n = ltb-says _ _
     exists-says a-variable n = ltb-says _ _
     exists-says an-ere n = ltb-says _ _
     exists-says an-instruction n = ltb-says _ _
     exists-says a-count n = (λ h. tt, λ h. refl)
 
-    allExist-says : (ks : List Named) (ns : List ℕ) → Says (allExist i s ks ns) (AllExist i s ks ns)
+    allExist-says : (ks : List ImmediateKind) (ns : List ℕ) → Says (allExist i s ks ns) (AllExist i s ks ns)
     allExist-says [] [] = (λ h. tt, λ h. refl)
     allExist-says [] (n ∷ ns) = (λ h. false≢true h, λ h. absurd h)
     allExist-says (k ∷ ks) [] = (λ h. false≢true h, λ h. absurd h)
     allExist-says (k ∷ ks) (n ∷ ns) = and-says (exists-says k n) (allExist-says ks ns)
 
     -- a code that names one thing has one number, and that thing exists
-    pub single : (k : Named) (ns : List ℕ) → AllExist i s (k ∷ []) ns → (n : ℕ) × (ns ≡ n ∷ []) × (Exists i s k n)
+    pub single : (k : ImmediateKind) (ns : List ℕ) → AllExist i s (k ∷ []) ns → (n : ℕ) × (ns ≡ n ∷ []) × (Exists i s k n)
     single k [] x = absurd x
     single k (n ∷ []) x = (n, refl, x .0)
     single k (n ∷ m ∷ l) x = absurd (x .1)
 
-    leaves-says : (o : Operation) → Says (leaves i s o) (Over o)
-    leaves-says o = (is o, back)
+    terminates-says : (o : Operation) → Says (terminates i s o) (Over o)
+    terminates-says o = (is o, back)
       where
-        is : (o : Operation) → leaves i s o ≡ true → Over o
+        is : (o : Operation) → terminates i s o ≡ true → Over o
         is (action a) h = absurd (false≢true h)
-        is (flow end) h = inl refl
+        is (flow section-end) h = inl refl
         is (flow jump) h = absurd (false≢true h)
         is (flow jump-if-false) h = absurd (false≢true h)
         is (flow next) h = inr (inl refl)
         is (flow exit) h = inr (inr refl)
 
-        back : Over o → leaves i s o ≡ true
-        back (inl e) = ap (leaves i s) e
-        back (inr (inl e)) = ap (leaves i s) e
-        back (inr (inr e)) = ap (leaves i s) e
+        back : Over o → terminates i s o ≡ true
+        back (inl e) = ap (terminates i s) e
+        back (inr (inl e)) = ap (terminates i s) e
+        back (inr (inr e)) = ap (terminates i s) e
 
     depthIs-says : (d : ℕ) (o : Option Instruction) → Says (depthIs i s d o) ((j : Instruction) × (o ≡ some j) × (j .depth ≡ d))
     depthIs-says d none = (λ h. absurd (false≢true h), λ x. absurd (none-some (x .1)))
-    depthIs-says d (some j) = restated (eqb-says (j .depth) d) (λ e. (j, refl, e)) (λ x. ap (λ (j : Instruction). j .depth) (got-one refl (x .1)) ∙ x .2)
+    depthIs-says d (some j) = restated (eqb-says (j .depth) d) (λ e. (j, refl, e)) (λ x. ap (λ (j : Instruction). j .depth) (some-one refl (x .1)) ∙ x .2)
 
     -- ---- the clauses of print, set and next
 
     abbrev Own : Operation → List ℕ → Type 0
-    Own o ns = (o ≡ action print → 1 ≤ getD ns 0 0) × (o ≡ action set → assignable (i .edition) (getD ns 0 0) ≡ true) × (o ≡ flow next → s ≡ each)
+    Own o ns = (o ≡ action print → 1 ≤ getD ns 0 0) × (o ≡ action set → assignable (i .edition) (getD ns 0 0) ≡ true) × (o ≡ flow next → s ≡ main)
 
     no-clause : (o : Operation) (ns : List ℕ) → clauseOf o ≡ 0 → Says true (Own o ns)
     no-clause o ns z = (
@@ -136,20 +137,20 @@ module _ (i : Image) where
         (restated (and-says {P = assignable (i .edition) (r .0) ≡ true} (λ h. h, λ h. h) true-says)
         (λ p. (λ e. absurd (omega (arith, ap clauseOf e)), λ e. p .0, λ e. absurd (omega (arith, ap clauseOf e)))) (λ p. (p .1 refl, tt)))
 
-  inRecords-says : (s : Section) → Says (flowAllowed i s next) (s ≡ each)
-  inRecords-says s = (is s, λ e. ap (λ (s : Section). flowAllowed i s next) e)
+  inMain-says : (s : Section) → Says (flowAllowed i s next) (s ≡ main)
+  inMain-says s = (is s, λ e. ap (λ (s : Section). flowAllowed i s next) e)
     where
-      is : (s : Section) → flowAllowed i s next ≡ true → s ≡ each
+      is : (s : Section) → flowAllowed i s next ≡ true → s ≡ main
       is begin h = absurd (false≢true h)
-      is each h = refl
-      is finish h = absurd (false≢true h)
+      is main h = refl
+      is end h = absurd (false≢true h)
 
   module _ (s : Section) where
-    allowed-says : (o : Operation) (ns : List ℕ) → AllExist i s (rowOf o .names) ns → Says (allowed i s o ns) (Own s o ns)
+    allowed-says : (o : Operation) (ns : List ℕ) → AllExist i s (rowOf o .immediates) ns → Says (allowed i s o ns) (Own s o ns)
     allowed-says (action print) ns x = print-says s ns x
     allowed-says (action set) ns x = set-says s ns x
     allowed-says (flow next) ns x =
-        restated (inRecords-says s)
+        restated (inMain-says s)
         (λ p. (λ e. absurd (omega (arith, ap clauseOf e)), λ e. absurd (omega (arith, ap clauseOf e)), λ e. p)) (λ p. p .2 refl)
     allowed-says (action constant) ns x = no-clause s _ ns refl
     allowed-says (action get) ns x = no-clause s _ ns refl
@@ -167,7 +168,7 @@ module _ (i : Image) where
     allowed-says (action length-of) ns x = no-clause s _ ns refl
     allowed-says (action index) ns x = no-clause s _ ns refl
     allowed-says (action substr) ns x = no-clause s _ ns refl
-    allowed-says (flow end) ns x = no-clause s _ ns refl
+    allowed-says (flow section-end) ns x = no-clause s _ ns refl
     allowed-says (flow jump) ns x = no-clause s _ ns refl
     allowed-says (flow jump-if-false) ns x = no-clause s _ ns refl
     allowed-says (flow exit) ns x = no-clause s _ ns refl
@@ -176,30 +177,30 @@ module _ (i : Image) where
 
     abbrev Leads : ℕ → Instruction → Code → Type 0
     Leads n j k =
-        (m : ℕ) → m < length (successors i s (k .operation) n (j .named))
-        → (d : Instruction) × (nth (sectionOf i s) (getD (successors i s (k .operation) n (j .named)) m 0) ≡ some d)
-        × (d .depth ≡ j .depth - (k .takes) (j .named) + (k .leaves) (j .named))
+        (m : ℕ) → m < length (successors i s (k .operation) n (j .immediates))
+        → (d : Instruction) × (nth (sectionOf i s) (getD (successors i s (k .operation) n (j .immediates)) m 0) ≡ some d)
+        × (d .depth ≡ j .depth - (k .pops) (j .immediates) + (k .pushes) (j .immediates))
 
     -- the clauses in the check's order
     abbrev Holds : ℕ → Instruction → Code → Type 0
     Holds n j k =
-        (AllExist i s (k .names) (j .named))
-        × (((k .operation ≡ flow end) ↔ (suc n ≡ length (sectionOf i s)))
+        (AllExist i s (k .immediates) (j .immediates))
+        × (((k .operation ≡ flow section-end) ↔ (suc n ≡ length (sectionOf i s)))
         × ((n ≡ 0 → j .depth ≡ 0)
         × ((Over (k .operation) → j .depth ≡ 0)
-        × ((j .depth ≤ operandDepth) × (((k .takes) (j .named) ≤ j .depth) × ((Leads n j k) × (Own s (k .operation) (j .named))))))))
+        × ((j .depth ≤ operandDepth) × (((k .pops) (j .immediates) ≤ j .depth) × ((Leads n j k) × (Own s (k .operation) (j .immediates))))))))
 
     holds-says : (n : ℕ) (j : Instruction) (k : Code) → k ≡ rowOf (k .operation) → Says (holdsFor i s n j k) (Holds n j k)
     unfolding holdsFor
     holds-says n j k e =
-        and-then (allExist-says s (k .names) (j .named)) (λ x.
-        and-says (same-says (isEnd-says (k .operation)) (eqb-says (suc n) (length (sectionOf i s))))
+        and-then (allExist-says s (k .immediates) (j .immediates)) (λ x.
+        and-says (agree-says (isEnd-says (k .operation)) (eqb-says (suc n) (length (sectionOf i s))))
         (and-says (if-says (eqb-says n 0) (eqb-says (j .depth) 0))
-        (and-says (if-says (leaves-says s (k .operation)) (eqb-says (j .depth) 0))
+        (and-says (if-says (terminates-says s (k .operation)) (eqb-says (j .depth) 0))
         (and-says (leb-says (j .depth) operandDepth)
-        (and-says (leb-says ((k .takes) (j .named)) (j .depth))
-        (and-says (all-places (λ (m : ℕ). depthIs-says s _ (nth (sectionOf i s) m)) 0 (successors i s (k .operation) n (j .named)))
-        (allowed-says (k .operation) (j .named) (rw e at x))))))))
+        (and-says (leb-says ((k .pops) (j .immediates)) (j .depth))
+        (and-says (all-places (λ (m : ℕ). depthIs-says s _ (nth (sectionOf i s) m)) 0 (successors i s (k .operation) n (j .immediates)))
+        (allowed-says (k .operation) (j .immediates) (rw e at x))))))))
 
     allowed-holds : (n : ℕ) (j : Instruction) (a : Allowed i s n j) → Holds n j (a .row)
     allowed-holds n j a =
@@ -232,7 +233,7 @@ module _ (i : Image) where
               prints = h .1 .1 .1 .1 .1 .1 .1 .0;
               sets = h .1 .1 .1 .1 .1 .1 .1 .1;
               nexts = h .1 .1 .1 .1 .1 .1 .1 .2;
-            }) (λ a. subst (λ (k : Code). Holds n j k) (got-one (a .code) e) (allowed-holds n j a))
+            }) (λ a. subst (λ (k : Code). Holds n j k) (some-one (a .code) e) (allowed-holds n j a))
 
     -- ---- a section
 
@@ -248,10 +249,10 @@ module _ (i : Image) where
 
   -- ---- the image
 
-  every-section : (Section-holds begin) × ((Section-holds each) × (Section-holds finish)) → (s : Section) → Section-holds s
+  every-section : (Section-holds begin) × ((Section-holds main) × (Section-holds end)) → (s : Section) → Section-holds s
   every-section h begin = h .0
-  every-section h each = h .1 .0
-  every-section h finish = h .1 .1
+  every-section h main = h .1 .0
+  every-section h end = h .1 .1
 
   -- the check of an image is true exactly if 01's clauses hold
   pub check-exactly : (check i ≡ true) ↔ Checked i
@@ -261,7 +262,7 @@ module _ (i : Image) where
       (and-says (and-says (leb-says (i .users) userNames) (and-says (leb-says (length (i .constants)) constantCount)
       (and-says (all-says small-says (i .constants)) (leb-says (length (i .eres)) ereCount))))
       (and-says (all-says (λ (l : List ℕ). isSome-says (readEre (i .edition) l)) (i .eres))
-      (and-says (section-says begin) (and-says (section-says each) (section-says finish)))))
+      (and-says (section-says begin) (and-says (section-says main) (section-says end)))))
       (λ h. record {
         users = h .0 .0;
         constants = h .0 .1 .0;
@@ -273,7 +274,7 @@ module _ (i : Image) where
         each-one = λ s. every-section (h .1 .1) s .1 .1;
       }) (λ c. (
         (c .users, (c .constants, (c .texts, c .eres))),
-        (c .reads, (section c begin, (section c each, section c finish))),
+        (c .reads, (section c begin, (section c main, section c end))),
       ))
     where
       section : Checked i → (s : Section) → Section-holds s

@@ -9,15 +9,16 @@ use native.Mathlib.Omega.{arith}
 use lib.ListN.{length, length-append}
 use lib.Dec.{ltb}
 use borrow.Author.Tests.{lt-ltb}
+use Rattle.lists.proofs.Options.{some-one, none-some}
+use Rattle.lists.proofs.Elements.{every-at}
+use Rattle.lists.specs.Elements.{nth, Every, empty, cons}
 use Rattle.edition.specs.Limits.{instructionCount, operandDepth, ereBytes}
 use Rattle.ere_grammar.proofs.Reading.{read-sound}
-use Rattle.image_format.specs.Codes.{nth, Named, a-constant, a-variable, an-ere, an-instruction, a-count, Code, codes, codeOf}
+use Rattle.image_format.specs.Codes.{ImmediateKind, a-constant, a-variable, an-ere, an-instruction, a-count, Code, codes, codeOf}
 use Rattle.image_format.specs.Image.{Constant, number, text, Instruction, Image}
-use Rattle.image_format.specs.Formed.{Every, none as no-more, both}
 use Rattle.image_format.specs.Numbers.{groups, coded}
 use Rattle.image_format.specs.Writing.{all, listed, bytes, constantIn, instructionIn, written, bytesOf}
-use Rattle.image_format.proofs.Laws.{got-one, none-some}
-use Rattle.semantics.specs.Moves.{Section, begin, each, finish, sectionOf}
+use Rattle.semantics.specs.Moves.{Section, begin, main, end, sectionOf}
 use Rattle.semantics.specs.Checked.{Exists, AllExist, Short, Checked}
 
 -- ---- bytes of a number
@@ -69,7 +70,7 @@ all-most one most (a ∷ l) h =
 -- ---- the table of codes
 
 -- A code names at most one number, and takes as many operands as a count that it names.
-abbrev CountTaken : List Named → (List ℕ → ℕ) → Type 0
+abbrev CountTaken : List ImmediateKind → (List ℕ → ℕ) → Type 0
 CountTaken [] takes = Unit
 CountTaken (a-constant ∷ []) takes = Unit
 CountTaken (a-variable ∷ []) takes = Unit
@@ -78,14 +79,8 @@ CountTaken (an-instruction ∷ []) takes = Unit
 CountTaken (a-count ∷ []) takes = (n : ℕ) → takes (n ∷ []) ≡ n
 CountTaken (k ∷ m ∷ l) takes = ⊥
 
-every-nth : {A : Type 0} {P : A → Type 0} {l : List A} → Every P l → (n : ℕ) {a : A} → nth l n ≡ some a → P a
-unfolding nth
-every-nth no-more n e = absurd (none-some e)
-every-nth {P} (both h k) zero e = subst P (got-one refl e) h
-every-nth (both h k) (suc n) e = every-nth k n e
-
-codes-count : (edition : ℕ) → Every (λ (k : Code). CountTaken (k .names) (k .takes)) (codes edition)
-codes-count edition = search (both, no-more, tt) depth 80 fits 2000
+codes-count : (edition : ℕ) → Every (λ (k : Code). CountTaken (k .immediates) (k .pops)) (codes edition)
+codes-count edition = search (cons, empty, tt) depth 80 fits 2000
 
 -- ---- one instruction
 
@@ -93,11 +88,11 @@ codes-count edition = search (both, no-more, tt) depth 80 fits 2000
 pub record SmallInstruction (j : Instruction) : Type 0 where
   pub code : j .code < 128
   pub depth : j .depth ≤ operandDepth
-  pub few : length (j .named) ≤ 1
-  pub numbers : Every (λ n. n < instructionCount) (j .named)
+  pub few : length (j .immediates) ≤ 1
+  pub numbers : Every (λ n. n < instructionCount) (j .immediates)
 
 module _ (i : Image) (ok : Checked i) where
-  one-number : (s : Section) (k : Named) (takes : List ℕ → ℕ) (n : ℕ) → CountTaken (k ∷ []) takes → Exists i s k n → takes (n ∷ []) ≤ operandDepth
+  one-number : (s : Section) (k : ImmediateKind) (takes : List ℕ → ℕ) (n : ℕ) → CountTaken (k ∷ []) takes → Exists i s k n → takes (n ∷ []) ≤ operandDepth
       → n < instructionCount
   one-number s a-constant takes n c e t = omega (arith, ok .constants)
   one-number s a-variable takes n c e t = omega (arith, ok .users)
@@ -105,12 +100,12 @@ module _ (i : Image) (ok : Checked i) where
   one-number s an-instruction takes n c e t = omega (arith, ok .few s)
   one-number s a-count takes n c e t = omega (arith, c n)
 
-  numbers-few : (s : Section) (names : List Named) (takes : List ℕ → ℕ) (ns : List ℕ) → CountTaken names takes → AllExist i s names ns → takes ns ≤ operandDepth
+  numbers-few : (s : Section) (names : List ImmediateKind) (takes : List ℕ → ℕ) (ns : List ℕ) → CountTaken names takes → AllExist i s names ns → takes ns ≤ operandDepth
       → (length ns ≤ 1) × (Every (λ n. n < instructionCount) ns)
-  numbers-few s [] takes [] c e t = (omega arith, no-more)
+  numbers-few s [] takes [] c e t = (omega arith, empty)
   numbers-few s [] takes (n ∷ ns) c e t = absurd e
   numbers-few s (k ∷ []) takes [] c e t = absurd e
-  numbers-few s (k ∷ []) takes (n ∷ []) c e t = (omega arith, both (one-number s k takes n c (e .0) t) no-more)
+  numbers-few s (k ∷ []) takes (n ∷ []) c e t = (omega arith, cons (one-number s k takes n c (e .0) t) empty)
   numbers-few s (k ∷ []) takes (n ∷ m ∷ ns) c e t = absurd (e .1)
   numbers-few s (k ∷ m ∷ l) takes ns c e t = absurd c
 
@@ -119,7 +114,7 @@ module _ (i : Image) (ok : Checked i) where
   instruction-small s n j h =
       let a = ok .each-one s n j h in
       let k = a .row in
-      let x = numbers-few s (k .names) (k .takes) (j .named) (every-nth (codes-count (i .edition)) (j .code) (a .code)) (a .exist) (omega (arith, a .enough, a .deep)) in
+      let x = numbers-few s (k .immediates) (k .pops) (j .immediates) (every-at (codes-count (i .edition)) (j .code) k (a .code)) (a .exist) (omega (arith, a .enough, a .deep)) in
       record {
         code = omega (arith, nth-inside (codes (i .edition)) (j .code) (a .code));
         depth = a .deep;
@@ -131,7 +126,7 @@ module _ (i : Image) (ok : Checked i) where
   numbers-bytes : (ns : List ℕ) → length ns ≤ 1 → Every (λ n. n < instructionCount) ns → length (all coded ns) ≤ 2
   unfolding all
   numbers-bytes [] h e = omega arith
-  numbers-bytes (n ∷ []) h (both e r) = omega (arith, length-append (coded n) [], coded-two-bytes n (omega arith))
+  numbers-bytes (n ∷ []) h (cons e r) = omega (arith, length-append (coded n) [], coded-two-bytes n (omega arith))
   numbers-bytes (n ∷ m ∷ ns) h e = absurd (omega arith)
 
   pub instruction-bytes : (s : Section) (n : ℕ) (j : Instruction) → nth (sectionOf i s) n ≡ some j → length (instructionIn coded j) ≤ 4
@@ -139,11 +134,11 @@ module _ (i : Image) (ok : Checked i) where
       let a = instruction-small s n j h in
       omega (
         arith,
-        length-append (coded (j .code)) (coded (j .depth) ++ all coded (j .named)),
-        length-append (coded (j .depth)) (all coded (j .named)),
+        length-append (coded (j .code)) (coded (j .depth) ++ all coded (j .immediates)),
+        length-append (coded (j .depth)) (all coded (j .immediates)),
         coded-one-byte (j .code) (a .code),
         coded-one-byte (j .depth) (omega (arith, a .depth)),
-        numbers-bytes (j .named) (a .few) (a .numbers),
+        numbers-bytes (j .immediates) (a .few) (a .numbers),
       )
 
   -- ---- the lists
@@ -175,9 +170,9 @@ module _ (i : Image) (ok : Checked i) where
   pub image-bytes : length (bytesOf i) < 65536
   unfolding written
   image-bytes =
-      let e = listed coded (instructionIn coded) (i .ends) in
-      let r = listed coded (instructionIn coded) (i .records) ++ e in
-      let b = listed coded (instructionIn coded) (i .begins) ++ r in
+      let e = listed coded (instructionIn coded) (i .end) in
+      let r = listed coded (instructionIn coded) (i .main) ++ e in
+      let b = listed coded (instructionIn coded) (i .begin) ++ r in
       let x = listed coded (bytes coded) (i .eres) ++ b in
       let k = listed coded (constantIn coded) (i .constants) ++ x in
       omega (
@@ -186,13 +181,13 @@ module _ (i : Image) (ok : Checked i) where
         length-append (coded (i .users)) k,
         length-append (listed coded (constantIn coded) (i .constants)) x,
         length-append (listed coded (bytes coded) (i .eres)) b,
-        length-append (listed coded (instructionIn coded) (i .begins)) r,
-        length-append (listed coded (instructionIn coded) (i .records)) e,
+        length-append (listed coded (instructionIn coded) (i .begin)) r,
+        length-append (listed coded (instructionIn coded) (i .main)) e,
         coded-most (i .edition),
         coded-most (i .users),
         constants-bytes,
         eres-bytes,
         section-bytes begin,
-        section-bytes each,
-        section-bytes finish,
+        section-bytes main,
+        section-bytes end,
       )

@@ -1,6 +1,5 @@
 -- Laws on the check and the run of an image.
 pub mod Tables
-pub mod Says
 pub mod Checks
 pub mod Actions
 pub mod NeverStuck

@@ -6,8 +6,9 @@ use mathlib.Core.Option.{Option, some}
 use Prim.Native.Nat.{ℕ, zero, suc, _≤_}
 use native.Mathlib.Omega.{arith}
 use lib.ListN.{length, take}
-use Rattle.image_format.specs.Codes.{nth, Code, codes, codeOf, Operation, action, flow, constant, get, set, field, set-field, drop, arithmetic, negate, to-number, negation, compare, join, matches, match, length-of, index, substr, print, end, jump, jump-if-false, next, exit}
-use Rattle.image_format.proofs.Laws.{got-one, none-some}
+use Rattle.lists.proofs.Options.{some-one, none-some}
+use Rattle.lists.specs.Elements.{nth}
+use Rattle.image_format.specs.Codes.{Code, codes, codeOf, Operation, action, flow, constant, get, set, field, set-field, drop, arithmetic, negate, to-number, negation, compare, join, matches, match, length-of, index, substr, print, section-end, jump, jump-if-false, next, exit}
 use Rattle.values.specs.Value.{Value}
 use Rattle.semantics.specs.Moves.{one, unary, binary, ternary}
 
@@ -31,7 +32,7 @@ named (action length-of) = 0
 named (action index) = 0
 named (action substr) = 0
 named (action print) = 1
-named (flow end) = 0
+named (flow section-end) = 0
 named (flow jump) = 1
 named (flow jump-if-false) = 1
 named (flow next) = 0
@@ -57,15 +58,15 @@ Takes (action length-of) m = m ≡ 1
 Takes (action index) m = m ≡ 2
 Takes (action substr) m = m ≡ 3
 Takes (action print) m = Unit {0}
-Takes (flow end) m = m ≡ 0
+Takes (flow section-end) m = m ≡ 0
 Takes (flow jump) m = m ≡ 0
 Takes (flow jump-if-false) m = m ≡ 1
 Takes (flow next) m = m ≡ 0
 Takes (flow exit) m = m ≡ 0
 
 pub record Fits (k : Code) : Type 0 where
-  pub names : length (k .names) ≡ named (k .operation)
-  pub takes : (ns : List ℕ) → Takes (k .operation) ((k .takes) ns)
+  pub names : length (k .immediates) ≡ named (k .operation)
+  pub takes : (ns : List ℕ) → Takes (k .operation) ((k .pops) ns)
 
 data All (P : Code → Type 0) : List Code → Type 0 where
   no-more : All P []
@@ -74,10 +75,10 @@ data All (P : Code → Type 0) : List Code → Type 0 where
 nth-all : {P : Code → Type 0} {l : List Code} → All P l → (n : ℕ) (k : Code) → nth l n ≡ some k → P k
 unfolding nth
 nth-all no-more n k h = absurd (none-some h)
-nth-all {P} (both p a) zero k h = subst P (got-one refl h) p
+nth-all {P} (both p a) zero k h = subst P (some-one refl h) p
 nth-all (both p a) (suc n) k h = nth-all a n k h
 
-row : {k : Code} → length (k .names) ≡ named (k .operation) → ((ns : List ℕ) → Takes (k .operation) ((k .takes) ns)) → Fits k
+row : {k : Code} → length (k .immediates) ≡ named (k .operation) → ((ns : List ℕ) → Takes (k .operation) ((k .pops) ns)) → Fits k
 row n t = record { names = n; takes = t }
 
 table-fits : (edition : ℕ) → All Fits (codes edition)

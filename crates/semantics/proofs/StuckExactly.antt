@@ -8,22 +8,23 @@ use Prim.Native.Nat.{ℕ, _≤_}
 use lib.ListN.{length, take, drop as dropped}
 use lib.Dec.{eqb, ltb, leb}
 use borrow.Author.Tests.{ltb-false, leb-true, leb-false, le-leb, lt-leb, le-ltb, eqb-true, eqb-false, eq-eqb, ne-eqb}
+use Rattle.lists.proofs.Options.{none-some}
+use Rattle.lists.specs.Elements.{nth}
 use Rattle.ere_meaning.specs.Tree.{Class, Ere}
 use Rattle.ere_meaning.specs.Meaning.{Match}
-use Rattle.image_format.specs.Codes.{nth, Code, codeOf, Operation, action, flow, Action, constant, get, set, field, set-field, drop, arithmetic, negate, to-number, negation, compare, join, matches, match, length-of, index, substr, print, Flow, end, jump, jump-if-false, next, exit}
+use Rattle.image_format.specs.Codes.{Code, codeOf, Operation, action, flow, Action, constant, get, set, field, set-field, drop, arithmetic, negate, to-number, negation, compare, join, matches, match, length-of, index, substr, print, Flow, section-end, jump, jump-if-false, next, exit}
 use Rattle.image_format.specs.Image.{Constant, Instruction, Image}
-use Rattle.image_format.proofs.Laws.{none-some}
 use Rattle.values.specs.Value.{Value, Result, gives, stops, truthOf}
 use Rattle.semantics.specs.Variables.{assignable}
 use Rattle.semantics.specs.World.{World, valueAt, readRecord}
 use Rattle.semantics.specs.Operations.{Effect, constantAt, pushed, setVariable, byEre, ereAt, matchFound, matchMarked, printValues}
-use Rattle.semantics.specs.Moves.{Section, begin, each, finish, Place, at, between, Config, Move, goes, finishes, stops-at, stuck, sectionOf, unary, applied, went, inFinish, inEach, effected, branched, orStuck, flowed, performed, withOperands, withNumbers, byCode, byInstruction, silent, recordRead, fromBetween, fromPlace, move}
+use Rattle.semantics.specs.Moves.{Section, begin, main, end, Location, at, between, Config, Move, continues, finishes, stops-at, stuck, sectionOf, unary, applied, advance, inEnd, inMain, applyEffect, branched, orStuck, applyFlow, execute, withOperands, withNumbers, byCode, byInstruction, silent, recordRead, fromBetween, fromLocation, move}
 use Rattle.semantics.specs.Stuck.{There, Ready, Stuck, no-instruction, no-code, no-number, no-operand, no-constant, no-variable, no-variable-to-set, not-assignable, no-ere, unread-ere, print-nothing, next-elsewhere}
 use Rattle.semantics.proofs.Walks.{cond-all, unary-all}
 use Rattle.semantics.proofs.Shapes.{named, Takes, code-fits, one-total, unary-total, binary-total, ternary-total, take-length}
 
 abbrev isStuck : Move → Bool
-isStuck (goes d) = false
+isStuck (continues d) = false
 isStuck (finishes d) = false
 isStuck (stops-at o d) = false
 isStuck stuck = true
@@ -80,48 +81,48 @@ unary-none vs h = unary-all (λ x. x ≡ none) refl vs h
 module _ (i : Image) (c : Config) where
   -- the operands that an instruction takes, and those below them
   abbrev taken : Instruction → Code → List Value
-  taken j k = take ((k .takes) (j .named)) (c .control .operands)
+  taken j k = take ((k .pops) (j .immediates)) (c .control .operands)
 
   abbrev below : Instruction → Code → List Value
-  below j k = dropped ((k .takes) (j .named)) (c .control .operands)
+  below j k = dropped ((k .pops) (j .immediates)) (c .control .operands)
 
   -- what the move is at an instruction with a code, and where it has its numbers and operands too
   module _ {s : Section} {j : Instruction} {k : Code} where
-    there-move : (t : There i c s j k) → move i c ≡ withNumbers i s (t .number) c k (j .named)
+    there-move : (t : There i c s j k) → move i c ≡ withNumbers i s (t .number) c k (j .immediates)
     unfolding move
     there-move t =
-        ap (λ (p : Place). fromPlace i p c) (t .place)
-        ∙ (ap (byInstruction i s (t .number) c) (t .instruction) ∙ ap (byCode i s (t .number) c (j .named)) (t .code))
+        ap (λ (p : Location). fromLocation i p c) (t .place)
+        ∙ (ap (byInstruction i s (t .number) c) (t .instruction) ∙ ap (byCode i s (t .number) c (j .immediates)) (t .code))
 
-    numbers-move : (t : There i c s j k) → length (j .named) ≡ length (k .names) → move i c ≡ withOperands i s (t .number) c k (j .named)
+    numbers-move : (t : There i c s j k) → length (j .immediates) ≡ length (k .immediates) → move i c ≡ withOperands i s (t .number) c k (j .immediates)
     numbers-move t n =
         there-move t
-        ∙ ap (λ (b : Bool). cond b (withOperands i s (t .number) c k (j .named)) stuck) (eq-eqb (length (j .named)) (length (k .names)) n)
+        ∙ ap (λ (b : Bool). cond b (withOperands i s (t .number) c k (j .immediates)) stuck) (eq-eqb (length (j .immediates)) (length (k .immediates)) n)
 
-    operands-move : (t : There i c s j k) → length (j .named) ≡ length (k .names) → (b : Bool)
-        → leb ((k .takes) (j .named)) (length (c .control .operands)) ≡ b
-        → move i c ≡ cond b (performed i s (t .number) c (k .operation) (j .named) (taken j k) (below j k)) stuck
+    operands-move : (t : There i c s j k) → length (j .immediates) ≡ length (k .immediates) → (b : Bool)
+        → leb ((k .pops) (j .immediates)) (length (c .control .operands)) ≡ b
+        → move i c ≡ cond b (execute i s (t .number) c (k .operation) (j .immediates) (taken j k) (below j k)) stuck
     operands-move t n b e =
         numbers-move t n
-        ∙ ap (λ (b : Bool). cond b (performed i s (t .number) c (k .operation) (j .named) (taken j k) (below j k)) stuck) e
+        ∙ ap (λ (b : Bool). cond b (execute i s (t .number) c (k .operation) (j .immediates) (taken j k) (below j k)) stuck) e
 
     ready-move : (r : Ready i c s j k) (o : Operation) → k .operation ≡ o
-        → move i c ≡ performed i s (r .there .number) c o (j .named) (taken j k) (below j k)
+        → move i c ≡ execute i s (r .there .number) c o (j .immediates) (taken j k) (below j k)
     ready-move r o e =
-        operands-move (r .there) (r .numbers) true (le-leb ((k .takes) (j .named)) (length (c .control .operands)) (r .operands))
-        ∙ ap (λ (o : Operation). performed i s (r .there .number) c o (j .named) (taken j k) (below j k)) e
+        operands-move (r .there) (r .numbers) true (le-leb ((k .pops) (j .immediates)) (length (c .control .operands)) (r .operands))
+        ∙ ap (λ (o : Operation). execute i s (r .there .number) c o (j .immediates) (taken j k) (below j k)) e
 
     -- an action with nothing to give
-    none-stuck : (r : Ready i c s j k) (a : Action) → k .operation ≡ action a → applied i a (j .named) (taken j k) (c .world) ≡ none → move i c ≡ stuck
-    unfolding performed
-    none-stuck r a e h = ready-move r (action a) e ∙ ap (effected i s (r .there .number) c (below j k)) h
+    none-stuck : (r : Ready i c s j k) (a : Action) → k .operation ≡ action a → applied i a (j .immediates) (taken j k) (c .world) ≡ none → move i c ≡ stuck
+    unfolding execute
+    none-stuck r a e h = ready-move r (action a) e ∙ ap (applyEffect i s (r .there .number) c (below j k)) h
 
     -- an action with nothing to give for the number that it names, whatever its operands
-    names-stuck : (r : Ready i c s j k) (a : Action) (v : ℕ) → k .operation ≡ action a → j .named ≡ v ∷ []
+    names-stuck : (r : Ready i c s j k) (a : Action) (v : ℕ) → k .operation ≡ action a → j .immediates ≡ v ∷ []
         → ((vs : List Value) → applied i a (v ∷ []) vs (c .world) ≡ none) → move i c ≡ stuck
     names-stuck r a v e n h = none-stuck r a e (ap (λ (ns : List ℕ). applied i a ns (taken j k) (c .world)) n ∙ h (taken j k))
 
-    ere-stuck : (r : Ready i c s j k) (v : ℕ) → (k .operation ≡ action matches) ⊎ (k .operation ≡ action match) → j .named ≡ v ∷ []
+    ere-stuck : (r : Ready i c s j k) (v : ℕ) → (k .operation ≡ action matches) ⊎ (k .operation ≡ action match) → j .immediates ≡ v ∷ []
         → ereAt (i .edition) (nth (i .eres) v) ≡ none → move i c ≡ stuck
     ere-stuck r v e n h =
         let x = ereAt (i .edition) (nth (i .eres) v) in
@@ -129,24 +130,24 @@ module _ (i : Image) (c : Config) where
         (λ e. names-stuck r matches v e n (λ vs. unary-none vs (λ a. none-ere (i .edition) (matchFound (i .edition)) x a (c .world) h)))
         (λ e. names-stuck r match v e n (λ vs. unary-none vs (λ a. none-ere (i .edition) (matchMarked (i .edition)) x a (c .world) h))) e
 
-    next-stuck : (r : Ready i c s j k) → k .operation ≡ flow next → (s ≡ each → ⊥) → move i c ≡ stuck
-    unfolding performed
+    next-stuck : (r : Ready i c s j k) → k .operation ≡ flow next → (s ≡ main → ⊥) → move i c ≡ stuck
+    unfolding execute
     next-stuck r e n = ready-move r (flow next) e ∙ elsewhere s n (r .there .number)
       where
-        elsewhere : (s : Section) → (s ≡ each → ⊥) → (n : ℕ) → flowed i s n c next (j .named) (taken j k) (below j k) ≡ stuck
+        elsewhere : (s : Section) → (s ≡ main → ⊥) → (n : ℕ) → applyFlow i s n c next (j .immediates) (taken j k) (below j k) ≡ stuck
         elsewhere begin h n = refl
-        elsewhere each h n = absurd (h refl)
-        elsewhere finish h n = refl
+        elsewhere main h n = absurd (h refl)
+        elsewhere end h n = refl
 
   stuck-move : Stuck i c → move i c ≡ stuck
   unfolding move
-  stuck-move (no-instruction s n p q) = ap (λ (p : Place). fromPlace i p c) p ∙ ap (byInstruction i s n c) q
+  stuck-move (no-instruction s n p q) = ap (λ (p : Location). fromLocation i p c) p ∙ ap (byInstruction i s n c) q
   stuck-move (no-code s n j p q r) =
-      ap (λ (p : Place). fromPlace i p c) p ∙ (ap (byInstruction i s n c) q ∙ ap (byCode i s n c (j .named)) r)
+      ap (λ (p : Location). fromLocation i p c) p ∙ (ap (byInstruction i s n c) q ∙ ap (byCode i s n c (j .immediates)) r)
   stuck-move (no-number {s} {j} {k} t n) =
       there-move t
-      ∙ ap (λ (b : Bool). cond b (withOperands i s (t .number) c k (j .named)) stuck) (ne-eqb (length (j .named)) (length (k .names)) n)
-  stuck-move (no-operand {s} {j} {k} t n l) = operands-move t n false (lt-leb ((k .takes) (j .named)) (length (c .control .operands)) l)
+      ∙ ap (λ (b : Bool). cond b (withOperands i s (t .number) c k (j .immediates)) stuck) (ne-eqb (length (j .immediates)) (length (k .immediates)) n)
+  stuck-move (no-operand {s} {j} {k} t n l) = operands-move t n false (lt-leb ((k .pops) (j .immediates)) (length (c .control .operands)) l)
   stuck-move (no-constant {v} r e n h) = names-stuck r constant v e n (λ vs. rw h)
   stuck-move (no-variable {v} r e n h) = names-stuck r get v e n (λ vs. rw h)
   stuck-move (no-variable-to-set {v} r e n h) = names-stuck r set v e n (λ vs. unary-none vs (λ a. set-missing (i .edition) v a (c .world) h))
@@ -163,13 +164,13 @@ module _ (i : Image) (c : Config) where
     Why x = x ≡ none → Stuck i c
 
     -- the ERE is missing or doesn't read
-    ere-why : (v : ℕ) → (k .operation ≡ action matches) ⊎ (k .operation ≡ action match) → j .named ≡ v ∷ [] → (x : Option (List ℕ))
+    ere-why : (v : ℕ) → (k .operation ≡ action matches) ⊎ (k .operation ≡ action match) → j .immediates ≡ v ∷ [] → (x : Option (List ℕ))
         → nth (i .eres) v ≡ x → ereAt (i .edition) x ≡ none → Stuck i c
     ere-why v e n none g h = no-ere r e n g
     ere-why v e n (some l) g h = unread-ere r e n g h
 
-    action-why : (a : Action) → k .operation ≡ action a → (ns : List ℕ) → j .named ≡ ns → length ns ≡ named (action a)
-        → (vs : List Value) → (k .takes) (j .named) ≡ length vs → Takes (action a) (length vs)
+    action-why : (a : Action) → k .operation ≡ action a → (ns : List ℕ) → j .immediates ≡ ns → length ns ≡ named (action a)
+        → (vs : List Value) → (k .pops) (j .immediates) ≡ length vs → Takes (action a) (length vs)
         → applied i a ns vs (c .world) ≡ none → Stuck i c
     unfolding Why
     action-why constant e ns q l vs m t =
@@ -204,10 +205,10 @@ module _ (i : Image) (c : Config) where
         by true f h = print-nothing r e (m ∙ eqb-true (length vs) 0 f)
         by false f h = absurd (some-none h)
 
-    effected-none : (n : ℕ) (o : List Value) (x : Option (Result Effect)) → effected i s n c o x ≡ stuck → x ≡ none
-    effected-none n o none h = refl
-    effected-none n o (some (gives e)) h = absurd (not-stuck refl h)
-    effected-none n o (some (stops a)) h = absurd (not-stuck refl h)
+    effect-none : (n : ℕ) (o : List Value) (x : Option (Result Effect)) → applyEffect i s n c o x ≡ stuck → x ≡ none
+    effect-none n o none h = refl
+    effect-none n o (some (gives e)) h = absurd (not-stuck refl h)
+    effect-none n o (some (stops a)) h = absurd (not-stuck refl h)
 
     branched-not : (n t : ℕ) (o : List Value) (x : Result Bool) → isStuck (branched i s n c t o x) ≡ false
     branched-not n t o (gives true) = refl
@@ -215,34 +216,34 @@ module _ (i : Image) (c : Config) where
     branched-not n t o (stops a) = refl
 
     flow-why : (f : Flow) → k .operation ≡ flow f → (n : ℕ) (ns : List ℕ) → length ns ≡ named (flow f)
-        → (vs o : List Value) → Takes (flow f) (length vs) → flowed i s n c f ns vs o ≡ stuck → Stuck i c
-    flow-why end e n ns l vs o t h = absurd (not-stuck (cond-all (λ (m : Move). isStuck m ≡ false) (inFinish i s n c s) refl refl) h)
-    flow-why exit e n ns l vs o t h = absurd (not-stuck (cond-all (λ (m : Move). isStuck m ≡ false) (inFinish i s n c s) refl refl) h)
+        → (vs o : List Value) → Takes (flow f) (length vs) → applyFlow i s n c f ns vs o ≡ stuck → Stuck i c
+    flow-why section-end e n ns l vs o t h = absurd (not-stuck (cond-all (λ (m : Move). isStuck m ≡ false) (inEnd i s n c s) refl refl) h)
+    flow-why exit e n ns l vs o t h = absurd (not-stuck (cond-all (λ (m : Move). isStuck m ≡ false) (inEnd i s n c s) refl refl) h)
     flow-why jump e n ns l vs o t h =
         absurd (not-stuck (one-total (λ (x : Option Move). isStuck (orStuck i s n c x) ≡ false) ns l (λ u p. refl)) h)
     flow-why jump-if-false e n ns l vs o t h =
         absurd (not-stuck
         (one-total (λ (x : Option Move). isStuck (orStuck i s n c x) ≡ false) ns l (λ u p.
         unary-total (λ (x : Option Move). isStuck (orStuck i s n c x) ≡ false) vs t (λ a. branched-not n u o (truthOf a)))) h)
-    flow-why next e n ns l vs o t h = by (inEach i s n c s) refl h
+    flow-why next e n ns l vs o t h = by (inMain i s n c s) refl h
       where
-        by : (x : Bool) → inEach i s n c s ≡ x → cond x (went i s n c between o (c .world)) stuck ≡ stuck → Stuck i c
+        by : (x : Bool) → inMain i s n c s ≡ x → cond x (advance i s n c between o (c .world)) stuck ≡ stuck → Stuck i c
         by true p h = absurd (not-stuck refl h)
-        by false p h = next-elsewhere r e (λ q. true≢false (sym (ap (inEach i s n c) q) ∙ p))
+        by false p h = next-elsewhere r e (λ q. true≢false (sym (ap (inMain i s n c) q) ∙ p))
 
-    performed-why : (o : Operation) → k .operation ≡ o → (n : ℕ) → length (j .named) ≡ named o → Takes o (length (taken j k))
-        → performed i s n c o (j .named) (taken j k) (below j k) ≡ stuck → Stuck i c
-    unfolding performed
-    performed-why (flow f) e n l t h = flow-why f e n (j .named) l (taken j k) (below j k) t h
-    performed-why (action a) e n l t h =
-        action-why a e (j .named) refl l (taken j k) (sym (take-length ((k .takes) (j .named)) (c .control .operands) (r .operands))) t
-        (effected-none n (below j k) (applied i a (j .named) (taken j k) (c .world)) h)
+    execute-why : (o : Operation) → k .operation ≡ o → (n : ℕ) → length (j .immediates) ≡ named o → Takes o (length (taken j k))
+        → execute i s n c o (j .immediates) (taken j k) (below j k) ≡ stuck → Stuck i c
+    unfolding execute
+    execute-why (flow f) e n l t h = flow-why f e n (j .immediates) l (taken j k) (below j k) t h
+    execute-why (action a) e n l t h =
+        action-why a e (j .immediates) refl l (taken j k) (sym (take-length ((k .pops) (j .immediates)) (c .control .operands) (r .operands))) t
+        (effect-none n (below j k) (applied i a (j .immediates) (taken j k) (c .world)) h)
 
-    ready-why : performed i s (r .there .number) c (k .operation) (j .named) (taken j k) (below j k) ≡ stuck → Stuck i c
+    ready-why : execute i s (r .there .number) c (k .operation) (j .immediates) (taken j k) (below j k) ≡ stuck → Stuck i c
     ready-why h =
         let fits = code-fits (i .edition) (j .code) k (r .there .code) in
-        performed-why (k .operation) refl (r .there .number) (r .numbers ∙ fits .names)
-        (subst (Takes (k .operation)) (sym (take-length ((k .takes) (j .named)) (c .control .operands) (r .operands))) (fits .takes (j .named))) h
+        execute-why (k .operation) refl (r .there .number) (r .numbers ∙ fits .names)
+        (subst (Takes (k .operation)) (sym (take-length ((k .pops) (j .immediates)) (c .control .operands) (r .operands))) (fits .takes (j .immediates))) h
 
   -- a run between records has a rule
   between-not : isStuck (fromBetween i c) ≡ false
@@ -257,32 +258,32 @@ module _ (i : Image) (c : Config) where
 
   move-why : move i c ≡ stuck → Stuck i c
   unfolding move
-  move-why h = placed (c .control .place) refl h
+  move-why h = placed (c .control .location) refl h
     where
-      operands : {s : Section} {j : Instruction} {k : Code} (t : There i c s j k) → length (j .named) ≡ length (k .names)
-          → (b : Bool) → leb ((k .takes) (j .named)) (length (c .control .operands)) ≡ b
-          → cond b (performed i s (t .number) c (k .operation) (j .named) (taken j k) (below j k)) stuck ≡ stuck → Stuck i c
+      operands : {s : Section} {j : Instruction} {k : Code} (t : There i c s j k) → length (j .immediates) ≡ length (k .immediates)
+          → (b : Bool) → leb ((k .pops) (j .immediates)) (length (c .control .operands)) ≡ b
+          → cond b (execute i s (t .number) c (k .operation) (j .immediates) (taken j k) (below j k)) stuck ≡ stuck → Stuck i c
       operands {k} t l true e h =
           ready-why (record { there = t; numbers = l; operands = leb-true _ (length (c .control .operands)) e }) h
       operands {k} t l false e h = no-operand t l (leb-false _ (length (c .control .operands)) e)
 
-      numbers : {s : Section} {j : Instruction} {k : Code} (t : There i c s j k) → (b : Bool) → eqb (length (j .named)) (length (k .names)) ≡ b
-          → cond b (withOperands i s (t .number) c k (j .named)) stuck ≡ stuck → Stuck i c
-      numbers {j} {k} t true e h = operands t (eqb-true (length (j .named)) (length (k .names)) e) _ refl h
-      numbers {j} {k} t false e h = no-number t (eqb-false (length (j .named)) (length (k .names)) e)
+      numbers : {s : Section} {j : Instruction} {k : Code} (t : There i c s j k) → (b : Bool) → eqb (length (j .immediates)) (length (k .immediates)) ≡ b
+          → cond b (withOperands i s (t .number) c k (j .immediates)) stuck ≡ stuck → Stuck i c
+      numbers {j} {k} t true e h = operands t (eqb-true (length (j .immediates)) (length (k .immediates)) e) _ refl h
+      numbers {j} {k} t false e h = no-number t (eqb-false (length (j .immediates)) (length (k .immediates)) e)
 
-      coded : (s : Section) (n : ℕ) (j : Instruction) → c .control .place ≡ at s n → nth (sectionOf i s) n ≡ some j
-          → (x : Option Code) → codeOf (i .edition) (j .code) ≡ x → byCode i s n c (j .named) x ≡ stuck → Stuck i c
+      coded : (s : Section) (n : ℕ) (j : Instruction) → c .control .location ≡ at s n → nth (sectionOf i s) n ≡ some j
+          → (x : Option Code) → codeOf (i .edition) (j .code) ≡ x → byCode i s n c (j .immediates) x ≡ stuck → Stuck i c
       coded s n j e f none g h = no-code s n j e f g
       coded s n j e f (some k) g h =
-          numbers {k = k} (record { number = n; place = e; instruction = f; code = g }) (eqb (length (j .named)) (length (k .names))) refl h
+          numbers {k = k} (record { number = n; place = e; instruction = f; code = g }) (eqb (length (j .immediates)) (length (k .immediates))) refl h
 
-      instructed : (s : Section) (n : ℕ) → c .control .place ≡ at s n → (x : Option Instruction) → nth (sectionOf i s) n ≡ x
+      instructed : (s : Section) (n : ℕ) → c .control .location ≡ at s n → (x : Option Instruction) → nth (sectionOf i s) n ≡ x
           → byInstruction i s n c x ≡ stuck → Stuck i c
       instructed s n e none f h = no-instruction s n e f
       instructed s n e (some j) f h = coded s n j e f (codeOf (i .edition) (j .code)) refl h
 
-      placed : (p : Place) → c .control .place ≡ p → fromPlace i p c ≡ stuck → Stuck i c
+      placed : (p : Location) → c .control .location ≡ p → fromLocation i p c ≡ stuck → Stuck i c
       placed (at s n) e h = instructed s n e (nth (sectionOf i s) n) refl h
       placed between e h = absurd (not-stuck between-not h)
 

@@ -5,8 +5,9 @@ use mathlib.Core.Option.{some}
 use Prim.Native.Nat.{ℕ, zero, suc, _<_}
 use native.Mathlib.Omega.{arith}
 use lib.ListN.{length}
-use Rattle.image_format.specs.Codes.{nth, a-constant, a-variable, an-ere, an-instruction, Code, code, printing, codes, codeOf, Operation, action, flow, constant, get, set, field, set-field, drop, arithmetic, negate, to-number, negation, compare, join, matches, match, length-of, index, substr, print, end, jump, jump-if-false, next, exit}
-use Rattle.image_format.proofs.Laws.{got-one, none-some}
+use Rattle.lists.proofs.Options.{some-one, none-some}
+use Rattle.lists.specs.Elements.{nth}
+use Rattle.image_format.specs.Codes.{a-constant, a-variable, an-ere, an-instruction, Code, code, printing, codes, codeOf, Operation, action, flow, constant, get, set, field, set-field, drop, arithmetic, negate, to-number, negation, compare, join, matches, match, length-of, index, substr, print, section-end, jump, jump-if-false, next, exit}
 
 -- each element
 abbrev pub AllOf : {A : Type 0} → (A → Type 0) → List A → Type 0
@@ -16,7 +17,7 @@ AllOf P (a ∷ l) = (P a) × (AllOf P l)
 pub all-of : {A : Type 0} (P : A → Type 0) (l : List A) → AllOf P l → (n : ℕ) (a : A) → nth l n ≡ some a → P a
 unfolding nth
 all-of P [] x n a h = absurd (none-some h)
-all-of P (b ∷ l) x zero a h = rw (← (got-one refl h)) (x .0)
+all-of P (b ∷ l) x zero a h = rw (← (some-one refl h)) (x .0)
 all-of P (b ∷ l) x (suc n) a h = all-of P l (x .1) n a h
 
 -- a number below the length has an element
@@ -46,7 +47,7 @@ rowOf (action length-of) = code (action length-of) 1 1 []
 rowOf (action index) = code (action index) 2 1 []
 rowOf (action substr) = code (action substr) 3 1 []
 rowOf (action print) = printing
-rowOf (flow end) = code (flow end) 0 0 []
+rowOf (flow section-end) = code (flow section-end) 0 0 []
 rowOf (flow jump) = code (flow jump) 0 0 (an-instruction ∷ [])
 rowOf (flow jump-if-false) = code (flow jump-if-false) 1 0 (an-instruction ∷ [])
 rowOf (flow next) = code (flow next) 0 0 []

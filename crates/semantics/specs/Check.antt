@@ -7,29 +7,13 @@ use mathlib.Core.Option.{Option, some, none}
 use Prim.Native.Nat.{ℕ, zero, suc, _+_, _-_}
 use lib.ListN.{length}
 use lib.Dec.{eqb, ltb, leb}
+use Rattle.lists.specs.Elements.{nth, all, allFrom, isSome, agree}
 use Rattle.edition.specs.Limits.{textBytes, userNames, constantCount, ereCount, instructionCount, operandDepth}
 use Rattle.ere_grammar.specs.Read.{readEre}
-use Rattle.image_format.specs.Codes.{nth, Named, a-constant, a-variable, an-ere, an-instruction, a-count, Code, codeOf, Operation, action, flow, Action, constant, get, set, field, set-field, drop, arithmetic, negate, to-number, negation, compare, join, matches, match, length-of, index, substr, print, Flow, end, jump, jump-if-false, next, exit}
+use Rattle.image_format.specs.Codes.{ImmediateKind, a-constant, a-variable, an-ere, an-instruction, a-count, Code, codeOf, Operation, action, flow, Action, constant, get, set, field, set-field, drop, arithmetic, negate, to-number, negation, compare, join, matches, match, length-of, index, substr, print, Flow, section-end, jump, jump-if-false, next, exit}
 use Rattle.image_format.specs.Image.{Constant, number, text, Instruction, Image, known}
 use Rattle.semantics.specs.Variables.{specials, assignable}
-use Rattle.semantics.specs.Moves.{Section, begin, each, finish, sectionOf, isEnd}
-
-abbrev pub all : {A : Type 0} → (A → Bool) → List A → Bool
-all f [] = true
-all f (a ∷ l) = f a && all f l
-
--- each element with its number, the first of which is n
-abbrev pub allFrom : {A : Type 0} → (ℕ → A → Bool) → ℕ → List A → Bool
-allFrom f n [] = true
-allFrom f n (a ∷ l) = f n a && allFrom f (suc n) l
-
-abbrev pub isSome : {A : Type 0} → Option A → Bool
-isSome none = false
-isSome (some a) = true
-
--- both or neither
-abbrev pub same : Bool → Bool → Bool
-same a b = cond a b (not b)
+use Rattle.semantics.specs.Moves.{Section, begin, main, end, sectionOf, isEnd}
 
 module _ (i : Image) where
   -- ---- sizes, and EREs
@@ -50,32 +34,32 @@ module _ (i : Image) where
     -- ---- one instruction
 
     -- "every number named exists"; a count names nothing, and an instruction is judged as a successor
-    abbrev pub exists : Named → ℕ → Bool
+    abbrev pub exists : ImmediateKind → ℕ → Bool
     exists a-constant n = ltb n (length (i .constants))
     exists a-variable n = ltb n (length (specials (i .edition)) + i .users)
     exists an-ere n = ltb n (length (i .eres))
     exists an-instruction n = ltb n (length (sectionOf i s))
     exists a-count n = true
 
-    abbrev pub allExist : List Named → List ℕ → Bool
+    abbrev pub allExist : List ImmediateKind → List ℕ → Bool
     allExist [] [] = true
     allExist [] (n ∷ ns) = false
     allExist (k ∷ ks) [] = false
     allExist (k ∷ ks) (n ∷ ns) = exists k n && allExist ks ns
 
     -- "depth 0 .. at 0, 30 and 31": a section, a record or the run is over there
-    abbrev pub leaves : Operation → Bool
-    leaves (action a) = false
-    leaves (flow end) = true
-    leaves (flow jump) = false
-    leaves (flow jump-if-false) = false
-    leaves (flow next) = true
-    leaves (flow exit) = true
+    abbrev pub terminates : Operation → Bool
+    terminates (action a) = false
+    terminates (flow section-end) = true
+    terminates (flow jump) = false
+    terminates (flow jump-if-false) = false
+    terminates (flow next) = true
+    terminates (flow exit) = true
 
     -- where instruction n leads, in the section
     abbrev pub successors : Operation → ℕ → List ℕ → List ℕ
     successors (action a) n ns = suc n ∷ []
-    successors (flow end) n ns = []
+    successors (flow section-end) n ns = []
     successors (flow jump) n ns = ns
     successors (flow jump-if-false) n ns = suc n ∷ ns
     successors (flow next) n ns = []
@@ -108,15 +92,15 @@ module _ (i : Image) where
 
     -- "30 only in the record section"
     abbrev pub flowAllowed : Flow → Bool
-    flowAllowed end = true
+    flowAllowed section-end = true
     flowAllowed jump = true
     flowAllowed jump-if-false = true
-    flowAllowed next = inRecords s
+    flowAllowed next = inMain s
       where
-        inRecords : Section → Bool
-        inRecords begin = false
-        inRecords each = true
-        inRecords finish = false
+        inMain : Section → Bool
+        inMain begin = false
+        inMain main = true
+        inMain end = false
     flowAllowed exit = true
 
     abbrev pub allowed : Operation → List ℕ → Bool
@@ -126,15 +110,15 @@ module _ (i : Image) where
     -- the clauses on one instruction, by its code
     unfoldable pub holdsFor : ℕ → Instruction → Code → Bool
     holdsFor n j k =
-        let ns = j .named in
+        let ns = j .immediates in
         let d = j .depth in
-        allExist (k .names) ns
-        && (same (isEnd i (k .operation)) (eqb (suc n) (length (sectionOf i s)))
+        allExist (k .immediates) ns
+        && (agree (isEnd i (k .operation)) (eqb (suc n) (length (sectionOf i s)))
         && ((not (eqb n 0) || eqb d 0)
-        && ((not (leaves (k .operation)) || eqb d 0)
+        && ((not (terminates (k .operation)) || eqb d 0)
         && (leb d operandDepth
-        && (leb ((k .takes) ns) d
-        && (all (λ m. depthIs (d - (k .takes) ns + (k .leaves) ns) (nth (sectionOf i s) m)) (successors (k .operation) n ns)
+        && (leb ((k .pops) ns) d
+        && (all (λ m. depthIs (d - (k .pops) ns + (k .pushes) ns) (nth (sectionOf i s) m)) (successors (k .operation) n ns)
         && allowed (k .operation) ns))))))
 
     abbrev pub byCode : ℕ → Instruction → Option Code → Bool
@@ -150,4 +134,4 @@ module _ (i : Image) where
         leb 1 (length (sectionOf i s)) && (leb (length (sectionOf i s)) instructionCount && allFrom instructionChecks 0 (sectionOf i s))
 
   unfoldable pub check : Bool
-  check = sizes && (eresRead && (sectionChecks begin && (sectionChecks each && sectionChecks finish)))
+  check = sizes && (eresRead && (sectionChecks begin && (sectionChecks main && sectionChecks end)))

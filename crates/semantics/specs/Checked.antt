@@ -6,25 +6,26 @@ use mathlib.Core.List.{List, [], _∷_}
 use mathlib.Core.Option.{Option, some, none}
 use Prim.Native.Nat.{ℕ, suc, _+_, _-_, _≤_, _<_}
 use lib.ListN.{length, getD}
+use Rattle.lists.specs.Elements.{nth}
 use Rattle.edition.specs.Limits.{textBytes, userNames, constantCount, ereCount, instructionCount, operandDepth}
 use Rattle.ere_meaning.specs.Tree.{Class, Ere}
 use Rattle.ere_grammar.specs.Read.{readEre}
-use Rattle.image_format.specs.Codes.{nth, Named, a-constant, a-variable, an-ere, an-instruction, a-count, Code, codeOf, action, flow, set, print, end, next, exit}
+use Rattle.image_format.specs.Codes.{ImmediateKind, a-constant, a-variable, an-ere, an-instruction, a-count, Code, codeOf, action, flow, set, print, section-end, next, exit}
 use Rattle.image_format.specs.Image.{Constant, number, text, Instruction, Image}
 use Rattle.semantics.specs.Variables.{specials, assignable}
-use Rattle.semantics.specs.Moves.{Section, each, sectionOf}
+use Rattle.semantics.specs.Moves.{Section, main, sectionOf}
 use Rattle.semantics.specs.Check.{successors}
 
 module _ (i : Image) where
   -- a number names something
-  abbrev pub Exists : Section → Named → ℕ → Type 0
+  abbrev pub Exists : Section → ImmediateKind → ℕ → Type 0
   Exists s a-constant n = n < length (i .constants)
   Exists s a-variable n = n < length (specials (i .edition)) + i .users
   Exists s an-ere n = n < length (i .eres)
   Exists s an-instruction n = n < length (sectionOf i s)
   Exists s a-count n = Unit
 
-  abbrev pub AllExist : Section → List Named → List ℕ → Type 0
+  abbrev pub AllExist : Section → List ImmediateKind → List ℕ → Type 0
   AllExist s [] [] = Unit
   AllExist s [] (n ∷ ns) = ⊥
   AllExist s (k ∷ ks) [] = ⊥
@@ -34,20 +35,20 @@ module _ (i : Image) where
   pub record Allowed (s : Section) (n : ℕ) (j : Instruction) : Type 0 where
     pub row : Code
     pub code : codeOf (i .edition) (j .code) ≡ some row
-    pub exist : AllExist s (row .names) (j .named)
-    pub last : (row .operation ≡ flow end) ↔ (suc n ≡ length (sectionOf i s))
+    pub exist : AllExist s (row .immediates) (j .immediates)
+    pub last : (row .operation ≡ flow section-end) ↔ (suc n ≡ length (sectionOf i s))
     pub start : n ≡ 0 → j .depth ≡ 0
-    pub at-end : row .operation ≡ flow end → j .depth ≡ 0
+    pub at-end : row .operation ≡ flow section-end → j .depth ≡ 0
     pub at-next : row .operation ≡ flow next → j .depth ≡ 0
     pub at-exit : row .operation ≡ flow exit → j .depth ≡ 0
     pub deep : j .depth ≤ operandDepth
-    pub enough : (row .takes) (j .named) ≤ j .depth
-    pub leads : (k : ℕ) → k < length (successors i s (row .operation) n (j .named))
-        → (d : Instruction) × (nth (sectionOf i s) (getD (successors i s (row .operation) n (j .named)) k 0) ≡ some d)
-        × (d .depth ≡ j .depth - (row .takes) (j .named) + (row .leaves) (j .named))
-    pub prints : row .operation ≡ action print → 1 ≤ getD (j .named) 0 0
-    pub sets : row .operation ≡ action set → assignable (i .edition) (getD (j .named) 0 0) ≡ true
-    pub nexts : row .operation ≡ flow next → s ≡ each
+    pub enough : (row .pops) (j .immediates) ≤ j .depth
+    pub leads : (k : ℕ) → k < length (successors i s (row .operation) n (j .immediates))
+        → (d : Instruction) × (nth (sectionOf i s) (getD (successors i s (row .operation) n (j .immediates)) k 0) ≡ some d)
+        × (d .depth ≡ j .depth - (row .pops) (j .immediates) + (row .pushes) (j .immediates))
+    pub prints : row .operation ≡ action print → 1 ≤ getD (j .immediates) 0 0
+    pub sets : row .operation ≡ action set → assignable (i .edition) (getD (j .immediates) 0 0) ≡ true
+    pub nexts : row .operation ≡ flow next → s ≡ main
 
   abbrev pub Short : Constant → Type 0
   Short (number n) = Unit

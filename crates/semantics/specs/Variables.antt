@@ -5,7 +5,7 @@ use mathlib.Core.List.{List, [], _∷_}
 use mathlib.Core.Option.{Option, some, none}
 use Prim.Native.Nat.{ℕ}
 use lib.IntN.{pos, negsuc}
-use Rattle.image_format.specs.Codes.{nth}
+use Rattle.lists.specs.Elements.{nth}
 use Rattle.values.specs.Value.{Value, unset, number, text}
 
 -- what a variable's value is: the number of fields, the number of records begun, or what was last set, with its first value

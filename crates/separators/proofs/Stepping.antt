@@ -7,12 +7,12 @@ use native.Mathlib.Omega.{arith}
 use lib.ListN.{length, drop, length-drop}
 use borrow.Rule.Slice.PartMut.{midOf}
 use borrow.Author.Tests.{lt-ltb, le-ltb, le-leb}
+use Rattle.lists.specs.Elements.{oneOf, leading}
 use Rattle.buffer.specs.First.{firstByte}
 use Rattle.buffer.proofs.First.{first-byte-most}
 use Rattle.buffer.proofs.Lent.{tail-lent}
-use Rattle.ere_meaning.specs.Tree.{Class, takes, Ere}
+use Rattle.ere_meaning.specs.Tree.{Class, accepts, Ere}
 use Rattle.ere_meaning.specs.Meaning.{Match}
-use Rattle.ere_grammar.specs.Bytes.{oneOf}
 use Rattle.ere_search.specs.Find.{Finds, matchOf}
 use Rattle.ere_search.specs.declared.search.Found.{Found}
 use Rattle.ere.specs.Answer.{Serves, Bytes}
@@ -20,7 +20,7 @@ use Rattle.ere.proofs.Serving.{serves-answer}
 use Rattle.splitting.specs.Separator.{blank, byte, ere}
 use native.Mathlib.Numerals.{add-one}
 use Rattle.splitting.proofs.Turns.{word-more, blank-field}
-use Rattle.splitting.specs.Field.{span, Next, field, none, isIn, leading, upTo, nextField}
+use Rattle.splitting.specs.Field.{span, Next, field, none, isIn, untilSeparator, nextField}
 
 -- a byte is not of the kind that is looked for, or is
 pub other-kind : (inside x : Bool) (set : List ℕ) (b : ℕ) → x ≡ oneOf set b → not (Bool·beq x inside) ≡ true → isIn inside set b ≡ false
@@ -38,18 +38,18 @@ same-kind false false set b e h = ap not (sym e)
 module _ (text : List ℕ) (at : ℕ) where
   -- ---- blanks
 
-  pub word-none : (set : List ℕ) (s : ℕ) → s ≡ at + leading true set (drop at text) → length text ≤ s → none ≡ nextField text (blank set) at
+  pub word-none : (set : List ℕ) (s : ℕ) → s ≡ at + leading (isIn true set) (drop at text) → length text ≤ s → none ≡ nextField text (blank set) at
   unfolding nextField
   word-none set s e h = rw (← e, le-ltb s (length text) h)
 
-  pub word-is : (set : List ℕ) (s t : ℕ) → s ≡ at + leading true set (drop at text) → s < length text → t ≡ s + 1 + leading false set (drop (s + 1) text)
+  pub word-is : (set : List ℕ) (s t : ℕ) → s ≡ at + leading (isIn true set) (drop at text) → s < length text → t ≡ s + 1 + leading (isIn false set) (drop (s + 1) text)
       → field (span s (t - s)) t ≡ nextField text (blank set) at
   word-is set s t e h f =
       let w = word-more text set at (omega arith) in
-      let q = subst (λ (n : ℕ). leading false set (drop n text) ≡ suc (leading false set (drop (suc n) text))) (sym e) w in
-      let p = ap (λ (n : ℕ). leading false set (drop n text)) (add-one s) in
-      let z : t - s ≡ leading false set (drop s text) = omega arith in
-      let y : t ≡ s + leading false set (drop s text) = omega arith in
+      let q = subst (λ (n : ℕ). leading (isIn false set) (drop n text) ≡ suc (leading (isIn false set) (drop (suc n) text))) (sym e) w in
+      let p = ap (λ (n : ℕ). leading (isIn false set) (drop n text)) (add-one s) in
+      let z : t - s ≡ leading (isIn false set) (drop s text) = omega arith in
+      let y : t ≡ s + leading (isIn false set) (drop s text) = omega arith in
       rw (z, y, e) (sym (blank-field text set at (omega arith)))
 
   -- ---- a byte
@@ -72,7 +72,7 @@ module _ (text : List ℕ) (at : ℕ) where
   -- ---- an ERE
 
   pub ere-is : (t : List ℕ) (r : Found) → at ≤ length text → Bytes text → Finds t (midOf at (length text - at) text) at 1 r → (e : Ere Class) → Serves t e
-      → upTo at (length text) (matchOf r) ≡ nextField text (ere e) at
+      → untilSeparator at (length text) (matchOf r) ≡ nextField text (ere e) at
   unfolding nextField
   ere-is t r h bytes f e v =
       let z = serves-answer t (midOf at (length text - at) text) at 1 r e text v f bytes h (sym (tail-lent text at)) in

@@ -2,16 +2,16 @@
 ghost use mathlib.Core.Path.{_≡_};
 ghost use Prim.Native.Nat.{_+_, _≤_};
 ghost use lib.ListN.{length, drop};
+ghost use Rattle.lists.specs.Elements.{oneOf, leading};
 ghost use Rattle.ere_meaning.specs.Tree.{Class, Ere};
-ghost use Rattle.ere_grammar.specs.Bytes.{oneOf};
 ghost use Rattle.ere_table.specs.Table.{tableWords};
 ghost use Rattle.ere.specs.Answer.{Serves};
 ghost use Rattle.splitting.specs.Separator.{Separator, blanks, blank, byte, ere};
-ghost use Rattle.splitting.specs.Field.{leading, nextField};
+ghost use Rattle.splitting.specs.Field.{isIn, nextField};
 ghost use Rattle.separators.specs.Kinds.{Sized, Means, nextOf};
 use crate::kinds::Kind;
-use ere_search::Found;
 use edition::Edition;
+use ere_search::Found;
 
 // The next field, and the place from which on the one behind it is looked for; unless `found`, there is none. Numbers instead of an enum with a part:
 // a copy of an enum moves its unused bytes too.
@@ -34,7 +34,7 @@ fn is_blank(b: u8, edition: Edition) -> bool
 // The end of the blanks from `at` on, or, where `blank` is false, of the other bytes.
 fn run_end(text: &[u8], edition: Edition, blank: bool, at: usize) -> usize
     requires { ⌜ at ≤ length (now text) ⌝ }
-    ensures { λ r. ⌜ r ≡ at + leading «blank» (blanks (edition .number)) (drop at (now (text .entry))) ⌝ }
+    ensures { λ r. ⌜ r ≡ at + leading (isIn «blank» (blanks (edition .number))) (drop at (now (text .entry))) ⌝ }
 {
     let mut i = at;
     while i < text.len() {

@@ -8,11 +8,12 @@ use native.Mathlib.Nat.{eq-zero-or-pos}
 use native.Mathlib.Decide.{decLt}
 use native.Mathlib.Omega.{arith}
 use lib.ListN.{length, getD, drop, drop-of-length-le}
+use Rattle.lists.specs.Elements.{leading, All, empty, cons}
 use Rattle.buffer.specs.Parts.{part}
 use Rattle.buffer.proofs.Parts.{length-part}
 use Rattle.splitting.specs.Separator.{blank}
-use Rattle.splitting.specs.Field.{span, isIn, leading, fieldsFrom, fieldsOf}
-use Rattle.splitting.specs.Meaning.{All, none, both, Behind, BlankSplit, blanks, word}
+use Rattle.splitting.specs.Field.{span, isIn, fieldsFrom, fieldsOf}
+use Rattle.splitting.specs.Meaning.{Behind, BlankSplit, blanks, word}
 use Rattle.splitting.specs.Splitting.{textOf}
 use Rattle.splitting.proofs.Turns.{word-some, blank-field, blank-past, fields-more, fields-none, fields-of, fields-empty}
 use Rattle.splitting.proofs.Fronts.{nil-no-cons, cut-one, run-all, run-stops, run-most, stop-behind, behind-stop, outside-stop}
@@ -22,7 +23,7 @@ module _ (set : List ℕ) where
   -- ---- the fields are so split
 
   -- `word`, for a field of which the length is known
-  a-word : (l f t : List ℕ) (fs : List (List ℕ)) → 0 < length f → All true set l → All false set f → Behind set t → BlankSplit set t fs
+  a-word : (l f t : List ℕ) (fs : List (List ℕ)) → 0 < length f → All (isIn true set) l → All (isIn false set) f → Behind set t → BlankSplit set t fs
       → BlankSplit set (l ++ (f ++ t)) (f ∷ fs)
   a-word l [] t fs h a n o p = absurd (omega arith)
   a-word l (b ∷ f) t fs h a n o p = word a n o p
@@ -30,22 +31,22 @@ module _ (set : List ℕ) where
   module _ (text : List ℕ) where
     -- where the blanks from a place on end, and how many bytes from there on are no blanks
     abbrev past : ℕ → ℕ
-    past at = at + leading true set (drop at text)
+    past at = at + leading (isIn true set) (drop at text)
 
     abbrev run : ℕ → ℕ
-    run s = leading false set (drop s text)
+    run s = leading (isIn false set) (drop s text)
 
     -- only blanks are left
     blank-last : (at : ℕ) → length text ≤ past at → BlankSplit set (drop at text) (map (textOf text) (fieldsFrom text (blank set) at))
     blank-last at h =
-        let n = leading true set (drop at text) in
-        let a = subst (All true set) (sym (part-last text at n h)) (run-all text true set at) in
+        let n = leading (isIn true set) (drop at text) in
+        let a = subst (All (isIn true set)) (sym (part-last text at n h)) (run-all text true set at) in
         rw (fields-none text (blank set) at (blank-past text set at h)) (blanks a)
 
-    blank-cut : (at : ℕ) → drop at text ≡ part at (leading true set (drop at text)) text ++ (part (past at) (run (past at)) text ++ drop (past at + run (past at)) text)
+    blank-cut : (at : ℕ) → drop at text ≡ part at (leading (isIn true set) (drop at text)) text ++ (part (past at) (run (past at)) text ++ drop (past at + run (past at)) text)
     blank-cut at =
-        sym (part-rest text at (leading true set (drop at text)) (past at) refl)
-        ∙ ap (λ (l : List ℕ). part at (leading true set (drop at text)) text ++ l) (sym (part-rest text (past at) (run (past at)) (past at + run (past at)) refl))
+        sym (part-rest text at (leading (isIn true set) (drop at text)) (past at) refl)
+        ∙ ap (λ (l : List ℕ). part at (leading (isIn true set) (drop at text)) text ++ l) (sym (part-rest text (past at) (run (past at)) (past at + run (past at)) refl))
 
     blank-from : (n at : ℕ) → length text < at + n → BlankSplit set (drop at text) (map (textOf text) (fieldsFrom text (blank set) at))
     blank-from zero at h = blank-last at (omega arith)
@@ -57,7 +58,7 @@ module _ (set : List ℕ) where
               let w = word-some text set at k in
               let r = run-most text false set s (omega arith) in
               holds-of (BlankSplit set) (blank-cut at) (ap (map (textOf text)) (fields-more text (blank set) at (s + m) (span s m) (blank-field text set at k)))
-              (a-word (part at (leading true set (drop at text)) text) (part s m text) (drop (s + m) text) _
+              (a-word (part at (leading (isIn true set) (drop at text)) text) (part s m text) (drop (s + m) text) _
               (omega (arith, length-part s m text r))
               (run-all text true set at) (run-all text false set s)
               (stop-behind set (drop (s + m) text) (run-stops text false set s))
@@ -68,15 +69,15 @@ module _ (set : List ℕ) where
     pub blank-split : BlankSplit set text (map (textOf text) (fieldsOf text (blank set)))
     blank-split =
         ⊎-elim
-        (λ z. holds-of (BlankSplit set) (drop-of-length-le text {i = 0} (omega arith)) (ap (map (textOf text)) (fields-empty text (blank set) z)) (blanks none))
+        (λ z. holds-of (BlankSplit set) (drop-of-length-le text {i = 0} (omega arith)) (ap (map (textOf text)) (fields-empty text (blank set) z)) (blanks empty))
         (λ h. holds-of (BlankSplit set) refl (ap (map (textOf text)) (fields-of text (blank set) h)) (blank-from (suc (length text)) 0 (omega arith)))
         (eq-zero-or-pos (length text))
 
   -- ---- and only so
 
   -- the blanks stop at a field
-  word-stop : {b : ℕ} {f : List ℕ} → All false set (b ∷ f) → isIn true set b ≡ false
-  word-stop (both h a) = outside-stop set _ h
+  word-stop : {b : ℕ} {f : List ℕ} → All (isIn false set) (b ∷ f) → isIn true set b ≡ false
+  word-stop (cons h a) = outside-stop set _ h
 
   blank-same : {t u : List ℕ} {fs gs : List (List ℕ)} → t ≡ u → BlankSplit set t fs → BlankSplit set u gs → fs ≡ gs
   blank-same e (blanks x) (blanks y) = refl
@@ -94,7 +95,7 @@ module _ (set : List ℕ) where
 
   -- no field is empty, and none has a blank
   pub words : {t : List ℕ} {fs : List (List ℕ)} → BlankSplit set t fs
-      → (k : ℕ) → k < length fs → (0 < length (getD fs k [])) × (All false set (getD fs k []))
+      → (k : ℕ) → k < length fs → (0 < length (getD fs k [])) × (All (isIn false set) (getD fs k []))
   words (blanks x) k h = absurd (omega arith)
   words (word x w o p) zero h = (omega arith, w)
   words (word x w o p) (suc k) h = words p k (omega arith)

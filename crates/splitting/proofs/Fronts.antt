@@ -8,12 +8,12 @@ use lib.ListN.{length, take, drop, length-drop}
 use lib.Seq.{drop-drop}
 use lib.Dec.{eqb}
 use borrow.Author.Tests.{not-true, not-false, eqb-true, eq-eqb, ne-eqb}
+use Rattle.lists.proofs.Leading.{leading-on, leading-ends, leading-le}
+use Rattle.lists.specs.Elements.{oneOf, leading, All, empty, cons}
 use Rattle.buffer.specs.Parts.{part}
 use Rattle.buffer.specs.First.{firstByte}
-use Rattle.ere_grammar.specs.Bytes.{oneOf}
-use Rattle.splitting.specs.Field.{isIn, leading}
-use Rattle.splitting.specs.Meaning.{All, none, both, Behind, at-end, apart}
-use Rattle.splitting.proofs.Runs.{leading-on, leading-ends, leading-most}
+use Rattle.splitting.specs.Field.{isIn}
+use Rattle.splitting.specs.Meaning.{Behind, at-end, apart}
 
 pub nil-no-cons : {b : ℕ} {l : List ℕ} → [] ≡ b ∷ l → ⊥
 nil-no-cons e = omega (arith, ap length e)
@@ -24,47 +24,47 @@ module _ (inside : Bool) (set : List ℕ) where
   Stops [] = Unit
   Stops (b ∷ t) = isIn inside set b ≡ false
 
-  pub leading-all : (l : List ℕ) → All inside set (take (leading inside set l) l)
+  pub leading-all : (l : List ℕ) → All (isIn inside set) (take (leading (isIn inside set) l) l)
   unfolding leading
-  leading-all [] = none
+  leading-all [] = empty
   leading-all (b ∷ t) = by (isIn inside set b) refl (leading-all t)
     where
-      by : (x : Bool) → isIn inside set b ≡ x → All inside set (take (leading inside set t) t) → All inside set (take (leading inside set (b ∷ t)) (b ∷ t))
-      by true e r = rw (leading-on inside set b t e) (both e r)
-      by false e r = rw (leading-ends inside set b t e) none
+      by : (x : Bool) → isIn inside set b ≡ x → All (isIn inside set) (take (leading (isIn inside set) t) t) → All (isIn inside set) (take (leading (isIn inside set) (b ∷ t)) (b ∷ t))
+      by true e r = rw (leading-on (isIn inside set) b t e) (cons e r)
+      by false e r = rw (leading-ends (isIn inside set) b t e) empty
 
-  pub leading-stop : (l : List ℕ) → Stops (drop (leading inside set l) l)
+  pub leading-stop : (l : List ℕ) → Stops (drop (leading (isIn inside set) l) l)
   unfolding leading
   leading-stop [] = tt
   leading-stop (b ∷ t) = by (isIn inside set b) refl (leading-stop t)
     where
-      by : (x : Bool) → isIn inside set b ≡ x → Stops (drop (leading inside set t) t) → Stops (drop (leading inside set (b ∷ t)) (b ∷ t))
-      by true e r = rw (leading-on inside set b t e) r
-      by false e r = rw (leading-ends inside set b t e) e
+      by : (x : Bool) → isIn inside set b ≡ x → Stops (drop (leading (isIn inside set) t) t) → Stops (drop (leading (isIn inside set) (b ∷ t)) (b ∷ t))
+      by true e r = rw (leading-on (isIn inside set) b t e) r
+      by false e r = rw (leading-ends (isIn inside set) b t e) e
 
   -- a byte that is cannot be where the bytes stop
   stopped : {b : ℕ} {l t : List ℕ} → isIn inside set b ≡ true → t ≡ b ∷ l → Stops t → ⊥
   stopped h e s = true≢false (sym h ∙ subst Stops e s)
 
   -- a list is cut in one way
-  pub cut-one : {f g : List ℕ} (t u : List ℕ) → All inside set f → All inside set g → Stops t → Stops u → f ++ t ≡ g ++ u → (f ≡ g) × (t ≡ u)
-  cut-one t u none none s r e = (refl, e)
-  cut-one t u none (both h y) s r e = absurd (stopped h e s)
-  cut-one t u (both h x) none s r e = absurd (stopped h (sym e) r)
-  cut-one t u (both h x) (both k y) s r e = let z = cut-one t u x y s r (cc) in (cc, z .1)
+  pub cut-one : {f g : List ℕ} (t u : List ℕ) → All (isIn inside set) f → All (isIn inside set) g → Stops t → Stops u → f ++ t ≡ g ++ u → (f ≡ g) × (t ≡ u)
+  cut-one t u empty empty s r e = (refl, e)
+  cut-one t u empty (cons h y) s r e = absurd (stopped h e s)
+  cut-one t u (cons h x) empty s r e = absurd (stopped h (sym e) r)
+  cut-one t u (cons h x) (cons k y) s r e = let z = cut-one t u x y s r (cc) in (cc, z .1)
 
 -- ---- the run from a place of a text on
 
 module _ (text : List ℕ) (inside : Bool) (set : List ℕ) (at : ℕ) where
-  pub run-all : All inside set (part at (leading inside set (drop at text)) text)
+  pub run-all : All (isIn inside set) (part at (leading (isIn inside set) (drop at text)) text)
   unfolding part
   run-all = leading-all inside set (drop at text)
 
-  pub run-stops : Stops inside set (drop (at + leading inside set (drop at text)) text)
+  pub run-stops : Stops inside set (drop (at + leading (isIn inside set) (drop at text)) text)
   run-stops = rw drop-drop at (leading-stop inside set (drop at text))
 
-  pub run-most : at ≤ length text → at + leading inside set (drop at text) ≤ length text
-  run-most h = omega (arith, length-drop at text, leading-most inside set (drop at text))
+  pub run-most : at ≤ length text → at + leading (isIn inside set) (drop at text) ≤ length text
+  run-most h = omega (arith, length-drop at text, leading-le (isIn inside set) (drop at text))
 
 -- ---- one byte
 
@@ -88,12 +88,12 @@ pub stop-byte : (b x : ℕ) → isIn false (b ∷ []) x ≡ false → x ≡ b
 stop-byte b x h = eqb-true x b (not-false (eqb x b) (sym (no-byte-test b x) ∙ h))
 
 -- the first place of a byte is where the bytes that are no such byte stop
-pub first-leading : (b : ℕ) (l : List ℕ) → firstByte b l ≡ leading false (b ∷ []) l
+pub first-leading : (b : ℕ) (l : List ℕ) → firstByte b l ≡ leading (isIn false (b ∷ [])) l
 unfolding firstByte leading
 first-leading b [] = refl
 first-leading b (x ∷ l) = by (eqb x b) (isIn false (b ∷ []) x) (no-byte-test b x) (first-leading b l)
   where
-    by : (y z : Bool) → z ≡ not y → firstByte b l ≡ leading false (b ∷ []) l → cond y 0 (suc (firstByte b l)) ≡ cond z (suc (leading false (b ∷ []) l)) 0
+    by : (y z : Bool) → z ≡ not y → firstByte b l ≡ leading (isIn false (b ∷ [])) l → cond y 0 (suc (firstByte b l)) ≡ cond z (suc (leading (isIn false (b ∷ [])) l)) 0
     by true z e r = rw e
     by false z e r = rw (e, r)
 

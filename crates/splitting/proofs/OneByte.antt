@@ -9,10 +9,11 @@ use native.Mathlib.Decide.{ℕ-discrete}
 use native.Mathlib.Omega.{arith}
 use lib.ListN.{length, getD, drop}
 use lib.Seq.{drop-cons}
+use Rattle.lists.specs.Elements.{leading, All, empty, cons}
 use Rattle.buffer.specs.Parts.{part}
 use Rattle.splitting.specs.Separator.{byte}
-use Rattle.splitting.specs.Field.{span, field, isIn, leading, nextField, fieldsFrom, fieldsOf}
-use Rattle.splitting.specs.Meaning.{All, none, both, ByteSplit, last, more, Occurs, never, once-more}
+use Rattle.splitting.specs.Field.{span, field, isIn, nextField, fieldsFrom, fieldsOf}
+use Rattle.splitting.specs.Meaning.{ByteSplit, last, more, Occurs, never, once-more}
 use Rattle.splitting.specs.Splitting.{textOf}
 use Rattle.splitting.proofs.Turns.{byte-field, next-past, fields-more, fields-none, fields-of}
 use Rattle.splitting.proofs.Fronts.{Stops, nil-no-cons, cut-one, run-all, run-stops, run-most, byte-itself, other-byte, stop-byte, first-leading}
@@ -24,7 +25,7 @@ module _ (b : ℕ) where
   module _ (text : List ℕ) where
     -- how many bytes from a place on are no b
     abbrev run : ℕ → ℕ
-    run at = leading false (b ∷ []) (drop at text)
+    run at = leading (isIn false (b ∷ [])) (drop at text)
 
     byte-next : (at : ℕ) → at ≤ length text → nextField text (byte b) at ≡ field (span at (run at)) (suc (at + run at))
     byte-next at h = byte-field text b at h ∙ ap (λ (n : ℕ). field (span at n) (suc (at + n))) (first-leading b (drop at text))
@@ -73,7 +74,7 @@ module _ (b : ℕ) where
 
   -- ---- no field has the byte, and there is one field more than there are such bytes
 
-  pub no-byte : {t : List ℕ} {fs : List (List ℕ)} → ByteSplit b t fs → (k : ℕ) → k < length fs → All false (b ∷ []) (getD fs k [])
+  pub no-byte : {t : List ℕ} {fs : List (List ℕ)} → ByteSplit b t fs → (k : ℕ) → k < length fs → All (isIn false (b ∷ [])) (getD fs k [])
   no-byte (last x) zero h = x
   no-byte (last x) (suc k) h = absurd (omega arith)
   no-byte (more x p) zero h = x
@@ -88,15 +89,15 @@ module _ (b : ℕ) where
   byte-count p n o = let r = occurs-split o in ap length (byte-one p (r .1)) ∙ r .2
 
   other-more : {n x : ℕ} {t : List ℕ} → isIn false (b ∷ []) x ≡ true → Occurs b n t → Occurs b n (x ∷ t)
-  other-more h (never a) = never (both h a)
-  other-more h (once-more a o) = once-more (both h a) o
+  other-more h (never a) = never (cons h a)
+  other-more h (once-more a o) = once-more (cons h a) o
 
   pub occurs-some : (t : List ℕ) → (n : ℕ) × (Occurs b n t)
-  occurs-some [] = (0, never none)
+  occurs-some [] = (0, never empty)
   occurs-some (x ∷ t) =
       let r = occurs-some t in
       elim (ℕ-discrete x b) [
-        | yes e ↦ (suc (r .0), subst (λ (c : ℕ). Occurs b (suc (r .0)) (c ∷ t)) (sym e) (once-more none (r .1)))
+        | yes e ↦ (suc (r .0), subst (λ (c : ℕ). Occurs b (suc (r .0)) (c ∷ t)) (sym e) (once-more empty (r .1)))
         | no n ↦ (r .0, other-more (other-byte b x n) (r .1))
       ]
 

@@ -5,11 +5,11 @@ use Prim.Native.Nat.{ℕ, zero, suc, _+_, _-_, _≤_, _<_}
 use native.Mathlib.Decide.{decLt}
 use native.Mathlib.Omega.{arith}
 use lib.ListN.{length, getD}
-use Rattle.ere_meaning.specs.Tree.{Class, takes, Ere}
+use Rattle.ere_meaning.specs.Tree.{Class, accepts, Ere}
 use Rattle.ere_meaning.specs.Meaning.{Spans, Match, found, nowhere, BestFrom}
 use Rattle.ere_meaning.proofs.Answers.{best-one}
 use Rattle.splitting.specs.Separator.{ere}
-use Rattle.splitting.specs.Field.{Span, span, upTo, nextField, fieldsFrom, fieldsOf}
+use Rattle.splitting.specs.Field.{Span, span, untilSeparator, nextField, fieldsFrom, fieldsOf}
 use Rattle.splitting.specs.Meaning.{EreSplit, last, more}
 use Rattle.splitting.proofs.Turns.{ere-field, next-past, fields-more, fields-none, fields-of}
 
@@ -23,7 +23,7 @@ endOf fs k = startOf fs k + getD fs k (span 0 0) .size
 module _ (e : Ere Class) (text : List ℕ) where
   -- ---- the fields are so split
 
-  ere-turn : (at : ℕ) → at ≤ length text → (m : Match) → BestFrom takes text e at 1 m → nextField text (ere e) at ≡ upTo at (length text) m
+  ere-turn : (at : ℕ) → at ≤ length text → (m : Match) → BestFrom accepts text e at 1 m → nextField text (ere e) at ≡ untilSeparator at (length text) m
       → ((b : ℕ) → at < b → b ≤ length text → EreSplit e text b (fieldsFrom text (ere e) b)) → EreSplit e text at (fieldsFrom text (ere e) at)
   ere-turn at h (found s n) x q r =
       rw (fields-more text (ere e) at (s + n) (span at (s - at)) q) (more x (r (s + n) (omega (arith, x .1, x .2)) (x .0 .0)))
@@ -45,10 +45,10 @@ module _ (e : Ere Class) (text : List ℕ) where
 
   pub ere-one : {at : ℕ} {fs gs : List Span} → EreSplit e text at fs → EreSplit e text at gs → fs ≡ gs
   ere-one (last h x) (last k y) = refl
-  ere-one (last {at} h x) (more {s} {n} y r) = absurd (found-no-nowhere (best-one takes text e at 1 (found s n) nowhere y x))
-  ere-one (more {at} {s} {n} x p) (last k y) = absurd (found-no-nowhere (best-one takes text e at 1 (found s n) nowhere x y))
+  ere-one (last {at} h x) (more {s} {n} y r) = absurd (found-no-nowhere (best-one accepts text e at 1 (found s n) nowhere y x))
+  ere-one (more {at} {s} {n} x p) (last k y) = absurd (found-no-nowhere (best-one accepts text e at 1 (found s n) nowhere x y))
   ere-one (more {at} {s} {n} x p) (more {s = i} {n = j} {fs} y r) =
-      let z = best-one takes text e at 1 (found s n) (found i j) x y in
+      let z = best-one accepts text e at 1 (found s n) (found i j) x y in
       let a : s ≡ i = cc in
       let b : n ≡ j = cc in
       let c : i + j ≡ s + n = omega arith in
@@ -60,11 +60,11 @@ module _ (e : Ere Class) (text : List ℕ) where
   -- with it is longer.
   pub record Separates (from s j : ℕ) : Type 0 where
     pub some : s < j
-    pub spans : Spans takes text e s j
-    pub leftmost : (i k : ℕ) → from ≤ i → i < k → Spans takes text e i k → s ≤ i
-    pub longest : (k : ℕ) → Spans takes text e s k → k ≤ j
+    pub spans : Spans accepts text e s j
+    pub leftmost : (i k : ℕ) → from ≤ i → i < k → Spans accepts text e i k → s ≤ i
+    pub longest : (k : ℕ) → Spans accepts text e s k → k ≤ j
 
-  separates : (at s n : ℕ) → BestFrom takes text e at 1 (found s n) → Separates at s (s + n)
+  separates : (at s n : ℕ) → BestFrom accepts text e at 1 (found s n) → Separates at s (s + n)
   separates at s n x =
       record {
         some = omega (arith, x .2);
@@ -89,7 +89,7 @@ module _ (e : Ere Class) (text : List ℕ) where
 
   -- From the start of the last field on no span of at least one byte is left, and the field goes up to the text's end.
   pub last-field : {at : ℕ} {fs : List Span} → EreSplit e text at fs → (k : ℕ) → suc k ≡ length fs
-      → (endOf fs k ≡ length text) × ((i j : ℕ) → startOf fs k ≤ i → i < j → Spans takes text e i j → ⊥)
+      → (endOf fs k ≡ length text) × ((i j : ℕ) → startOf fs k ≤ i → i < j → Spans accepts text e i j → ⊥)
   last-field (last h x) zero l = (omega arith, λ i j g m y. x i j g (omega arith) y)
   last-field (last h x) (suc k) l = absurd (omega arith)
   last-field (more x p) zero l = absurd (omega (arith, first-field p .0))

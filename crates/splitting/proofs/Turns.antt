@@ -10,16 +10,18 @@ use native.Mathlib.Decide.{decLe, decLt}
 use lib.ListN.{length, getD, drop, length-drop}
 use lib.Seq.{getD-drop, drop-cons}
 use borrow.Author.Tests.{lt-ltb, le-leb, le-ltb, lt-leb, eq-eqb, ne-eqb}
+use Rattle.lists.proofs.Leading.{leading-on, leading-le, leading-stops}
+use Rattle.lists.specs.Elements.{leading}
 use Rattle.buffer.specs.First.{firstByte}
 use Rattle.buffer.proofs.First.{first-byte-most}
-use Rattle.ere_meaning.specs.Tree.{Class, takes, Ere}
+use Rattle.ere_meaning.specs.Tree.{Class, accepts, Ere}
 use Rattle.ere_meaning.specs.Meaning.{Match, found, nowhere, BestFrom}
 use Rattle.ere_meaning.specs.Search.{bestFrom}
 use Rattle.ere_meaning.proofs.Answers.{best-from}
 use Rattle.splitting.specs.Separator.{Separator, blank, byte, ere}
-use Rattle.splitting.specs.Field.{Span, span, Next, field, none, leading, upTo, nextField, follow, fieldsIn, fieldsFrom, fieldsOf}
+use Rattle.splitting.specs.Field.{Span, span, Next, field, none, isIn, untilSeparator, nextField, follow, fieldsIn, fieldsFrom, fieldsOf}
 use Rattle.splitting.specs.Meaning.{Ordered}
-use Rattle.splitting.proofs.Runs.{leading-on, leading-most, leading-stops, not-in}
+use Rattle.splitting.proofs.Runs.{not-in}
 
 -- A test is true, or is not, by the fact that it tests. Both kinds of tests are listed, and both facts are given where both hold, so that the laws on
 -- a turn below hang on what is tested and not on how.
@@ -34,31 +36,31 @@ Goes at end none = Unit
 
 module _ (text : List ℕ) where
   -- the byte at which the blanks end is the first of a field
-  pub word-more : (set : List ℕ) (at : ℕ) → at + leading true set (drop at text) < length text
-      → let s = at + leading true set (drop at text) in
-      leading false set (drop s text) ≡ suc (leading false set (drop (suc s) text))
+  pub word-more : (set : List ℕ) (at : ℕ) → at + leading (isIn true set) (drop at text) < length text
+      → let s = at + leading (isIn true set) (drop at text) in
+      leading (isIn false set) (drop s text) ≡ suc (leading (isIn false set) (drop (suc s) text))
   word-more set at h =
-      let n = leading true set (drop at text) in
+      let n = leading (isIn true set) (drop at text) in
       let l = length-drop at text in
       let e = sym (getD-drop at text n 0) in
-      let s = leading-stops true set (drop at text) (omega arith) in
-      ap (leading false set) (drop-cons text (at + n) 0 h)
-      ∙ leading-on false set (getD text (at + n) 0) (drop (suc (at + n)) text) (not-in set (getD text (at + n) 0) (rw e s))
+      let s = leading-stops (isIn true set) (drop at text) (omega arith) in
+      ap (leading (isIn false set)) (drop-cons text (at + n) 0 h)
+      ∙ leading-on (isIn false set) (getD text (at + n) 0) (drop (suc (at + n)) text) (not-in set (getD text (at + n) 0) (rw e s))
 
-  pub word-some : (set : List ℕ) (at : ℕ) → at + leading true set (drop at text) < length text
-      → 0 < leading false set (drop (at + leading true set (drop at text)) text)
+  pub word-some : (set : List ℕ) (at : ℕ) → at + leading (isIn true set) (drop at text) < length text
+      → 0 < leading (isIn false set) (drop (at + leading (isIn true set) (drop at text)) text)
   word-some set at h = omega (arith, word-more set at h)
 
   -- ---- what a turn answers
 
-  pub blank-field : (set : List ℕ) (at : ℕ) → at + leading true set (drop at text) < length text
-      → let s = at + leading true set (drop at text) in
-      nextField text (blank set) at ≡ field (span s (leading false set (drop s text))) (s + leading false set (drop s text))
+  pub blank-field : (set : List ℕ) (at : ℕ) → at + leading (isIn true set) (drop at text) < length text
+      → let s = at + leading (isIn true set) (drop at text) in
+      nextField text (blank set) at ≡ field (span s (leading (isIn false set) (drop s text))) (s + leading (isIn false set) (drop s text))
   unfolding nextField
-  blank-field set at h = let k : at + leading true set (drop at text) ≤ length text = omega arith in simp holds
+  blank-field set at h = let k : at + leading (isIn true set) (drop at text) ≤ length text = omega arith in simp holds
 
   -- only blanks are left
-  pub blank-past : (set : List ℕ) (at : ℕ) → length text ≤ at + leading true set (drop at text) → nextField text (blank set) at ≡ none
+  pub blank-past : (set : List ℕ) (at : ℕ) → length text ≤ at + leading (isIn true set) (drop at text) → nextField text (blank set) at ≡ none
   unfolding nextField
   blank-past set at h = simp fails
 
@@ -70,9 +72,9 @@ module _ (text : List ℕ) where
 
   -- the separator is the best of those that are not empty
   pub ere-field : (e : Ere Class) (at : ℕ) → at ≤ length text
-      → (m : Match) × (BestFrom takes text e at 1 m) × (nextField text (ere e) at ≡ upTo at (length text) m)
+      → (m : Match) × (BestFrom accepts text e at 1 m) × (nextField text (ere e) at ≡ untilSeparator at (length text) m)
   unfolding nextField
-  ere-field e at h = (bestFrom takes text e at 1, best-from takes text e at 1, simp holds)
+  ere-field e at h = (bestFrom accepts text e at 1, best-from accepts text e at 1, simp holds)
 
   -- behind the end is no field
   pub next-past : (s : Separator) (at : ℕ) → length text < at → nextField text s at ≡ none
@@ -83,11 +85,11 @@ module _ (text : List ℕ) where
 
   -- ---- it goes on
 
-  blank-goes : (set : List ℕ) (at : ℕ) → at + leading true set (drop at text) < length text → Goes at (length text) (nextField text (blank set) at)
+  blank-goes : (set : List ℕ) (at : ℕ) → at + leading (isIn true set) (drop at text) < length text → Goes at (length text) (nextField text (blank set) at)
   blank-goes set at h =
-      let s = at + leading true set (drop at text) in
+      let s = at + leading (isIn true set) (drop at text) in
       let l = length-drop s text in
-      let m = leading-most false set (drop s text) in
+      let m = leading-le (isIn false set) (drop s text) in
       let w = word-some set at h in
       rw (blank-field set at h) (omega arith, omega arith, omega arith, omega arith, omega arith)
 
@@ -97,7 +99,7 @@ module _ (text : List ℕ) where
       let m = first-byte-most b (drop at text) in
       rw (byte-field b at h) (omega arith, omega arith, omega arith, omega arith, omega arith)
 
-  up-to-goes : (e : Ere Class) (at : ℕ) → at ≤ length text → (m : Match) → BestFrom takes text e at 1 m → Goes at (length text) (upTo at (length text) m)
+  up-to-goes : (e : Ere Class) (at : ℕ) → at ≤ length text → (m : Match) → BestFrom accepts text e at 1 m → Goes at (length text) (untilSeparator at (length text) m)
   up-to-goes e at h (found s n) x = (omega arith, omega (arith, x .0 .0), omega (arith, x .1), omega (arith, x .1, x .2), omega (arith, x .0 .0))
   up-to-goes e at h nowhere x = (omega arith, omega arith, omega arith, omega arith, omega arith)
 
@@ -109,7 +111,7 @@ module _ (text : List ℕ) where
 
   pub goes : (s : Separator) (at : ℕ) → Goes at (length text) (nextField text s at)
   goes (blank set) at =
-      elim (decLt (at + leading true set (drop at text)) (length text)) [
+      elim (decLt (at + leading (isIn true set) (drop at text)) (length text)) [
         | yes h ↦ blank-goes set at h
         | no n ↦ past-goes (blank set) at (blank-past set at (omega arith))
       ]

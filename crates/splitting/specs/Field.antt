@@ -4,11 +4,11 @@ use mathlib.Core.List.{List, [], _∷_}
 use Prim.Native.Nat.{ℕ, zero, suc, _+_, _-_}
 use lib.ListN.{length, drop}
 use lib.Dec.{eqb, ltb, leb}
+use Rattle.lists.specs.Elements.{oneOf, leading}
 use Rattle.buffer.specs.First.{firstByte}
-use Rattle.ere_meaning.specs.Tree.{takes}
+use Rattle.ere_meaning.specs.Tree.{accepts}
 use Rattle.ere_meaning.specs.Meaning.{Match, found, nowhere}
 use Rattle.ere_meaning.specs.Search.{bestFrom}
-use Rattle.ere_grammar.specs.Bytes.{oneOf}
 use Rattle.splitting.specs.Separator.{Separator, blank, byte, ere}
 
 -- so many bytes from a place on
@@ -28,31 +28,26 @@ pub data Next : Type 0 where
 abbrev pub isIn : Bool → List ℕ → ℕ → Bool
 isIn inside set b = cond inside (oneOf set b) (not (oneOf set b))
 
--- how many bytes from the front on are in the set, or are not
-unfoldable pub leading : Bool → List ℕ → List ℕ → ℕ
-leading inside set [] = 0
-leading inside set (b ∷ t) = cond (isIn inside set b) (suc (leading inside set t)) 0
-
 -- from `at` up to a separator, or up to the end
-abbrev pub upTo : ℕ → ℕ → Match → Next
-upTo at end (found s n) = field (span at (s - at)) (s + n)
-upTo at end nowhere = field (span at (end - at)) (suc end)
+abbrev pub untilSeparator : ℕ → ℕ → Match → Next
+untilSeparator at end (found s n) = field (span at (s - at)) (s + n)
+untilSeparator at end nowhere = field (span at (end - at)) (suc end)
 
 module _ (text : List ℕ) where
   -- "leading and trailing ones dropped"
   abbrev pub wordFrom : List ℕ → ℕ → Next
   wordFrom set s =
-      let n = leading false set (drop s text) in
+      let n = leading (isIn false set) (drop s text) in
       cond (ltb s (length text)) (field (span s n) (s + n)) none
 
   -- Behind the last separator stands a field, be it empty; the place behind the texts end is behind the last field.
   unfoldable pub nextField : Separator → ℕ → Next
-  nextField (blank set) at = wordFrom set (at + leading true set (drop at text))
+  nextField (blank set) at = wordFrom set (at + leading (isIn true set) (drop at text))
   nextField (byte b) at =
       let n = firstByte b (drop at text) in
       cond (leb at (length text)) (field (span at n) (suc (at + n))) none
   -- "each separator starts at the leftmost place after the last separator where a nonempty match exists, and is the longest there"
-  nextField (ere e) at = cond (leb at (length text)) (upTo at (length text) (bestFrom takes text e at 1)) none
+  nextField (ere e) at = cond (leb at (length text)) (untilSeparator at (length text) (bestFrom accepts text e at 1)) none
 
   abbrev pub follow : (ℕ → List Span) → Next → List Span
   follow rest none = []

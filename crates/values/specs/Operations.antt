@@ -15,7 +15,7 @@ use Rattle.buffer.specs.declared.search.Order.the-variants.{Less, Equal, Greate
 use Rattle.number.specs.Range.{Answer}
 use Rattle.number.specs.Arithmetic.{isZero, negative, sumOf, differenceOf, productOf, quotientOf, remainderOf, negationOf}
 use Rattle.image_format.specs.Codes.{Arithmetic, add, subtract, multiply, divide, remainder, Comparison, less, at-most, equal, different, greater, at-least}
-use Rattle.values.specs.Value.{Value, unset, number, text, field-text, Result, gives, stops, then, result, textOf, numberOf, numeric, truthOf, truthValue}
+use Rattle.values.specs.Value.{Value, unset, number, text, field-text, Result, gives, stops, bind, result, textOf, numberOf, numeric, truthOf, truthValue}
 
 abbrev pub computed : Arithmetic → ℤ → ℤ → Answer
 computed add x y = sumOf x y
@@ -25,20 +25,20 @@ computed divide x y = quotientOf x y
 computed remainder x y = remainderOf x y
 
 abbrev pub aNumber : Result ℤ → Result Value
-aNumber r = then r (λ z. gives (number z))
+aNumber r = bind r (λ z. gives (number z))
 
 -- "left operand before right"
 unfoldable pub arithmeticOf : Arithmetic → Value → Value → Result Value
-arithmeticOf o a b = then (numberOf a) (λ x. then (numberOf b) (λ y. aNumber (result (computed o x y))))
+arithmeticOf o a b = bind (numberOf a) (λ x. bind (numberOf b) (λ y. aNumber (result (computed o x y))))
 
 unfoldable pub negateOf : Value → Result Value
-negateOf a = then (numberOf a) (λ x. aNumber (result (negationOf x)))
+negateOf a = bind (numberOf a) (λ x. aNumber (result (negationOf x)))
 
 unfoldable pub toNumberOf : Value → Result Value
 toNumberOf a = aNumber (numberOf a)
 
 unfoldable pub notOf : Value → Result Value
-notOf a = then (truthOf a) (λ b. gives (truthValue (not b)))
+notOf a = bind (truthOf a) (λ b. gives (truthValue (not b)))
 
 -- ---- comparison
 
@@ -63,7 +63,7 @@ holds at-least = among false true true
 unfoldable pub compareOf : Comparison → Value → Value → Result Value
 compareOf o a b =
     cond (numeric a && numeric b)
-    (then (numberOf a) (λ x. then (numberOf b) (λ y. gives (truthValue (holds o (orderOf x y))))))
+    (bind (numberOf a) (λ x. bind (numberOf b) (λ y. gives (truthValue (holds o (orderOf x y))))))
     (gives (truthValue (holds o (ordering (textOf a) (textOf b)))))
 
 -- ---- texts
@@ -96,7 +96,7 @@ between m e p (b ∷ t) = cond (atMost m (pos p) && not (atMost e (pos p))) (b �
 
 -- "`substr` gives the bytes at positions p >= 1 with m <= p < m+n."
 unfoldable pub substrOf : Value → Value → Value → Result Value
-substrOf a m n = then (numberOf m) (λ x. then (numberOf n) (λ y. gives (text (between x (x +ℤ y) 1 (textOf a)))))
+substrOf a m n = bind (numberOf m) (λ x. bind (numberOf n) (λ y. gives (text (between x (x +ℤ y) 1 (textOf a)))))
 
 -- ---- field numbers
 
@@ -106,4 +106,4 @@ fieldIn (pos k) = cond (leb k fieldCount) (gives k) (stops badFieldNumber)
 fieldIn (negsuc k) = stops badFieldNumber
 
 unfoldable pub fieldNumber : Value → Result ℕ
-fieldNumber a = then (numberOf a) fieldIn
+fieldNumber a = bind (numberOf a) fieldIn

@@ -23,9 +23,9 @@ pub data Result (A : Type 0) : Type 0 where
   gives : A → Result A
   stops : ℕ → Result A
 
-abbrev pub then : {A B : Type 0} → Result A → (A → Result B) → Result B
-then (gives a) f = f a
-then (stops n) f = stops n
+abbrev pub bind : {A B : Type 0} → Result A → (A → Result B) → Result B
+bind (gives a) f = f a
+bind (stops n) f = stops n
 
 abbrev pub result : Answer → Result ℤ
 result (answered z) = gives z
@@ -56,7 +56,7 @@ abbrev pub nonempty : List ℕ → Bool
 nonempty l = not (eqb (length l) 0)
 
 abbrev pub nonzero : Result ℤ → Result Bool
-nonzero r = then r (λ z. gives (not (isZero z)))
+nonzero r = bind r (λ z. gives (not (isZero z)))
 
 -- "Truth: numbers and numeric-looking field text nonzero, other texts nonempty, unset false; a numeric look takes the number here too (11, 12)."
 unfoldable pub truthOf : Value → Result Bool

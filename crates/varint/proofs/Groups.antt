@@ -11,56 +11,56 @@ use lib.ListN.{length, drop, getD, drop-of-length-le}
 use lib.Seq.{drop-cons}
 use lib.Dec.{eqb, ltb, leb}
 use borrow.Author.Tests.{ne-eqb, eqb-false, lt-ltb, le-ltb, le-leb, lt-leb, ltb-true, ltb-false}
+use Rattle.lists.specs.Parsing.{Parsed, parsed}
 use Rattle.edition.specs.Limits.{numberBound}
-use Rattle.ere_grammar.specs.Read.{Got, got}
 use Rattle.image_format.specs.Numbers.{above, takeGroups, bounded, takeNumber}
 use Rattle.varint.specs.Take.{TakesAt, lastOf}
 use Rattle.varint.specs.declared.numbers.Taken.the-variants.{Number, Nothing}
 
 -- what is read so far, with what stands behind it; behind others a 0 is needless
-abbrev pub combined : ℕ → ℕ → Option (Got ℕ) → Option (Got ℕ)
+abbrev pub combined : ℕ → ℕ → Option (Parsed ℕ) → Option (Parsed ℕ)
 combined v s none = none
-combined v s (some r) = cond (eqb (r .it) 0 && not (eqb s 1)) none (got (v + s * r .it) (r .left))
+combined v s (some r) = cond (eqb (r .value) 0 && not (eqb s 1)) none (parsed (v + s * r .value) (r .rest))
 
-pub combined-first : (o : Option (Got ℕ)) → o ≡ combined 0 1 o
+pub combined-first : (o : Option (Parsed ℕ)) → o ≡ combined 0 1 o
 combined-first none = refl
-combined-first (some r) = by (eqb (r .it) 0)
+combined-first (some r) = by (eqb (r .value) 0)
   where
-    z : got (r .it) (r .left) ≡ got (0 + 1 * r .it) (r .left)
-    z = ap (λ (n : ℕ). got n (r .left)) (sym (zero-add (1 * r .it) ∙ one-mul (r .it)))
+    z : parsed (r .value) (r .rest) ≡ parsed (0 + 1 * r .value) (r .rest)
+    z = ap (λ (n : ℕ). parsed n (r .rest)) (sym (zero-add (1 * r .value) ∙ one-mul (r .value)))
 
-    by : (x : Bool) → some r ≡ cond (x && false) none (got (0 + 1 * r .it) (r .left))
+    by : (x : Bool) → some r ≡ cond (x && false) none (parsed (0 + 1 * r .value) (r .rest))
     by true = z
     by false = z
 
 -- one group more
-pub combined-more : (v s g : ℕ) (o : Option (Got ℕ)) → 1 ≤ s → combined v s (above g o) ≡ combined (v + s * g) (s * 128) o
+pub combined-more : (v s g : ℕ) (o : Option (Parsed ℕ)) → 1 ≤ s → combined v s (above g o) ≡ combined (v + s * g) (s * 128) o
 combined-more v s g none h = refl
-combined-more v s g (some r) h = by (eqb (r .it) 0) refl
+combined-more v s g (some r) h = by (eqb (r .value) 0) refl
   where
     scaled : eqb (s * 128) 1 ≡ false
     scaled = ne-eqb (s * 128) 1 (λ e. omega arith)
 
-    by : (x : Bool) → eqb (r .it) 0 ≡ x → combined v s (cond x none (got (g + 128 * r .it) (r .left))) ≡ cond (x && not (eqb (s * 128) 1)) none (got (v + s * g + s * 128 * r .it) (r .left))
+    by : (x : Bool) → eqb (r .value) 0 ≡ x → combined v s (cond x none (parsed (g + 128 * r .value) (r .rest))) ≡ cond (x && not (eqb (s * 128) 1)) none (parsed (v + s * g + s * 128 * r .value) (r .rest))
     by true e = rw scaled
     by false e =
-        let n = eqb-false (r .it) 0 e in
-        let z : eqb (g + 128 * r .it) 0 ≡ false = ne-eqb (g + 128 * r .it) 0 (λ q. n (omega arith)) in
-        let d : v + s * (g + 128 * r .it) ≡ v + s * g + s * 128 * r .it =
-        ap (λ (m : ℕ). v + m) (mul-add s g (128 * r .it) ∙ ap (λ (m : ℕ). s * g + m) (sym (mul-assoc s 128 (r .it)))) ∙ sym (add-assoc v (s * g) (s * 128 * r .it)) in
-        rw z (ap (λ (m : ℕ). got m (r .left)) d)
+        let n = eqb-false (r .value) 0 e in
+        let z : eqb (g + 128 * r .value) 0 ≡ false = ne-eqb (g + 128 * r .value) 0 (λ q. n (omega arith)) in
+        let d : v + s * (g + 128 * r .value) ≡ v + s * g + s * 128 * r .value =
+        ap (λ (m : ℕ). v + m) (mul-add s g (128 * r .value) ∙ ap (λ (m : ℕ). s * g + m) (sym (mul-assoc s 128 (r .value)))) ∙ sym (add-assoc v (s * g) (s * 128 * r .value)) in
+        rw z (ap (λ (m : ℕ). parsed m (r .rest)) d)
 
 -- a ninth group makes a number too great, or is needless
-pub too-many : (v g : ℕ) (o : Option (Got ℕ)) → bounded (combined v (2 ^ 49) (above g o)) ≡ none
+pub too-many : (v g : ℕ) (o : Option (Parsed ℕ)) → bounded (combined v (2 ^ 49) (above g o)) ≡ none
 too-many v g none = refl
-too-many v g (some r) = by (eqb (r .it) 0) refl
+too-many v g (some r) = by (eqb (r .value) 0) refl
   where
-    by : (x : Bool) → eqb (r .it) 0 ≡ x → bounded (combined v (2 ^ 49) (cond x none (got (g + 128 * r .it) (r .left)))) ≡ none
+    by : (x : Bool) → eqb (r .value) 0 ≡ x → bounded (combined v (2 ^ 49) (cond x none (parsed (g + 128 * r .value) (r .rest)))) ≡ none
     by true e = refl
     by false e =
-        let n = eqb-false (r .it) 0 e in
-        let z : eqb (g + 128 * r .it) 0 ≡ false = ne-eqb (g + 128 * r .it) 0 (λ q. n (omega arith)) in
-        let b : leb (v + 2 ^ 49 * (g + 128 * r .it)) numberBound ≡ false = lt-leb (v + 2 ^ 49 * (g + 128 * r .it)) numberBound (omega arith) in
+        let n = eqb-false (r .value) 0 e in
+        let z : eqb (g + 128 * r .value) 0 ≡ false = ne-eqb (g + 128 * r .value) 0 (λ q. n (omega arith)) in
+        let b : leb (v + 2 ^ 49 * (g + 128 * r .value)) numberBound ≡ false = lt-leb (v + 2 ^ 49 * (g + 128 * r .value)) numberBound (omega arith) in
         rw (z, b)
 
 -- ---- on the bytes of an image
@@ -75,7 +75,7 @@ module _ (l : List ℕ) (at : ℕ) where
     unfolding takeGroups
     groups-more b g = ap takeGroups (drop-cons l i 0 h) ∙ rw (le-ltb (getD l i 0) 128 g, lt-ltb (getD l i 0) 256 b)
 
-    groups-last : getD l i 0 < 128 → takeGroups (drop i l) ≡ got (getD l i 0) (drop (suc i) l)
+    groups-last : getD l i 0 < 128 → takeGroups (drop i l) ≡ parsed (getD l i 0) (drop (suc i) l)
     unfolding takeGroups
     groups-last b = ap takeGroups (drop-cons l i 0 h) ∙ rw (lt-ltb (getD l i 0) 128 b)
 
@@ -98,17 +98,17 @@ module _ (l : List ℕ) (at : ℕ) where
         n : ℕ
         n = v + s * g
 
-        q : takeGroups (drop at l) ≡ combined v s (got g (drop (suc i) l))
+        q : takeGroups (drop at l) ≡ combined v s (parsed g (drop (suc i) l))
         q = e ∙ ap (combined v s) (groups-last b)
 
-        within : takeGroups (drop at l) ≡ got n (drop (suc i) l) → (x : Bool) → ltb numberBound n ≡ x
+        within : takeGroups (drop at l) ≡ parsed n (drop (suc i) l) → (x : Bool) → ltb numberBound n ≡ x
             → TakesAt l at (cond x Nothing (Number n (suc i)))
         within c true w = ap bounded c ∙ rw (lt-leb n numberBound (ltb-true numberBound n w))
         within c false w = (ap bounded c ∙ rw (le-leb n numberBound (ltb-false numberBound n w)), omega arith, omega arith)
 
         by : (x : Bool) → (eqb g 0 && not (eqb s 1)) ≡ x → TakesAt l at (cond x Nothing (cond (ltb numberBound n) Nothing (Number n (suc i))))
-        by true z = let c : combined v s (got g (drop (suc i) l)) ≡ none = rw z in ap bounded (q ∙ c)
-        by false z = let c : combined v s (got g (drop (suc i) l)) ≡ got n (drop (suc i) l) = rw z in within (q ∙ c) (ltb numberBound n) refl
+        by true z = let c : combined v s (parsed g (drop (suc i) l)) ≡ none = rw z in ap bounded (q ∙ c)
+        by false z = let c : combined v s (parsed g (drop (suc i) l)) ≡ parsed n (drop (suc i) l) = rw z in within (q ∙ c) (ltb numberBound n) refl
 
   pub read-out : (i v s : ℕ) → length l ≤ i → ReadTo i v s → TakesAt l at Nothing
   unfolding takeNumber takeGroups

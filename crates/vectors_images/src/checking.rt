@@ -1,8 +1,8 @@
 // The check of an image.
 //
 // Payload: the outcome and the image.
-use image_check::Verdict;
 use edition::Outcome;
+use image_check::Verdict;
 
 // The number of a verdict.
 fn number(v: Verdict) -> u64 {

@@ -28,7 +28,11 @@ fn agrees(p: &[u8], r: Reading) -> bool {
         return false;
     }
     let v = r.value;
-    valued(v, vectors_frames::wide(vectors_frames::byte(p, 0)), vectors_frames::word(p, 1))
+    valued(
+        v,
+        vectors_frames::wide(vectors_frames::byte(p, 0)),
+        vectors_frames::word(p, 1),
+    )
 }
 
 pub fn passes(p: &[u8]) -> bool {

@@ -1,7 +1,8 @@
 -- `is_plain` meets its contract.
 -- Assumes nothing.
 use borrow.Author.Needs.{needs}
-use Rattle.ere_grammar.specs.Bytes.{oneOf, isPlain}
+use Rattle.lists.specs.Elements.{oneOf}
+use Rattle.ere_grammar.specs.Bytes.{isPlain}
 use Rattle.ere_grammar.proofs.is_plain.Statement.{statement}
 use Rattle.ere_grammar.proofs.is_plain.Tie as tie
 

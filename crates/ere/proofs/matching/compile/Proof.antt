@@ -39,8 +39,8 @@ put-row-requires c κs = search needs
 put-row-requires-2 : tie.Need-put-row-requires-2
 put-row-requires-2 c κs = search needs
 
-seal-requires : tie.Need-seal-requires
-seal-requires c κs = search needs
+put-first-bytes-requires : tie.Need-put-first-bytes-requires
+put-first-bytes-requires c κs = search needs
 
 same-length-3 : tie.Need-same-length-3
 same-length-3 c = search needs
@@ -54,8 +54,8 @@ returns-4 c =
     let q = c .before .before .before .before .before .before .before .before .before .before .before .before .before .before .before .before .before .before .before .before .before .read-group .ensures in
     let o = not-false (g .ok) (c .before .before .before .before .before .before .before .before .before .before .before .before .before .before .before .before .before .if2 .left) in
     let full : length u ≡ tableWords = omega (arith, c .before .before .before .before .before .before .before .before .before .before .before .before .before .before .before .before .before .before .before .before .before .read-group .kept .1 .1 .1 .1 .1 .0, c .before .before .before .before .before .before .before .before .before .before .before .before .before .before .before .before .before .before .before .before .before .before .before .before .before .before .pre) in
-    let same : c .before .before .seal .last .0 ≡ finished u (g .entry .first) (g .entry .later) =
-    c .before .before .seal .ensures ∙ ap sealed (c .before .before .before .before .before .before .put-row2 .ensures ∙ ap (λ (x : List ℕ). withRow x 1 (g .entry .later)) (c .before .before .before .before .before .before .before .before .before .before .put-row .ensures)) in
+    let same : c .before .before .put-first-bytes .last .0 ≡ finished u (g .entry .first) (g .entry .later) =
+    c .before .before .put-first-bytes .ensures ∙ ap sealed (c .before .before .before .before .before .before .put-row2 .ensures ∙ ap (λ (x : List ℕ). withRow x 1 (g .entry .later)) (c .before .before .before .before .before .before .before .before .before .before .put-row .ensures)) in
     subst (λ (x : List ℕ). Compiles d l x true) (sym same)
     (compiles-some (q .read o .0) (group-whole d l (c .before .before .before .before .before .before .before .before .before .before .before .before .before .before .before .before .before .before .before .before .before .before .before .before .before .before .args .t .now) u g (c .before .before .before .before .before .before .before .before .before .before .before .before .before .before .before .before .before .before .before .before .before .before .before .if1 .left) q o (c .before .before .before .before .before .before .before .before .before .before .before .before .before .before .before .if3 .left)) (group-serves d l (c .before .before .before .before .before .before .before .before .before .before .before .before .before .before .before .before .before .before .before .before .before .before .before .before .before .before .args .t .now) u g (c .before .before .before .before .before .before .before .before .before .before .before .before .before .before .before .before .before .before .before .before .before .before .before .if1 .left) q o full))
 
@@ -71,6 +71,6 @@ compile-spec =
     returns-3
     put-row-requires
     put-row-requires-2
-    seal-requires
+    put-first-bytes-requires
     same-length-3
     returns-4)

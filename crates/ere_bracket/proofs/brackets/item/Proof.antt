@@ -16,14 +16,14 @@ enum-known-b c = search needs
 joins-requires : tie.Need-joins-requires
 joins-requires c κs = search needs
 
-add-up-to : tie.Need-add-up-to
-add-up-to c =
+add-range-to : tie.Need-add-range-to
+add-range-to c =
     let l = c .before .before .before .before .before .before .before .args .ere .now in
     let next = c .before .before .before .b .given .0 .1 .0 in
     omega (arith, joins-inside l next (sym (c .if1 .taken) ∙ c .before .joins .ensures))
 
-up-to-requires : tie.Need-up-to-requires
-up-to-requires c κs = search needs
+range-to-requires : tie.Need-range-to-requires
+range-to-requires c κs = search needs
 
 returns : tie.Need-returns
 returns c =
@@ -33,7 +33,7 @@ returns c =
     let w = c .before .before .before .before .before .before .read-member .ensures in
     let f = byte-further w e in
     let joined = sym (c .before .if1 .taken) ∙ c .before .before .joins .ensures in
-    leads-from _ _ _ _ (omega arith) (c .up-to .ensures) (after-joins _ _ l _ next (byte-read w e) joined)
+    leads-from _ _ _ _ (omega arith) (c .range-to .ensures) (after-joins _ _ l _ next (byte-read w e) joined)
 
 with-byte-requires : tie.Need-with-byte-requires
 with-byte-requires c κs = search needs
@@ -66,8 +66,8 @@ item-spec =
     read-member-requires
     enum-known-b
     joins-requires
-    add-up-to
-    up-to-requires
+    add-range-to
+    range-to-requires
     returns
     with-byte-requires
     goes-on-requires

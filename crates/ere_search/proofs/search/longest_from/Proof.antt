@@ -29,8 +29,8 @@ loop-holds c = (omega arith, c .entry .ensures, refl)
 add-loop : tie.Need-add-loop Inv-loop μ-loop
 add-loop c = omega arith
 
-noted-requires : tie.Need-noted-requires Inv-loop μ-loop
-noted-requires c κs = omega arith
+longest-requires : tie.Need-longest-requires Inv-loop μ-loop
+longest-requires c κs = omega arith
 
 dead-requires : tie.Need-dead-requires Inv-loop μ-loop
 dead-requires c κs = tt
@@ -38,7 +38,7 @@ dead-requires c κs = tt
 returns : tie.Need-returns Inv-loop μ-loop
 returns c =
     let i = c .before .before .before .before .loop .inv in
-    best-dead _ _ _ _ _ _ _ (i .1) _ (i .2) _ (c .before .before .before .loop-test .taken) (sym (c .before .dead .ensures) ∙ c .if1 .taken) (c .before .before .noted .ensures)
+    best-dead _ _ _ _ _ _ _ (i .1) _ (i .2) _ (c .before .before .before .loop-test .taken) (sym (c .before .dead .ensures) ∙ c .if1 .taken) (c .before .before .longest .ensures)
 
 add-step : tie.Need-add-step Inv-loop μ-loop
 add-step c = omega arith
@@ -60,16 +60,16 @@ loop-again c =
     let i = c .before .before .before .before .before .before .loop .inv in (
       omega arith,
       live-more _ _ _ _ _ _ (i .1) _ (c .step .ensures),
-      best-more _ _ _ _ _ _ _ (i .1) _ (i .2) _ (c .before .before .before .before .before .loop-test .taken) (c .before .before .before .before .noted .ensures),
+      best-more _ _ _ _ _ _ _ (i .1) _ (i .2) _ (c .before .before .before .before .before .loop-test .taken) (c .before .before .before .before .longest .ensures),
     )
 
-noted-requires-2 : tie.Need-noted-requires-2 Inv-loop μ-loop
-noted-requires-2 c κs = omega arith
+longest-requires-2 : tie.Need-longest-requires-2 Inv-loop μ-loop
+longest-requires-2 c κs = omega arith
 
 returns-2 : tie.Need-returns-2 Inv-loop μ-loop
 returns-2 c =
     let i = c .before .before .loop .inv in
-    best-end _ _ _ _ _ _ _ (i .1) _ (i .2) _ (omega arith) (c .noted2 .ensures)
+    best-end _ _ _ _ _ _ _ (i .1) _ (i .2) _ (omega arith) (c .longest2 .ensures)
 
 pub longest-from-spec : {M : Type 1} → statement M
 longest-from-spec =
@@ -81,7 +81,7 @@ longest-from-spec =
     entry-requires
     loop-holds
     add-loop
-    noted-requires
+    longest-requires
     dead-requires
     returns
     add-step
@@ -90,5 +90,5 @@ longest-from-spec =
     add-n
     loop-less
     loop-again
-    noted-requires-2
+    longest-requires-2
     returns-2)

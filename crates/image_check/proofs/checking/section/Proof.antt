@@ -13,18 +13,18 @@ same-length : tie.Need-same-length
 same-length c = search needs
 
 returns : tie.Need-returns
-returns c = section-unfit (c .before .before .before .before .before .before .before .before .args .rules) (c .before .before .before .before .before .before .before .before .args .image .now) (c .before .before .before .before .before .before .before .before .args .at) _ _ (c .before .before .before .before .list-at .ensures) (not-true _ (c .if1 .taken))
+returns c = section-unfit (c .before .before .before .before .before .before .before .before .args .context) (c .before .before .before .before .before .before .before .before .args .image .now) (c .before .before .before .before .before .before .before .before .args .at) _ _ (c .before .before .before .before .list-at .ensures) (not-true _ (c .if1 .taken))
 
-judge-all-requires : tie.Need-judge-all-requires
-judge-all-requires c κs = let f = c .before .before .before .before .before .list-at .ensures .found (not-false _ (c .before .if1 .left)) in (omega (arith, f .2, f .3 .few, c .before .before .before .before .before .before .before .before .before .pre .2, c .before .before .before .before .index), c .before .before .before .before .before .before .before .before .before .pre .3)
+check-instructions-requires : tie.Need-check-instructions-requires
+check-instructions-requires c κs = let f = c .before .before .before .before .before .list-at .ensures .found (not-false _ (c .before .if1 .left)) in (omega (arith, f .2, f .3 .few, c .before .before .before .before .before .before .before .before .before .pre .2, c .before .before .before .before .index), c .before .before .before .before .before .before .before .before .before .pre .3)
 
 same-length-2 : tie.Need-same-length-2
 same-length-2 c = search needs
 
 returns-2 : tie.Need-returns-2
-returns-2 c = section-judged (c .before .before .before .before .before .before .before .before .before .before .args .rules) (c .before .before .before .before .before .before .before .before .before .before .args .image .now) (c .before .before .before .before .before .before .before .before .before .before .args .at) _ _ (c .before .before .before .before .before .before .list-at .ensures) (not-false _ (c .before .before .if1 .left)) _ (c .judge-all .ensures)
+returns-2 c = section-judged (c .before .before .before .before .before .before .before .before .before .before .args .context) (c .before .before .before .before .before .before .before .before .before .before .args .image .now) (c .before .before .before .before .before .before .before .before .before .before .args .at) _ _ (c .before .before .before .before .before .before .list-at .ensures) (not-false _ (c .before .before .if1 .left)) _ (c .check-instructions .ensures)
 
 pub section-spec : {M : Type 1} → statement M
 section-spec =
     tie.close
-    (tie.spec list-at-requires same-length returns judge-all-requires same-length-2 returns-2)
+    (tie.spec list-at-requires same-length returns check-instructions-requires same-length-2 returns-2)

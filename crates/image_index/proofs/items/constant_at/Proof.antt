@@ -1,8 +1,8 @@
 -- `constant_at` meets its contract, by the kind.
 use mathlib.Core.Path.{subst}
+use Rattle.lists.proofs.Many.{on}
 use Rattle.image_format.specs.Reading.{fromBytes, constantOf}
 use Rattle.varint.specs.Take.{TakesAt}
-use Rattle.image_format.proofs.Many.{on}
 use Rattle.image_index.proofs.Standing.{constant-none, kind-unknown, kind-number, kind-text}
 use borrow.Author.Needs.{needs}
 use Rattle.image_index.proofs.items.constant_at.Statement.{statement}

@@ -22,8 +22,8 @@ no-instruction-requires c κs = search needs
 returns : tie.Need-returns
 returns c = instruction-none (c .before .before .before .before .before .args .edition) (c .before .before .before .before .before .args .image .now) (c .before .before .before .before .before .args .at) _ (c .no-instruction .ensures) (code-missing (c .before .before .before .before .before .args .edition) (c .before .before .before .before .before .args .image .now) (c .before .before .before .before .before .args .at) (subst (TakesAt (c .before .before .before .before .before .args .image .now) (c .before .before .before .before .before .args .at)) (c .before .enum-told .given .1) (c .before .before .before .take-number .ensures)))
 
-known-requires : tie.Need-known-requires
-known-requires c κs = search needs
+known-code-requires : tie.Need-known-code-requires
+known-code-requires c κs = search needs
 
 no-instruction-requires-2 : tie.Need-no-instruction-requires-2
 no-instruction-requires-2 c κs = search needs
@@ -31,7 +31,7 @@ no-instruction-requires-2 c κs = search needs
 returns-2 : tie.Need-returns-2
 returns-2 c =
     let t = subst (TakesAt (c .before .before .before .before .before .before .before .before .args .image .now) (c .before .before .before .before .before .before .before .before .args .at)) (c .before .before .before .before .code .given .1) (c .before .before .before .before .before .before .take-number .ensures) in
-    instruction-none (c .before .before .before .before .before .before .before .before .args .edition) (c .before .before .before .before .before .before .before .before .args .image .now) (c .before .before .before .before .before .before .before .before .args .at) _ (c .no-instruction2 .ensures) (code-unknown (c .before .before .before .before .before .before .before .before .args .edition) (c .before .before .before .before .before .before .before .before .args .image .now) (c .before .before .before .before .before .before .before .before .args .at) _ _ t (sym (c .before .before .known .ensures) ∙ not-true _ (c .before .if1 .taken)))
+    instruction-none (c .before .before .before .before .before .before .before .before .args .edition) (c .before .before .before .before .before .before .before .before .args .image .now) (c .before .before .before .before .before .before .before .before .args .at) _ (c .no-instruction2 .ensures) (code-unknown (c .before .before .before .before .before .before .before .before .args .edition) (c .before .before .before .before .before .before .before .before .args .image .now) (c .before .before .before .before .before .before .before .before .args .at) _ _ t (sym (c .before .before .known-code .ensures) ∙ not-true _ (c .before .if1 .taken)))
 
 take-number-requires-2 : tie.Need-take-number-requires-2
 take-number-requires-2 c κs = subst (TakesAt (c .before .before .before .before .before .before .before .args .image .now) (c .before .before .before .before .before .before .before .args .at)) (c .before .before .before .code .given .1) (c .before .before .before .before .before .take-number .ensures) .2
@@ -49,19 +49,19 @@ returns-3 : tie.Need-returns-3
 returns-3 c =
     let t = subst (TakesAt (c .before .before .before .before .before .before .before .before .before .before .before .args .image .now) (c .before .before .before .before .before .before .before .before .before .before .before .args .at)) (c .before .before .before .before .before .before .before .code .given .1) (c .before .before .before .before .before .before .before .before .before .take-number .ensures) in
     let d = subst (TakesAt (c .before .before .before .before .before .before .before .before .before .before .before .args .image .now) (c .before .before .before .before .before .before .before .code .given .0 .1 .0)) (c .before .enum-told2 .given .1) (c .before .before .before .take-number2 .ensures) in
-    instruction-none (c .before .before .before .before .before .before .before .before .before .before .before .args .edition) (c .before .before .before .before .before .before .before .before .before .before .before .args .image .now) (c .before .before .before .before .before .before .before .before .before .before .before .args .at) _ (c .no-instruction3 .ensures) (depth-missing (c .before .before .before .before .before .before .before .before .before .before .before .args .edition) (c .before .before .before .before .before .before .before .before .before .before .before .args .image .now) (c .before .before .before .before .before .before .before .before .before .before .before .args .at) _ _ t (sym (c .before .before .before .before .before .known .ensures) ∙ not-false _ (c .before .before .before .before .if1 .left)) d)
+    instruction-none (c .before .before .before .before .before .before .before .before .before .before .before .args .edition) (c .before .before .before .before .before .before .before .before .before .before .before .args .image .now) (c .before .before .before .before .before .before .before .before .before .before .before .args .at) _ (c .no-instruction3 .ensures) (depth-missing (c .before .before .before .before .before .before .before .before .before .before .before .args .edition) (c .before .before .before .before .before .before .before .before .before .before .before .args .image .now) (c .before .before .before .before .before .before .before .before .before .before .before .args .at) _ _ t (sym (c .before .before .before .before .before .known-code .ensures) ∙ not-false _ (c .before .before .before .before .if1 .left)) d)
 
 operand-at-requires : tie.Need-operand-at-requires
 operand-at-requires c κs =
     let t = subst (TakesAt (c .before .before .before .before .before .before .before .before .before .before .before .args .image .now) (c .before .before .before .before .before .before .before .before .before .before .before .args .at)) (c .before .before .before .before .before .before .before .code .given .1) (c .before .before .before .before .before .before .before .before .before .take-number .ensures) in
     let d = subst (TakesAt (c .before .before .before .before .before .before .before .before .before .before .before .args .image .now) (c .before .before .before .before .before .before .before .code .given .0 .1 .0)) (c .before .depth .given .1) (c .before .before .before .take-number2 .ensures) in
-    (d .2, code-below (c .before .before .before .before .before .before .before .before .before .before .before .args .edition) (c .before .before .before .before .before .before .before .before .before .before .before .args .image .now) (c .before .before .before .before .before .before .before .before .before .before .before .args .at) _ _ t (sym (c .before .before .before .before .before .known .ensures) ∙ not-false _ (c .before .before .before .before .if1 .left)))
+    (d .2, code-below (c .before .before .before .before .before .before .before .before .before .before .before .args .edition) (c .before .before .before .before .before .before .before .before .before .before .before .args .image .now) (c .before .before .before .before .before .before .before .before .before .before .before .args .at) _ _ t (sym (c .before .before .before .before .before .known-code .ensures) ∙ not-false _ (c .before .before .before .before .if1 .left)))
 
 returns-4 : tie.Need-returns-4
 returns-4 c =
     let t = subst (TakesAt (c .before .before .before .before .before .before .before .before .before .before .before .before .args .image .now) (c .before .before .before .before .before .before .before .before .before .before .before .before .args .at)) (c .before .before .before .before .before .before .before .before .code .given .1) (c .before .before .before .before .before .before .before .before .before .before .take-number .ensures) in
     let d = subst (TakesAt (c .before .before .before .before .before .before .before .before .before .before .before .before .args .image .now) (c .before .before .before .before .before .before .before .before .code .given .0 .1 .0)) (c .before .before .depth .given .1) (c .before .before .before .before .take-number2 .ensures) in
-    depth-there (c .before .before .before .before .before .before .before .before .before .before .before .before .args .edition) (c .before .before .before .before .before .before .before .before .before .before .before .before .args .image .now) (c .before .before .before .before .before .before .before .before .before .before .before .before .args .at) _ _ t (sym (c .before .before .before .before .before .before .known .ensures) ∙ not-false _ (c .before .before .before .before .before .if1 .left)) _ _ d _ (c .operand-at .ensures)
+    depth-there (c .before .before .before .before .before .before .before .before .before .before .before .before .args .edition) (c .before .before .before .before .before .before .before .before .before .before .before .before .args .image .now) (c .before .before .before .before .before .before .before .before .before .before .before .before .args .at) _ _ t (sym (c .before .before .before .before .before .before .known-code .ensures) ∙ not-false _ (c .before .before .before .before .before .if1 .left)) _ _ d _ (c .operand-at .ensures)
 
 pub instruction-at-spec : {M : Type 1} → statement M
 instruction-at-spec =
@@ -72,7 +72,7 @@ instruction-at-spec =
     enum-told
     no-instruction-requires
     returns
-    known-requires
+    known-code-requires
     no-instruction-requires-2
     returns-2
     take-number-requires-2

@@ -1,8 +1,9 @@
 -- `text_at` meets its contract: a number, and whether as many bytes are left.
 use mathlib.Core.Path.{subst}
-use Rattle.image_format.specs.Reading.{upTo, many}
+use Rattle.lists.proofs.Many.{on}
+use Rattle.lists.specs.Parsing.{many}
+use Rattle.image_format.specs.Reading.{wordUpTo}
 use Rattle.varint.specs.Take.{TakesAt}
-use Rattle.image_format.proofs.Many.{on}
 use Rattle.image_index.proofs.Standing.{text-none, text-short, text-there}
 use borrow.Author.Needs.{needs}
 use Rattle.image_index.proofs.items.text_at.Statement.{statement}
@@ -21,7 +22,7 @@ no-text-requires : tie.Need-no-text-requires
 no-text-requires c κs = search needs
 
 returns : tie.Need-returns
-returns c = text-none (c .before .before .before .before .before .args .image .now) (c .before .before .before .before .before .args .at) _ (c .no-text .ensures) (on (many (upTo 255)) (subst (TakesAt (c .before .before .before .before .before .args .image .now) (c .before .before .before .before .before .args .at)) (c .before .enum-told .given .1) (c .before .before .before .take-number .ensures)))
+returns c = text-none (c .before .before .before .before .before .args .image .now) (c .before .before .before .before .before .args .at) _ (c .no-text .ensures) (on (many (wordUpTo 255)) (subst (TakesAt (c .before .before .before .before .before .args .image .now) (c .before .before .before .before .before .args .at)) (c .before .enum-told .given .1) (c .before .before .before .take-number .ensures)))
 
 sub-left : tie.Need-sub-left
 sub-left c = subst (TakesAt (c .before .before .before .before .before .args .image .now) (c .before .before .before .before .before .args .at)) (c .before .n .given .1) (c .before .before .before .take-number .ensures) .2

@@ -4,8 +4,9 @@ use mathlib.Core.Path.{_≡_, sym, _∙_}
 use Prim.Native.Nat.{_+_, _-_, _≤_}
 use native.Mathlib.Omega.{arith}
 use lib.ListN.{length, drop}
-use Rattle.numeral.specs.Form.{isBlank, leading}
-use Rattle.numeral.proofs.Runs.{leading-more, leading-stop, leading-end}
+use Rattle.lists.proofs.Leading.{leading-more, leading-stop, leading-end}
+use Rattle.lists.specs.Elements.{leading}
+use Rattle.numeral.specs.Form.{isBlank}
 use Rattle.numeral.proofs.digits.count_blanks.Statement.{statement}
 use Rattle.numeral.proofs.digits.count_blanks.Tie as tie
 

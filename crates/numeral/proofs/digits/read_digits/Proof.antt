@@ -6,10 +6,12 @@ use mathlib.Core.Bool.{true}
 use Prim.Native.Nat.{ℕ, _+_, _-_, _≤_}
 use native.Mathlib.Omega.{arith}
 use lib.ListN.{length, drop, take, getD}
-use Rattle.numeral.specs.Form.{isDigit, leading}
+use Rattle.lists.proofs.Leading.{leading-more, leading-stop, leading-end}
+use Rattle.lists.specs.Elements.{leading}
+use Rattle.numeral.specs.Form.{isDigit}
 use Rattle.numeral.specs.Judgement.{digitsValue, appended}
-use Rattle.numeral.specs.Mirror.{capped}
-use Rattle.numeral.proofs.Runs.{leading-more, leading-stop, leading-end, digit-range}
+use Rattle.numeral.specs.Capped.{capped}
+use Rattle.numeral.proofs.Runs.{digit-range}
 use Rattle.numeral.proofs.Values.{value-more, capped-le, capped-more, value-none}
 use Rattle.numeral.proofs.digits.read_digits.Statement.{statement}
 use Rattle.numeral.proofs.digits.read_digits.Tie as tie

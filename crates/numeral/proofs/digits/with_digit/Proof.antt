@@ -1,6 +1,6 @@
 -- `with_digit`: by the test against the bound.
 use native.Mathlib.Omega.{arith}
-use Rattle.numeral.specs.Mirror.{capped}
+use Rattle.numeral.specs.Capped.{capped}
 use borrow.Author.Needs.{needs}
 use Rattle.numeral.proofs.digits.with_digit.Statement.{statement}
 use Rattle.numeral.proofs.digits.with_digit.Tie as tie

@@ -10,7 +10,7 @@ use lib.Dec.{eqb}
 use lib.ListN.{length, getD}
 use Rattle.numeral.specs.Form.{isSign, signLength, wholeDigits, digitsFrom, pointAt, hasPoint, fractionDigits}
 use Rattle.numeral.specs.Judgement.{digitsValue}
-use Rattle.numeral.specs.Mirror.{capped}
+use Rattle.numeral.specs.Capped.{capped}
 use Rattle.numeral.proofs.Values.{value-none}
 use Rattle.numeral.proofs.Prefixes.{sign-inside, digits-inside, digits-counted, digits-valued, point-inside, after-point, fraction-none, fraction-some, prefix-unpointed, prefix-pointed}
 use Rattle.numeral.proofs.prefix.read_prefix.Statement.{statement}

@@ -5,10 +5,10 @@ use mathlib.Core.List.{List}
 use Prim.Native.Nat.{ℕ}
 use native.Mathlib.Omega.{arith}
 use lib.ListN.{drop}
+use Rattle.lists.proofs.Leading.{leading-le}
 use Rattle.buffer.proofs.Lent.{tail-lent}
 use Rattle.numeral.specs.Form.{isBlank, afterBlanks, prefixLength, blankAfter, looksNumeric}
 use Rattle.numeral.specs.Judgement.{prefixNumber, numberOf}
-use Rattle.numeral.proofs.Runs.{leading-le}
 use Rattle.numeral.proofs.reading.read_number.Statement.{statement}
 use Rattle.numeral.proofs.reading.read_number.Tie as tie
 

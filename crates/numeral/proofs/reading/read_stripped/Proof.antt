@@ -6,9 +6,10 @@ use Prim.Native.Nat.{ℕ, _+_}
 use native.Mathlib.Omega.{arith}
 use lib.Dec.{eqb}
 use lib.ListN.{length, drop, length-drop}
+use Rattle.lists.proofs.Leading.{leading-le}
+use Rattle.lists.specs.Elements.{leading}
 use Rattle.buffer.proofs.Lent.{tail-lent}
-use Rattle.numeral.specs.Form.{isBlank, leading, prefixLength, blankAfter}
-use Rattle.numeral.proofs.Runs.{leading-le}
+use Rattle.numeral.specs.Form.{isBlank, prefixLength, blankAfter}
 use Rattle.numeral.proofs.Prefixes.{prefix-inside}
 use Rattle.numeral.proofs.Judging.{prefix-judged}
 use Rattle.numeral.proofs.reading.read_stripped.Statement.{statement}

@@ -1,6 +1,6 @@
 -- `is_blank` meets its contract, by its tests. Most bytes are above both blanks, so one test is enough for them.
+use Rattle.lists.specs.Elements.{oneOf}
 use Rattle.splitting.specs.Separator.{blanks}
-use Rattle.ere_grammar.specs.Bytes.{oneOf}
 use borrow.Author.Tests.{ne-eqb, eq-eqb}
 use native.Mathlib.Omega.{arith}
 use lib.Dec.{eqb}

@@ -3,7 +3,7 @@ use Rattle.splitting.specs.Field.{span, field}
 use Prim.Native.Nat.{_-_}
 use native.Mathlib.Numerals.{add-one}
 use Rattle.separators.proofs.Stepping.{ere-is}
-use Rattle.splitting.specs.Field.{upTo}
+use Rattle.splitting.specs.Field.{untilSeparator}
 use Rattle.ere_search.specs.declared.search.Found.{Found}
 use Rattle.ere_search.specs.Find.{matchOf, Inside}
 use lib.ListN.{length}
@@ -46,14 +46,14 @@ add-t16 c = search needs
 returns : tie.Need-returns
 returns c =
     λ e v.
-    ap (λ (x : Found). upTo (c .before .before .before .before .before .before .before .args .at) (length (c .before .before .before .before .before .before .before .args .text .now)) (matchOf x)) (sym (c .before .s .given .1))
+    ap (λ (x : Found). untilSeparator (c .before .before .before .before .before .before .before .args .at) (length (c .before .before .before .before .before .before .before .args .text .now)) (matchOf x)) (sym (c .before .s .given .1))
     ∙ ere-is (c .before .before .before .before .before .before .before .args .text .now) (c .before .before .before .before .before .before .before .args .at) (c .before .before .before .before .before .before .before .args .t .now) (c .before .before .before .find-from .result) (c .before .before .before .before .before .before .before .pre .1) (λ i h. c .before .before .before .before .before .shared-slice-known2 .given i .fits) (c .before .before .before .find-from .ensures) e v
 
 returns-2 : tie.Need-returns-2
 returns-2 c =
     λ e v.
     ap (field (span (c .before .before .before .before .before .before .args .at) (length (c .before .before .before .before .before .before .args .text .now) - c .before .before .before .before .before .before .args .at))) (add-one (length (c .before .before .before .before .before .before .args .text .now)))
-    ∙ ap (λ (x : Found). upTo (c .before .before .before .before .before .before .args .at) (length (c .before .before .before .before .before .before .args .text .now)) (matchOf x)) (sym (c .enum-told .given .1))
+    ∙ ap (λ (x : Found). untilSeparator (c .before .before .before .before .before .before .args .at) (length (c .before .before .before .before .before .before .args .text .now)) (matchOf x)) (sym (c .enum-told .given .1))
     ∙ ere-is (c .before .before .before .before .before .before .args .text .now) (c .before .before .before .before .before .before .args .at) (c .before .before .before .before .before .before .args .t .now) (c .before .before .find-from .result) (c .before .before .before .before .before .before .pre .1) (λ i h. c .before .before .before .before .shared-slice-known2 .given i .fits) (c .before .before .find-from .ensures) e v
 
 pub next-by-pattern-spec : {M : Type 1} → statement M

@@ -1,8 +1,9 @@
 -- `run_end` meets its contract: the bytes up to i are passed, and the end of those from i on is the end.
+use Rattle.splitting.specs.Field.{isIn}
+use Rattle.lists.proofs.Leading.{leading-on, leading-ends}
+use Rattle.lists.specs.Elements.{leading}
 use Rattle.separators.proofs.Stepping.{other-kind, same-kind}
-use Rattle.splitting.proofs.Runs.{leading-on, leading-ends}
 use Rattle.buffer.proofs.Parts.{drop-next}
-use Rattle.splitting.specs.Field.{leading}
 use Rattle.splitting.specs.Separator.{blanks}
 use lib.ListN.{length, drop, getD, drop-of-length-le}
 use mathlib.Core.Path.{_≡_, refl, ap, _∙_}
@@ -13,7 +14,7 @@ use Rattle.separators.proofs.steps.run_end.Tie as tie
 
 abbrev Inv-loop : tie.InvT-loop
 Inv-loop text edition blank at i₀ i =
-    (i ≤ length text) × (i + leading blank (blanks (edition .number)) (drop i text) ≡ at + leading blank (blanks (edition .number)) (drop at text))
+    (i ≤ length text) × (i + leading (isIn blank (blanks (edition .number))) (drop i text) ≡ at + leading (isIn blank (blanks (edition .number))) (drop at text))
 
 abbrev μ-loop : tie.MeasureT-loop
 μ-loop text edition blank at i₀ i = length text - i
@@ -29,7 +30,7 @@ is-blank-requires c κs = tt
 
 returns : tie.Need-returns Inv-loop μ-loop
 returns c =
-    let z = ap (leading (c .before .before .before .before .before .before .args .blank) (blanks (c .before .before .before .before .before .before .args .edition .number))) (drop-next (c .before .before .before .before .before .before .args .text .now) (c .before .before .before .before .loop .i) (omega arith)) ∙ leading-ends (c .before .before .before .before .before .before .args .blank) (blanks (c .before .before .before .before .before .before .args .edition .number)) (getD (c .before .before .before .before .before .before .args .text .now) (c .before .before .before .before .loop .i) 0) (drop (c .before .before .before .before .loop .i + 1) (c .before .before .before .before .before .before .args .text .now)) (other-kind (c .before .before .before .before .before .before .args .blank) (c .before .is-blank .result) (blanks (c .before .before .before .before .before .before .args .edition .number)) (getD (c .before .before .before .before .before .before .args .text .now) (c .before .before .before .before .loop .i) 0) (c .before .is-blank .ensures) (c .if1 .taken)) in
+    let z = ap (leading (isIn (c .before .before .before .before .before .before .args .blank) (blanks (c .before .before .before .before .before .before .args .edition .number)))) (drop-next (c .before .before .before .before .before .before .args .text .now) (c .before .before .before .before .loop .i) (omega arith)) ∙ leading-ends (isIn (c .before .before .before .before .before .before .args .blank) (blanks (c .before .before .before .before .before .before .args .edition .number))) (getD (c .before .before .before .before .before .before .args .text .now) (c .before .before .before .before .loop .i) 0) (drop (c .before .before .before .before .loop .i + 1) (c .before .before .before .before .before .before .args .text .now)) (other-kind (c .before .before .before .before .before .before .args .blank) (c .before .is-blank .result) (blanks (c .before .before .before .before .before .before .args .edition .number)) (getD (c .before .before .before .before .before .before .args .text .now) (c .before .before .before .before .loop .i) 0) (c .before .is-blank .ensures) (c .if1 .taken)) in
     omega (arith, z, c .before .before .before .before .loop .inv .1)
 
 add-i : tie.Need-add-i Inv-loop μ-loop
@@ -40,13 +41,13 @@ loop-less c = omega arith
 
 loop-again : tie.Need-loop-again Inv-loop μ-loop
 loop-again c =
-    let z = ap (leading (c .before .before .before .before .before .before .args .blank) (blanks (c .before .before .before .before .before .before .args .edition .number))) (drop-next (c .before .before .before .before .before .before .args .text .now) (c .before .before .before .before .loop .i) (omega arith)) ∙ leading-on (c .before .before .before .before .before .before .args .blank) (blanks (c .before .before .before .before .before .before .args .edition .number)) (getD (c .before .before .before .before .before .before .args .text .now) (c .before .before .before .before .loop .i) 0) (drop (c .before .before .before .before .loop .i + 1) (c .before .before .before .before .before .before .args .text .now)) (same-kind (c .before .before .before .before .before .before .args .blank) (c .before .is-blank .result) (blanks (c .before .before .before .before .before .before .args .edition .number)) (getD (c .before .before .before .before .before .before .args .text .now) (c .before .before .before .before .loop .i) 0) (c .before .is-blank .ensures) (c .if1 .left)) in
+    let z = ap (leading (isIn (c .before .before .before .before .before .before .args .blank) (blanks (c .before .before .before .before .before .before .args .edition .number)))) (drop-next (c .before .before .before .before .before .before .args .text .now) (c .before .before .before .before .loop .i) (omega arith)) ∙ leading-on (isIn (c .before .before .before .before .before .before .args .blank) (blanks (c .before .before .before .before .before .before .args .edition .number))) (getD (c .before .before .before .before .before .before .args .text .now) (c .before .before .before .before .loop .i) 0) (drop (c .before .before .before .before .loop .i + 1) (c .before .before .before .before .before .before .args .text .now)) (same-kind (c .before .before .before .before .before .before .args .blank) (c .before .is-blank .result) (blanks (c .before .before .before .before .before .before .args .edition .number)) (getD (c .before .before .before .before .before .before .args .text .now) (c .before .before .before .before .loop .i) 0) (c .before .is-blank .ensures) (c .if1 .left)) in
     (omega arith, omega (arith, z, c .before .before .before .before .loop .inv .1))
 
 returns-2 : tie.Need-returns-2 Inv-loop μ-loop
 unfolding leading
 returns-2 c =
-    let z = ap (leading (c .before .before .before .args .blank) (blanks (c .before .before .before .args .edition .number))) (drop-of-length-le (c .before .before .before .args .text .now) {i = c .before .loop .i} (omega arith)) in
+    let z = ap (leading (isIn (c .before .before .before .args .blank) (blanks (c .before .before .before .args .edition .number)))) (drop-of-length-le (c .before .before .before .args .text .now) {i = c .before .loop .i} (omega arith)) in
     omega (arith, z, c .before .loop .inv .1)
 
 pub run-end-spec : {M : Type 1} → statement M

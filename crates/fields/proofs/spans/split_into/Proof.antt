@@ -1,0 +1,86 @@
+-- `spread` meets its contract: n fields are written, and those from `at` on are left.
+use mathlib.Core.List.{List}
+use borrow.Author.Needs.{needs}
+use Prim.Native.Nat.{ℕ, _+_, _-_, _≤_}
+use Rattle.fields.proofs.Spreading.{step-found, step-none, Held, held-start, held-more, spread-end, spread-many, spread-empty}
+use Rattle.separators.specs.Kinds.{Means}
+use Rattle.splitting.specs.Field.{span}
+use Rattle.splitting.specs.Separator.{Separator}
+use lib.ListN.{length}
+use borrow.Author.Tests.{not-true, not-false}
+use native.Mathlib.Omega.{arith}
+use mathlib.Core.Path.{_≡_, refl, sym, subst, _∙_}
+use Prim.Native.Nat.{_+_, _-_, _≤_}
+use Rattle.fields.proofs.spans.split_into.Statement.{statement}
+use Rattle.fields.proofs.spans.split_into.Tie as tie
+
+abbrev Inv-loop : tie.InvT-loop
+Inv-loop text kind edition t first spans₀ at₀ n₀ spans at n =
+    (length spans ≡ length spans₀) × (n ≤ 129) × ((s : Separator) → Means (edition .number) t kind s → Held text s spans₀ first at n spans)
+
+abbrev μ-loop : tie.MeasureT-loop
+μ-loop text kind edition t first spans₀ at₀ n₀ spans at n = 129 - n
+
+returns : tie.Need-returns Inv-loop μ-loop
+returns c = λ s m. spread-empty (c .before .before .before .before .args .text .now) s (c .before .before .before .before .args .spans .now) (c .before .before .before .before .args .first) (c .if1 .taken)
+
+loop-holds : tie.Need-loop-holds Inv-loop μ-loop
+loop-holds c = (refl, omega arith, λ s m. held-start (c .before .before .before .before .args .text .now) s (c .before .before .before .before .args .spans .now) (c .before .before .before .before .args .first) (omega (arith, c .if1 .left)))
+
+next-field-requires : tie.Need-next-field-requires Inv-loop μ-loop
+next-field-requires c κs = c .before .before .before .before .before .before .pre
+
+same-length : tie.Need-same-length Inv-loop μ-loop
+same-length c = c .before .before .before .before .loop .inv .0
+
+returns-2 : tie.Need-returns-2 Inv-loop μ-loop
+returns-2 c =
+    λ s m.
+    spread-end (c .before .before .before .before .before .before .before .before .before .args .text .now) s (c .before .before .before .before .before .before .before .before .before .args .spans .now) (c .before .before .before .before .before .before .before .before .before .args .first) (c .before .before .before .before .loop .at) (c .before .before .before .before .loop .n) (c .before .before .before .before .loop .spans)
+    (sym (c .before .before .next-field .ensures s m) ∙ step-none (c .before .before .next-field .result) (not-true _ (c .if2 .taken)))
+    (omega (arith, c .before .before .before .loop-test .taken))
+    (c .before .before .before .before .loop .inv .2 s m)
+
+put-span-requires : tie.Need-put-span-requires Inv-loop μ-loop
+put-span-requires c κs = omega (arith, c .before .before .before .before .loop-test .taken)
+
+add-n : tie.Need-add-n Inv-loop μ-loop
+add-n c = omega (arith, c .before .before .before .before .before .before .before .before .loop .inv .1)
+
+loop-less : tie.Need-loop-less Inv-loop μ-loop
+loop-less c = omega (arith, c .before .before .before .before .before .before .before .loop-test .taken)
+
+loop-again : tie.Need-loop-again Inv-loop μ-loop
+loop-again c = (
+  search needs,
+  omega (arith, c .before .before .before .before .before .before .before .loop-test .taken),
+  λ s m.
+      subst (λ (r : List ℕ). Held (c .before .before .before .before .before .before .before .before .before .before .before .before .before .args .text .now) s (c .before .before .before .before .before .before .before .before .before .before .before .before .before .args .spans .now) (c .before .before .before .before .before .before .before .before .before .before .before .before .before .args .first) (c .before .before .before .before .before .before .next-field .result .after) (c .before .before .before .before .before .before .before .before .loop .n + 1) r) (sym (c .before .before .put-span .ensures))
+      (held-more (c .before .before .before .before .before .before .before .before .before .before .before .before .before .args .text .now) s (c .before .before .before .before .before .before .before .before .before .before .before .before .before .args .spans .now) (c .before .before .before .before .before .before .before .before .before .before .before .before .before .args .first) (c .before .before .before .before .before .before .before .before .loop .at) (c .before .before .before .before .before .before .before .before .loop .n) (c .before .before .before .before .before .before .before .before .loop .spans) (span (c .before .before .before .before .before .before .next-field .result .start) (c .before .before .before .before .before .before .next-field .result .size)) (c .before .before .before .before .before .before .next-field .result .after)
+      (sym (c .before .before .before .before .before .before .next-field .ensures s m) ∙ step-found (c .before .before .before .before .before .before .next-field .result) (not-false _ (c .before .before .before .before .if2 .left)))
+      (c .before .before .before .before .before .before .before .before .loop .inv .2 s m)),
+)
+
+same-length-2 : tie.Need-same-length-2 Inv-loop μ-loop
+same-length-2 c = c .before .loop .inv .0
+
+returns-3 : tie.Need-returns-3 Inv-loop μ-loop
+returns-3 c = λ s m. spread-many (c .before .before .before .before .before .before .args .text .now) s (c .before .before .before .before .before .before .args .spans .now) (c .before .before .before .before .before .before .args .first) (c .before .loop .at) (c .before .loop .n) (c .before .loop .spans) (omega (arith, c .before .loop .inv .1, c .loop-test .left)) (c .before .loop .inv .2 s m)
+
+pub split-into-spec : {M : Type 1} → statement M
+split-into-spec =
+    tie.close
+    (tie.spec
+    Inv-loop
+    μ-loop
+    returns
+    loop-holds
+    next-field-requires
+    same-length
+    returns-2
+    put-span-requires
+    add-n
+    loop-less
+    loop-again
+    same-length-2
+    returns-3)
