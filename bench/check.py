@@ -4,7 +4,7 @@
     bench/check.py [--reference DIR] [--seconds S] [--archive FILE]
 
 Builds the archive by `rt staticlib capi` (or takes FILE) and the program of bench/check.c over it, and checks images at 1, 2 and 4 times a length: of constants, of jumps, of
-other instructions, and a program of DIR/reference.py's translator (default ../shared/reference, from the repository's root) whose rules stand there once, twice and four times, with no
+other instructions, and a program of DIR/reference.py's translator (default tests/reference) whose rules stand there once, twice and four times, with no
 ERE and with one. Each is checked over and over for S seconds (default 1), and the least time counts. Writes a table: bytes, nanoseconds for a check and for a byte,
 how many times as long as the first of its row, images and million bytes for a second.
 Debian packages: gcc, libc6-dev.
@@ -27,7 +27,7 @@ MATCHED = '$1 ~ /^port(0[1-9]|1[0-9])$/ { print $1, $2 }\n'
 
 def arguments():
     parser = argparse.ArgumentParser()
-    parser.add_argument('--reference', default=os.path.join(building.ROOT, '..', 'shared', 'reference'))
+    parser.add_argument('--reference', default=building.REFERENCE)
     parser.add_argument('--seconds', type=float, default=1)
     parser.add_argument('--archive')
     return parser.parse_args()

@@ -3,8 +3,8 @@
     tests/NAME.py [--reference DIR] [--cases N] [--seed S] [--archive FILE] [--sanitize]
 
 builds the archive by `rt staticlib capi` (or takes FILE) and, in a temporary directory, the program of tests/NAME.c over it; draws N cases (default
-100,000) with DIR/gen.py, from the seed S (default 1); compares each answer with that of DIR/reference.py (default ../shared/reference, from the
-repository's root). Writes how many cases there were of each kind, and each disagreement (at most ten). The status is 1 if there is one. With
+100,000) with DIR/gen.py, from the seed S (default 1); compares each answer with that of DIR/reference.py (default
+tests/reference). Writes how many cases there were of each kind, and each disagreement (at most ten). The status is 1 if there is one. With
 --sanitize the C program, not the archive, is built with the compiler's address checks.
 """
 import argparse
@@ -22,7 +22,7 @@ BATCH = 5000
 
 def arguments():
     parser = argparse.ArgumentParser()
-    parser.add_argument('--reference', default=os.path.join(building.ROOT, '..', 'shared', 'reference'))
+    parser.add_argument('--reference', default=building.REFERENCE)
     parser.add_argument('--cases', type=int, default=100000)
     parser.add_argument('--seed', type=int, default=1)
     parser.add_argument('--archive')

@@ -4,6 +4,9 @@ import subprocess
 
 ROOT = os.path.dirname(os.path.dirname(os.path.abspath(__file__)))
 
+# reference.py (what document 01 says, computed), gen.py (random cases) and flows.py (flow lines)
+REFERENCE = os.path.join(ROOT, 'tests', 'reference')
+
 
 def archive(crate):
     """The archive that `rt staticlib` writes."""

@@ -1,9 +1,9 @@
 #!/usr/bin/env python3
 """Compares the definitions of the crates with the reference, by theorems that the checker computes.
 
-    tests/semantics.py --reference DIR [--cases N] [--seed S] [--keep]
+    tests/semantics.py [--reference DIR] [--cases N] [--seed S] [--keep]
 
-DIR has reference.py and gen.py. Each group makes N random cases (default 100), and its hand-made cases besides. A case is a theorem
+DIR has reference.py and gen.py (default tests/reference). Each group makes N random cases (default 100), and its hand-made cases besides. A case is a theorem
 `left ≡ right`, proved by `refl`: `left` is a definition at some input, `right` is what the reference answers there. The script copies
 crates.txt, crates/ and target/ (so that proved crates are reused) to a temporary folder, adds the theorems there as a module of the
 specs/ of the group's crate, runs `rt dev` and reports each case that the checker refuses. The repository stays as it is, and the
@@ -21,6 +21,8 @@ import shutil
 import subprocess
 import sys
 import tempfile
+
+import building
 
 import image_cases
 
@@ -293,7 +295,7 @@ def judged(crate, groups, answer):
 def main():
     global ref, gen
     parser = argparse.ArgumentParser()
-    parser.add_argument('--reference', required=True)
+    parser.add_argument('--reference', default=building.REFERENCE)
     parser.add_argument('--cases', type=int, default=100)
     parser.add_argument('--seed', type=int, default=1)
     parser.add_argument('--keep', action='store_true')

@@ -3,10 +3,10 @@
 
     tests/vectors.py [--reference DIR]
 
-Each run writes the same bytes. What is expected comes from DIR/reference.py (default ../shared/reference, from the repository's root)
+Each run writes the same bytes. What is expected comes from DIR/reference.py (default tests/reference)
 where that has the function, and from Python's own bytes elsewhere.
 
-A group is a function below that gives its payloads, a file data/NAME, a line of stdout, and a module of a crate judge_... To add one,
+A group is a function below that gives its payloads, a file data/NAME, a line of stdout, and a module of a crate vectors_... To add one,
 write the function under @group, in the order of the program's `main`, and the module.
 
 Beside data/NAME stands data/wrong_NAME: some of its cases, each with another byte in what is expected. None of them may pass.
@@ -842,7 +842,7 @@ def wrong(name, cases):
 def main():
     global ref, gen
     parser = argparse.ArgumentParser(description=__doc__.split('\n')[0])
-    parser.add_argument('--reference', default=os.path.join(ROOT, '..', 'shared', 'reference'), help='the folder of reference.py')
+    parser.add_argument('--reference', default=os.path.join(ROOT, 'tests', 'reference'), help='the folder of reference.py')
     folder = parser.parse_args().reference
     sys.path.insert(0, folder)
     sys.dont_write_bytecode = True

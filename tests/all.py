@@ -1,0 +1,55 @@
+#!/usr/bin/env python3
+"""Runs every comparison that is not part of the gate, one after the other, and says which of them passed.
+
+    tests/all.py [--cases N] [--seed S]
+
+N (default 100,000) is the number of random cases of each script that calls the archive; the scripts by which the prover computes take theirs from
+their own defaults. Needs a C compiler and `objdump`. The status is 1 if a script failed, or if tests/vectors.py writes other bytes than those that
+are there.
+"""
+import argparse
+import os
+import subprocess
+import sys
+import time
+
+import building
+
+RANDOM = ['match', 'split', 'images']
+OTHERS = ['semantics', 'frames']
+
+
+def same_vectors():
+    """Whether tests/vectors.py writes what is in the repository."""
+    written = subprocess.run([sys.executable, 'tests/vectors.py'], cwd=building.ROOT).returncode == 0
+    return written and not subprocess.run(['git', 'status', '--porcelain', 'crates/vectors'], cwd=building.ROOT, check=True,
+                                          stdout=subprocess.PIPE).stdout
+
+
+def passes(script, *words):
+    return subprocess.run([sys.executable, os.path.join('tests', script + '.py'), *words], cwd=building.ROOT).returncode == 0
+
+
+def main():
+    parser = argparse.ArgumentParser()
+    parser.add_argument('--cases', type=int, default=100000)
+    parser.add_argument('--seed', type=int, default=1)
+    options = parser.parse_args()
+    archive = building.archive('capi')
+    drawn = ['--cases', str(options.cases), '--seed', str(options.seed), '--archive', archive]
+    jobs = [('vectors', same_vectors)]
+    jobs += [(name, lambda name=name: passes(name, *drawn)) for name in RANDOM]
+    jobs += [(name, lambda name=name: passes(name)) for name in OTHERS]
+    failed = []
+    for name, job in jobs:
+        start = time.time()
+        print('== %s' % name, flush=True)
+        if not job():
+            failed.append(name)
+        print('== %s: %s, %d s' % (name, 'FAILED' if name in failed else 'passed', time.time() - start), flush=True)
+    print('%d scripts, %d failed%s' % (len(jobs), len(failed), ''.join(' ' + name for name in failed)))
+    sys.exit(1 if failed else 0)
+
+
+if __name__ == '__main__':
+    main()
