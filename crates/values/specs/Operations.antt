@@ -15,7 +15,7 @@ use Rattle.buffer.specs.declared.search.Order.the-variants.{Less, Equal, Greate
 use Rattle.number.specs.Range.{Answer}
 use Rattle.number.specs.Arithmetic.{isZero, negative, sumOf, differenceOf, productOf, quotientOf, remainderOf, negationOf}
 use Rattle.image_format.specs.Codes.{Arithmetic, add, subtract, multiply, divide, remainder, Comparison, less, at-most, equal, different, greater, at-least}
-use Rattle.values.specs.Value.{Value, unset, number, text, field-text, Result, gives, stops, bind, result, textOf, numberOf, numeric, truthOf, truthValue}
+use Rattle.values.specs.Value.{Value, unset, number, text, field-text, stop, Result, gives, stops, bind, result, textOf, numberOf, numeric, truthOf, truthValue}
 
 abbrev pub computed : Arithmetic → ℤ → ℤ → Answer
 computed add x y = sumOf x y
@@ -70,7 +70,7 @@ compareOf o a b =
 
 -- a text value, or 14
 abbrev pub limited : List ℕ → Result Value
-limited l = cond (leb (length l) textBytes) (gives (text l)) (stops textTooLong)
+limited l = cond (leb (length l) textBytes) (gives (text l)) (stops (stop textTooLong))
 
 unfoldable pub joinOf : Value → Value → Result Value
 joinOf a b = limited (textOf a ++ textOf b)
@@ -102,8 +102,8 @@ substrOf a m n = bind (numberOf m) (λ x. bind (numberOf n) (λ y. gives (text (
 
 -- "field number not 0 to 128": 16
 abbrev pub fieldIn : ℤ → Result ℕ
-fieldIn (pos k) = cond (leb k fieldCount) (gives k) (stops badFieldNumber)
-fieldIn (negsuc k) = stops badFieldNumber
+fieldIn (pos k) = cond (leb k fieldCount) (gives k) (stops (stop badFieldNumber))
+fieldIn (negsuc k) = stops (stop badFieldNumber)
 
 unfoldable pub fieldNumber : Value → Result ℕ
 fieldNumber a = bind (numberOf a) fieldIn

@@ -5,7 +5,7 @@ use Prim.Native.Nat.{ℕ}
 use lib.ListN.{length}
 use lib.IntN.{ℤ, pos}
 use lib.Dec.{eqb}
-use Rattle.number.specs.Range.{Answer, number as answered, stop}
+use Rattle.number.specs.Range.{Answer, number as answered, stop as refused}
 use Rattle.number.specs.Arithmetic.{isZero}
 use Rattle.numeral.specs.Form.{looksNumeric}
 use Rattle.numeral.specs.Judgement.{numberOf as textNumber}
@@ -18,18 +18,29 @@ pub data Value : Type 0 where
   text : List ℕ → Value
   field-text : List ℕ → Value
 
--- what an operation gives, or the outcome with which it stops
+-- why an operation stops: the outcome, and how many bytes of output room are lacking, which is 0 but for a print
+pub record Stop : Type 0 where
+  pub outcome : ℕ
+  pub short : ℕ
+
+abbrev pub shortBy : ℕ → ℕ → Stop
+shortBy short outcome = record { outcome = outcome; short = short }
+
+abbrev pub stop : ℕ → Stop
+stop = shortBy 0
+
+-- what an operation gives, or why it stops
 pub data Result (A : Type 0) : Type 0 where
   gives : A → Result A
-  stops : ℕ → Result A
+  stops : Stop → Result A
 
 abbrev pub bind : {A B : Type 0} → Result A → (A → Result B) → Result B
 bind (gives a) f = f a
-bind (stops n) f = stops n
+bind (stops s) f = stops s
 
 abbrev pub result : Answer → Result ℤ
 result (answered z) = gives z
-result (stop n) = stops n
+result (refused n) = stops (stop n)
 
 -- "Numbers become plain decimal. Unset is 0 and \"\"."
 unfoldable pub textOf : Value → List ℕ
