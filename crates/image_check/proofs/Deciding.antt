@@ -103,7 +103,7 @@ module _ (edition users constants eres : ℕ) where
   contextBy records = record { edition = edition; users = users; constants = constants; eres = eres; main = records }
 
   context-of : (i : Image) (s : Section) → edition ≡ i .edition → users ≡ i .users → constants ≡ length (i .constants) → eres ≡ length (i .eres)
-      → ContextOf (contextBy (flowAllowed i s next)) i s
+      → ContextOf (contextBy (flowAllowed s next)) i s
   context-of i s e u c r = record { edition = e; users = u; constants = c; eres = r; nexts = refl }
 
   module _ (l : List ℕ) (at : ℕ) (b : Listed) (x : SectionJudged (contextBy false) l at b) where

@@ -52,11 +52,11 @@ module _ (i : Image) where
 
   -- ---- what fits
 
-  constant-fits : (a : Constant) → Short i a → FitsOf (i .edition) Constants a
+  constant-fits : (a : Constant) → Short a → FitsOf (i .edition) Constants a
   constant-fits (number n) h = tt
   constant-fits (text l) h = h
 
-  constant-small : (a : Constant) → FitsOf (i .edition) Constants a → smallConstant i a ≡ true
+  constant-small : (a : Constant) → FitsOf (i .edition) Constants a → smallConstant a ≡ true
   constant-small (number n) h = refl
   constant-small (text l) h = le-leb _ _ h
 

@@ -55,7 +55,7 @@ walk-out f m (a ∷ l) (suc n) h = walk-out f m l n (omega arith)
 
 module _ (i : Image) (s : Section) where
   abbrev hasIn : ℕ → ℕ → Bool
-  hasIn m d = depthIs i s d (nth (sectionOf i s) m)
+  hasIn m d = depthIs d (nth (sectionOf i s) m)
 
   abbrev contextIn : Context
   contextIn = record {
@@ -63,7 +63,7 @@ module _ (i : Image) (s : Section) where
     users = i .users;
     constants = length (i .constants);
     eres = length (i .eres);
-    main = flowAllowed i s next;
+    main = flowAllowed s next;
   }
 
   module _ (n : ℕ) where
@@ -91,7 +91,7 @@ module _ (i : Image) (s : Section) where
     has-is : (m d : ℕ) → hasDepth index (length (sectionOf i s)) m d ≡ hasIn m d
     has-is m d = by (ltb m (length (sectionOf i s))) refl
       where
-        by : (x : Bool) → ltb m (length (sectionOf i s)) ≡ x → (x && eqb (getD index m 0 / 64 % 64) d) ≡ depthIs i s d (nth (sectionOf i s) m)
+        by : (x : Bool) → ltb m (length (sectionOf i s)) ≡ x → (x && eqb (getD index m 0 / 64 % 64) d) ≡ depthIs d (nth (sectionOf i s) m)
         by true e =
             let below = ltb-true m (length (sectionOf i s)) e in
             let r = nth-some (sectionOf i s) m below in

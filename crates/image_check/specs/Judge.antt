@@ -81,7 +81,7 @@ pub record ContextOf (r : Context) (i : Image) (s : Section) : Type 0 where
   pub users : r .users ≡ i .users
   pub constants : r .constants ≡ length (i .constants)
   pub eres : r .eres ≡ length (i .eres)
-  pub nexts : r .main ≡ flowAllowed i s next
+  pub nexts : r .main ≡ flowAllowed s next
 
 -- all instructions of a section, by its index
 abbrev pub Judges : Context → List ℕ → ℕ → Bool → Type 0

@@ -53,14 +53,14 @@ abbrev Over : Operation → Type 0
 Over o = (o ≡ flow section-end) ⊎ ((o ≡ flow next) ⊎ (o ≡ flow exit))
 
 module _ (i : Image) where
-  small-says : (a : Constant) → Says (smallConstant i a) (Short i a)
+  small-says : (a : Constant) → Says (smallConstant a) (Short a)
   small-says (number n) = (λ h. tt, λ h. refl)
   small-says (text l) = leb-says (length l) textBytes
 
-  isEnd-says : (o : Operation) → Says (isEnd i o) (o ≡ flow section-end)
-  isEnd-says o = (is o, λ e. ap (isEnd i) e)
+  isEnd-says : (o : Operation) → Says (isEnd o) (o ≡ flow section-end)
+  isEnd-says o = (is o, λ e. ap (isEnd) e)
     where
-      is : (o : Operation) → isEnd i o ≡ true → o ≡ flow section-end
+      is : (o : Operation) → isEnd o ≡ true → o ≡ flow section-end
       is (action a) h = absurd (false≢true h)
       is (flow section-end) h = refl
       is (flow jump) h = absurd (false≢true h)
@@ -88,10 +88,10 @@ module _ (i : Image) where
     single k (n ∷ []) x = (n, refl, x .0)
     single k (n ∷ m ∷ l) x = absurd (x .1)
 
-    terminates-says : (o : Operation) → Says (terminates i s o) (Over o)
+    terminates-says : (o : Operation) → Says (terminates o) (Over o)
     terminates-says o = (is o, back)
       where
-        is : (o : Operation) → terminates i s o ≡ true → Over o
+        is : (o : Operation) → terminates o ≡ true → Over o
         is (action a) h = absurd (false≢true h)
         is (flow section-end) h = inl refl
         is (flow jump) h = absurd (false≢true h)
@@ -99,12 +99,12 @@ module _ (i : Image) where
         is (flow next) h = inr (inl refl)
         is (flow exit) h = inr (inr refl)
 
-        back : Over o → terminates i s o ≡ true
-        back (inl e) = ap (terminates i s) e
-        back (inr (inl e)) = ap (terminates i s) e
-        back (inr (inr e)) = ap (terminates i s) e
+        back : Over o → terminates o ≡ true
+        back (inl e) = ap (terminates) e
+        back (inr (inl e)) = ap (terminates) e
+        back (inr (inr e)) = ap (terminates) e
 
-    depthIs-says : (d : ℕ) (o : Option Instruction) → Says (depthIs i s d o) ((j : Instruction) × (o ≡ some j) × (j .depth ≡ d))
+    depthIs-says : (d : ℕ) (o : Option Instruction) → Says (depthIs d o) ((j : Instruction) × (o ≡ some j) × (j .depth ≡ d))
     depthIs-says d none = (λ h. absurd (false≢true h), λ x. absurd (none-some (x .1)))
     depthIs-says d (some j) = restated (eqb-says (j .depth) d) (λ e. (j, refl, e)) (λ x. ap (λ (j : Instruction). j .depth) (some-one refl (x .1)) ∙ x .2)
 
@@ -137,10 +137,10 @@ module _ (i : Image) where
         (restated (and-says {P = assignable (i .edition) (r .0) ≡ true} (λ h. h, λ h. h) true-says)
         (λ p. (λ e. absurd (omega (arith, ap clauseOf e)), λ e. p .0, λ e. absurd (omega (arith, ap clauseOf e)))) (λ p. (p .1 refl, tt)))
 
-  inMain-says : (s : Section) → Says (flowAllowed i s next) (s ≡ main)
-  inMain-says s = (is s, λ e. ap (λ (s : Section). flowAllowed i s next) e)
+  inMain-says : (s : Section) → Says (flowAllowed s next) (s ≡ main)
+  inMain-says s = (is s, λ e. ap (λ (s : Section). flowAllowed s next) e)
     where
-      is : (s : Section) → flowAllowed i s next ≡ true → s ≡ main
+      is : (s : Section) → flowAllowed s next ≡ true → s ≡ main
       is begin h = absurd (false≢true h)
       is main h = refl
       is end h = absurd (false≢true h)
@@ -177,8 +177,8 @@ module _ (i : Image) where
 
     abbrev Leads : ℕ → Instruction → Code → Type 0
     Leads n j k =
-        (m : ℕ) → m < length (successors i s (k .operation) n (j .immediates))
-        → (d : Instruction) × (nth (sectionOf i s) (getD (successors i s (k .operation) n (j .immediates)) m 0) ≡ some d)
+        (m : ℕ) → m < length (successors (k .operation) n (j .immediates))
+        → (d : Instruction) × (nth (sectionOf i s) (getD (successors (k .operation) n (j .immediates)) m 0) ≡ some d)
         × (d .depth ≡ j .depth - (k .pops) (j .immediates) + (k .pushes) (j .immediates))
 
     -- the clauses in the check's order
@@ -199,7 +199,7 @@ module _ (i : Image) where
         (and-says (if-says (terminates-says s (k .operation)) (eqb-says (j .depth) 0))
         (and-says (leb-says (j .depth) operandDepth)
         (and-says (leb-says ((k .pops) (j .immediates)) (j .depth))
-        (and-says (all-places (λ (m : ℕ). depthIs-says s _ (nth (sectionOf i s) m)) 0 (successors i s (k .operation) n (j .immediates)))
+        (and-says (all-places (λ (m : ℕ). depthIs-says s _ (nth (sectionOf i s) m)) 0 (successors (k .operation) n (j .immediates)))
         (allowed-says (k .operation) (j .immediates) (rw e at x))))))))
 
     allowed-holds : (n : ℕ) (j : Instruction) (a : Allowed i s n j) → Holds n j (a .row)

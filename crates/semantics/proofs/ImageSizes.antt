@@ -153,7 +153,7 @@ module _ (i : Image) (ok : Checked i) where
   text-bytes : (l : List ℕ) → length l ≤ 512 → length (bytes coded l) ≤ 514
   text-bytes l h = omega (arith, length-append (coded (length l)) l, coded-two-bytes (length l) (omega arith))
 
-  constant-bytes : (a : Constant) → Short i a → length (constantIn coded a) ≤ 515
+  constant-bytes : (a : Constant) → Short a → length (constantIn coded a) ≤ 515
   constant-bytes (number n) h = omega (arith, length-append (coded 0) (coded n), coded-one-byte 0 (omega arith), coded-most n)
   constant-bytes (text l) h = omega (arith, length-append (coded 1) (bytes coded l), coded-one-byte 1 (omega arith), text-bytes l h)
 

@@ -16,6 +16,7 @@ use Rattle.image_format.specs.Codes.{Code, codeOf, Operation, action, flow, Act
 use Rattle.image_format.specs.Image.{Constant, Instruction, Image}
 use Rattle.values.specs.Value.{Value, Result, gives, stops, truthOf}
 use Rattle.semantics.specs.Variables.{assignable}
+use Rattle.semantics.specs.Feed.{over}
 use Rattle.semantics.specs.World.{World, valueAt, readRecord}
 use Rattle.semantics.specs.Operations.{Effect, constantAt, pushed, setVariable, byEre, ereAt, matchFound, matchMarked, printValues}
 use Rattle.semantics.specs.Moves.{Section, begin, main, end, Location, at, between, Config, Move, continues, finishes, stops-at, stuck, sectionOf, unary, applied, advance, inEnd, inMain, applyEffect, branched, orStuck, applyFlow, execute, withOperands, withNumbers, byCode, byInstruction, silent, recordRead, fromBetween, fromLocation, move}
@@ -66,12 +67,12 @@ set-none edition v a w h = by (assignable edition v) refl (ltb v (length (w .var
     by true e false f = inl (ltb-false v (length (w .variables)) f)
     by false e y f = inr e
 
-ere-none : (edition : ℕ) (f : World → Match → Result Effect) (x : Option (Ere Class)) (a : Value) (w : World) → byEre edition f x a w ≡ none → x ≡ none
-ere-none edition f none a w h = refl
-ere-none edition f (some x) a w h = absurd (some-none h)
+ere-none : (f : World → Match → Result Effect) (x : Option (Ere Class)) (a : Value) (w : World) → byEre f x a w ≡ none → x ≡ none
+ere-none f none a w h = refl
+ere-none f (some x) a w h = absurd (some-none h)
 
-none-ere : (edition : ℕ) (f : World → Match → Result Effect) (x : Option (Ere Class)) (a : Value) (w : World) → x ≡ none → byEre edition f x a w ≡ none
-none-ere edition f x a w h = rw h
+none-ere : (f : World → Match → Result Effect) (x : Option (Ere Class)) (a : Value) (w : World) → x ≡ none → byEre f x a w ≡ none
+none-ere f x a w h = rw h
 
 unary-none : {A : Type 0} (vs : List Value) {f : Value → Option A} → ((a : Value) → f a ≡ none) → unary vs f ≡ none
 unary-none vs h = unary-all (λ x. x ≡ none) refl vs h
@@ -115,7 +116,7 @@ module _ (i : Image) (c : Config) where
     -- an action with nothing to give
     none-stuck : (r : Ready i c s j k) (a : Action) → k .operation ≡ action a → applied i a (j .immediates) (taken j k) (c .world) ≡ none → move i c ≡ stuck
     unfolding execute
-    none-stuck r a e h = ready-move r (action a) e ∙ ap (applyEffect i s (r .there .number) c (below j k)) h
+    none-stuck r a e h = ready-move r (action a) e ∙ ap (applyEffect s (r .there .number) c (below j k)) h
 
     -- an action with nothing to give for the number that it names, whatever its operands
     names-stuck : (r : Ready i c s j k) (a : Action) (v : ℕ) → k .operation ≡ action a → j .immediates ≡ v ∷ []
@@ -127,14 +128,14 @@ module _ (i : Image) (c : Config) where
     ere-stuck r v e n h =
         let x = ereAt (i .edition) (nth (i .eres) v) in
         ⊎-elim
-        (λ e. names-stuck r matches v e n (λ vs. unary-none vs (λ a. none-ere (i .edition) (matchFound (i .edition)) x a (c .world) h)))
-        (λ e. names-stuck r match v e n (λ vs. unary-none vs (λ a. none-ere (i .edition) (matchMarked (i .edition)) x a (c .world) h))) e
+        (λ e. names-stuck r matches v e n (λ vs. unary-none vs (λ a. none-ere matchFound x a (c .world) h)))
+        (λ e. names-stuck r match v e n (λ vs. unary-none vs (λ a. none-ere matchMarked x a (c .world) h))) e
 
     next-stuck : (r : Ready i c s j k) → k .operation ≡ flow next → (s ≡ main → ⊥) → move i c ≡ stuck
     unfolding execute
     next-stuck r e n = ready-move r (flow next) e ∙ elsewhere s n (r .there .number)
       where
-        elsewhere : (s : Section) → (s ≡ main → ⊥) → (n : ℕ) → applyFlow i s n c next (j .immediates) (taken j k) (below j k) ≡ stuck
+        elsewhere : (s : Section) → (s ≡ main → ⊥) → (n : ℕ) → applyFlow s n c next (j .immediates) (taken j k) (below j k) ≡ stuck
         elsewhere begin h n = refl
         elsewhere main h n = absurd (h refl)
         elsewhere end h n = refl
@@ -192,44 +193,44 @@ module _ (i : Image) (c : Config) where
     action-why join e ns q l vs m t = binary-total Why vs t (λ a b h. absurd (some-none h))
     action-why matches e ns q l vs m t =
         one-total Why ns l (λ v p.
-        unary-total Why vs t (λ a h. ere-why v (inl e) (q ∙ p) (nth (i .eres) v) refl (ere-none (i .edition) (matchFound (i .edition)) _ a (c .world) h)))
+        unary-total Why vs t (λ a h. ere-why v (inl e) (q ∙ p) (nth (i .eres) v) refl (ere-none matchFound _ a (c .world) h)))
     action-why match e ns q l vs m t =
         one-total Why ns l (λ v p.
-        unary-total Why vs t (λ a h. ere-why v (inr e) (q ∙ p) (nth (i .eres) v) refl (ere-none (i .edition) (matchMarked (i .edition)) _ a (c .world) h)))
+        unary-total Why vs t (λ a h. ere-why v (inr e) (q ∙ p) (nth (i .eres) v) refl (ere-none matchMarked _ a (c .world) h)))
     action-why length-of e ns q l vs m t = unary-total Why vs t (λ a h. absurd (some-none h))
     action-why index e ns q l vs m t = binary-total Why vs t (λ a b h. absurd (some-none h))
     action-why substr e ns q l vs m t = ternary-total Why vs t (λ a b d h. absurd (some-none h))
     action-why print e ns q l vs m t = by (eqb (length vs) 0) refl
       where
-        by : (x : Bool) → eqb (length vs) 0 ≡ x → cond x none (some (printValues (i .edition) (reverse vs) (c .world))) ≡ none → Stuck i c
+        by : (x : Bool) → eqb (length vs) 0 ≡ x → cond x none (some (printValues (reverse vs) (c .world))) ≡ none → Stuck i c
         by true f h = print-nothing r e (m ∙ eqb-true (length vs) 0 f)
         by false f h = absurd (some-none h)
 
-    effect-none : (n : ℕ) (o : List Value) (x : Option (Result Effect)) → applyEffect i s n c o x ≡ stuck → x ≡ none
+    effect-none : (n : ℕ) (o : List Value) (x : Option (Result Effect)) → applyEffect s n c o x ≡ stuck → x ≡ none
     effect-none n o none h = refl
     effect-none n o (some (gives e)) h = absurd (not-stuck refl h)
     effect-none n o (some (stops a)) h = absurd (not-stuck refl h)
 
-    branched-not : (n t : ℕ) (o : List Value) (x : Result Bool) → isStuck (branched i s n c t o x) ≡ false
+    branched-not : (n t : ℕ) (o : List Value) (x : Result Bool) → isStuck (branched s n c t o x) ≡ false
     branched-not n t o (gives true) = refl
     branched-not n t o (gives false) = refl
     branched-not n t o (stops a) = refl
 
     flow-why : (f : Flow) → k .operation ≡ flow f → (n : ℕ) (ns : List ℕ) → length ns ≡ named (flow f)
-        → (vs o : List Value) → Takes (flow f) (length vs) → applyFlow i s n c f ns vs o ≡ stuck → Stuck i c
-    flow-why section-end e n ns l vs o t h = absurd (not-stuck (cond-all (λ (m : Move). isStuck m ≡ false) (inEnd i s n c s) refl refl) h)
-    flow-why exit e n ns l vs o t h = absurd (not-stuck (cond-all (λ (m : Move). isStuck m ≡ false) (inEnd i s n c s) refl refl) h)
+        → (vs o : List Value) → Takes (flow f) (length vs) → applyFlow s n c f ns vs o ≡ stuck → Stuck i c
+    flow-why section-end e n ns l vs o t h = absurd (not-stuck (cond-all (λ (m : Move). isStuck m ≡ false) (inEnd s) refl refl) h)
+    flow-why exit e n ns l vs o t h = absurd (not-stuck (cond-all (λ (m : Move). isStuck m ≡ false) (inEnd s) refl refl) h)
     flow-why jump e n ns l vs o t h =
-        absurd (not-stuck (one-total (λ (x : Option Move). isStuck (orStuck i s n c x) ≡ false) ns l (λ u p. refl)) h)
+        absurd (not-stuck (one-total (λ (x : Option Move). isStuck (orStuck x) ≡ false) ns l (λ u p. refl)) h)
     flow-why jump-if-false e n ns l vs o t h =
         absurd (not-stuck
-        (one-total (λ (x : Option Move). isStuck (orStuck i s n c x) ≡ false) ns l (λ u p.
-        unary-total (λ (x : Option Move). isStuck (orStuck i s n c x) ≡ false) vs t (λ a. branched-not n u o (truthOf a)))) h)
-    flow-why next e n ns l vs o t h = by (inMain i s n c s) refl h
+        (one-total (λ (x : Option Move). isStuck (orStuck x) ≡ false) ns l (λ u p.
+        unary-total (λ (x : Option Move). isStuck (orStuck x) ≡ false) vs t (λ a. branched-not n u o (truthOf a)))) h)
+    flow-why next e n ns l vs o t h = by (inMain s) refl h
       where
-        by : (x : Bool) → inMain i s n c s ≡ x → cond x (advance i s n c between o (c .world)) stuck ≡ stuck → Stuck i c
+        by : (x : Bool) → inMain s ≡ x → cond x (advance c between o (c .world)) stuck ≡ stuck → Stuck i c
         by true p h = absurd (not-stuck refl h)
-        by false p h = next-elsewhere r e (λ q. true≢false (sym (ap (inMain i s n c) q) ∙ p))
+        by false p h = next-elsewhere r e (λ q. true≢false (sym (ap (inMain) q) ∙ p))
 
     execute-why : (o : Operation) → k .operation ≡ o → (n : ℕ) → length (j .immediates) ≡ named o → Takes o (length (taken j k))
         → execute i s n c o (j .immediates) (taken j k) (below j k) ≡ stuck → Stuck i c
@@ -250,9 +251,9 @@ module _ (i : Image) (c : Config) where
   unfolding fromBetween
   between-not =
       cond-all (λ (m : Move). isStuck m ≡ false) (silent i) refl
-      (cond-all (λ (m : Move). isStuck m ≡ false) (eqb (length (c .world .input)) 0) refl (by (readRecord (i .edition) (c .world))))
+      (cond-all (λ (m : Move). isStuck m ≡ false) (over (c .world .feed)) refl (by (readRecord (i .edition) (c .world))))
     where
-      by : (x : Result World) → isStuck (recordRead i c x) ≡ false
+      by : (x : Result World) → isStuck (recordRead c x) ≡ false
       by (gives w) = refl
       by (stops o) = refl
 

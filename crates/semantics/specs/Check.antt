@@ -13,14 +13,48 @@ use Rattle.ere_grammar.specs.Read.{readEre}
 use Rattle.image_format.specs.Codes.{ImmediateKind, a-constant, a-variable, an-ere, an-instruction, a-count, Code, codeOf, Operation, action, flow, Action, constant, get, set, field, set-field, drop, arithmetic, negate, to-number, negation, compare, join, matches, match, length-of, index, substr, print, Flow, section-end, jump, jump-if-false, next, exit}
 use Rattle.image_format.specs.Image.{Constant, number, text, Instruction, Image, known}
 use Rattle.semantics.specs.Variables.{specials, assignable}
-use Rattle.semantics.specs.Moves.{Section, begin, main, end, sectionOf, isEnd}
+use Rattle.semantics.specs.Moves.{Section, begin, main, end, sectionOf, inMain, isEnd}
+
+-- ---- sizes
+
+abbrev pub smallConstant : Constant → Bool
+smallConstant (number n) = true
+smallConstant (text l) = leb (length l) textBytes
+
+-- ---- one instruction
+
+-- "depth 0 .. at 0, 30 and 31": a section, a record or the run is over there
+abbrev pub terminates : Operation → Bool
+terminates (action a) = false
+terminates (flow section-end) = true
+terminates (flow jump) = false
+terminates (flow jump-if-false) = false
+terminates (flow next) = true
+terminates (flow exit) = true
+
+-- where instruction n leads, in the section
+abbrev pub successors : Operation → ℕ → List ℕ → List ℕ
+successors (action a) n ns = suc n ∷ []
+successors (flow section-end) n ns = []
+successors (flow jump) n ns = ns
+successors (flow jump-if-false) n ns = suc n ∷ ns
+successors (flow next) n ns = []
+successors (flow exit) n ns = []
+
+abbrev pub depthIs : ℕ → Option Instruction → Bool
+depthIs d none = false
+depthIs d (some j) = eqb (j .depth) d
+
+-- "30 only in the record section"
+abbrev pub flowAllowed : Section → Flow → Bool
+flowAllowed s section-end = true
+flowAllowed s jump = true
+flowAllowed s jump-if-false = true
+flowAllowed s next = inMain s
+flowAllowed s exit = true
 
 module _ (i : Image) where
   -- ---- sizes, and EREs
-
-  abbrev pub smallConstant : Constant → Bool
-  smallConstant (number n) = true
-  smallConstant (text l) = leb (length l) textBytes
 
   abbrev pub eresRead : Bool
   eresRead = all (λ l. isSome (readEre (i .edition) l)) (i .eres)
@@ -47,28 +81,6 @@ module _ (i : Image) where
     allExist (k ∷ ks) [] = false
     allExist (k ∷ ks) (n ∷ ns) = exists k n && allExist ks ns
 
-    -- "depth 0 .. at 0, 30 and 31": a section, a record or the run is over there
-    abbrev pub terminates : Operation → Bool
-    terminates (action a) = false
-    terminates (flow section-end) = true
-    terminates (flow jump) = false
-    terminates (flow jump-if-false) = false
-    terminates (flow next) = true
-    terminates (flow exit) = true
-
-    -- where instruction n leads, in the section
-    abbrev pub successors : Operation → ℕ → List ℕ → List ℕ
-    successors (action a) n ns = suc n ∷ []
-    successors (flow section-end) n ns = []
-    successors (flow jump) n ns = ns
-    successors (flow jump-if-false) n ns = suc n ∷ ns
-    successors (flow next) n ns = []
-    successors (flow exit) n ns = []
-
-    abbrev pub depthIs : ℕ → Option Instruction → Bool
-    depthIs d none = false
-    depthIs d (some j) = eqb (j .depth) d
-
     -- "print's n from 1; no set of 0, 1, 5, 6"
     abbrev pub actionAllowed : Action → List ℕ → Bool
     actionAllowed set ns = all (assignable (i .edition)) ns
@@ -90,22 +102,9 @@ module _ (i : Image) where
     actionAllowed index ns = true
     actionAllowed substr ns = true
 
-    -- "30 only in the record section"
-    abbrev pub flowAllowed : Flow → Bool
-    flowAllowed section-end = true
-    flowAllowed jump = true
-    flowAllowed jump-if-false = true
-    flowAllowed next = inMain s
-      where
-        inMain : Section → Bool
-        inMain begin = false
-        inMain main = true
-        inMain end = false
-    flowAllowed exit = true
-
     abbrev pub allowed : Operation → List ℕ → Bool
     allowed (action a) ns = actionAllowed a ns
-    allowed (flow f) ns = flowAllowed f
+    allowed (flow f) ns = flowAllowed s f
 
     -- the clauses on one instruction, by its code
     unfoldable pub holdsFor : ℕ → Instruction → Code → Bool
@@ -113,7 +112,7 @@ module _ (i : Image) where
         let ns = j .immediates in
         let d = j .depth in
         allExist (k .immediates) ns
-        && (agree (isEnd i (k .operation)) (eqb (suc n) (length (sectionOf i s)))
+        && (agree (isEnd (k .operation)) (eqb (suc n) (length (sectionOf i s)))
         && ((not (eqb n 0) || eqb d 0)
         && ((not (terminates (k .operation)) || eqb d 0)
         && (leb d operandDepth

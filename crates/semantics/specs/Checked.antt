@@ -16,6 +16,10 @@ use Rattle.semantics.specs.Variables.{specials, assignable}
 use Rattle.semantics.specs.Moves.{Section, main, sectionOf}
 use Rattle.semantics.specs.Check.{successors}
 
+abbrev pub Short : Constant → Type 0
+Short (number n) = Unit
+Short (text l) = length l ≤ textBytes
+
 module _ (i : Image) where
   -- a number names something
   abbrev pub Exists : Section → ImmediateKind → ℕ → Type 0
@@ -43,16 +47,12 @@ module _ (i : Image) where
     pub at-exit : row .operation ≡ flow exit → j .depth ≡ 0
     pub deep : j .depth ≤ operandDepth
     pub enough : (row .pops) (j .immediates) ≤ j .depth
-    pub leads : (k : ℕ) → k < length (successors i s (row .operation) n (j .immediates))
-        → (d : Instruction) × (nth (sectionOf i s) (getD (successors i s (row .operation) n (j .immediates)) k 0) ≡ some d)
+    pub leads : (k : ℕ) → k < length (successors (row .operation) n (j .immediates))
+        → (d : Instruction) × (nth (sectionOf i s) (getD (successors (row .operation) n (j .immediates)) k 0) ≡ some d)
         × (d .depth ≡ j .depth - (row .pops) (j .immediates) + (row .pushes) (j .immediates))
     pub prints : row .operation ≡ action print → 1 ≤ getD (j .immediates) 0 0
     pub sets : row .operation ≡ action set → assignable (i .edition) (getD (j .immediates) 0 0) ≡ true
     pub nexts : row .operation ≡ flow next → s ≡ main
-
-  abbrev pub Short : Constant → Type 0
-  Short (number n) = Unit
-  Short (text l) = length l ≤ textBytes
 
   pub record Checked : Type 0 where
     pub users : i .users ≤ userNames
