@@ -6,7 +6,7 @@ use mathlib.Core.Option.{none}
 use Prim.Native.Nat.{ℕ, _+_, _≤_, zero-le}
 use native.Mathlib.Omega.{arith}
 use lib.ListN.{length}
-use Rattle.edition.specs.Limits.{textBytes}
+use Rattle.edition.specs.Limits.{textBytes, firstEdition}
 use Rattle.ere_meaning.specs.Tree.{Class, accepts, Ere}
 use Rattle.ere_meaning.specs.Search.{bestOf}
 use Rattle.ere_grammar.specs.Read.{readEre}
@@ -23,7 +23,7 @@ pub prepares-unsized : (ere t : List ℕ) → (length t ≡ tableWords → ⊥) 
 prepares-unsized ere t n =
     record { only = zero-le; unsized = λ m. (refl, refl); refused = λ z l. absurd (n l); read = λ z. absurd (omega (arith, z)) }
 
-pub prepares-none : (ere t₀ t : List ℕ) → length t₀ ≡ tableWords → readEre 1 ere ≡ none → Prepares ere t₀ t 0
+pub prepares-none : (ere t₀ t : List ℕ) → length t₀ ≡ tableWords → readEre firstEdition ere ≡ none → Prepares ere t₀ t 0
 prepares-none ere t₀ t l e =
     record { only = zero-le; unsized = λ n. absurd (n l); refused = λ z m. e; read = λ z. absurd (omega (arith, z)) }
 

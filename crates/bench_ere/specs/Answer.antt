@@ -5,7 +5,7 @@ use mathlib.Core.List.{List}
 use mathlib.Core.Option.{some, none}
 use Prim.Native.Nat.{ℕ, _+_, _≤_, _<_}
 use lib.ListN.{length}
-use Rattle.edition.specs.Limits.{textBytes}
+use Rattle.edition.specs.Limits.{textBytes, firstEdition}
 use Rattle.ere_meaning.specs.Tree.{Class, accepts, Ere}
 use Rattle.ere_meaning.specs.Meaning.{Match, found, nowhere}
 use Rattle.ere_meaning.specs.Search.{bestOf}
@@ -18,8 +18,8 @@ use Rattle.ere.specs.Answer.{Serves}
 pub record Prepares (ere t₀ t : List ℕ) (r : ℕ) : Type 0 where
   pub only : r ≤ 1
   pub unsized : (length t₀ ≡ tableWords → ⊥) → (r ≡ 0) × (t ≡ t₀)
-  pub refused : r ≡ 0 → length t₀ ≡ tableWords → readEre 1 ere ≡ none
-  pub read : r ≡ 1 → (e : Ere Class) × (readEre 1 ere ≡ some e) × (Serves t e)
+  pub refused : r ≡ 0 → length t₀ ≡ tableWords → readEre firstEdition ere ≡ none
+  pub read : r ≡ 1 → (e : Ere Class) × (readEre firstEdition ere ≡ some e) × (Serves t e)
 
 -- a match's length and one more, 0 without one
 abbrev pub lengthOf : Match → ℕ

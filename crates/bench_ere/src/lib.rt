@@ -11,7 +11,9 @@ pub extern "C" fn prepared_compile(ere: &[u8], table: &mut [u64]) -> u64
     if table.len() != ere_table::TABLE_WORDS {
         return 0;
     }
-    let edition = Edition { number: 1 };
+    let edition = Edition {
+        number: Edition::FIRST,
+    };
     if ere::compile(ere, edition, table) {
         return 1;
     }

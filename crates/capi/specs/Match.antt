@@ -3,7 +3,7 @@
 use Prim.Native.Nat.{ℕ, _+_, _≤_}
 use mathlib.Core.List.{List}
 use lib.IntN.{ℤ, pos, negsuc}
-use Rattle.edition.specs.Limits.{textBytes}
+use Rattle.edition.specs.Limits.{textBytes, firstEdition}
 use Rattle.edition.specs.Outcomes.{done, badEre, textTooLong}
 use Rattle.ere.specs.Answer.{searchOf}
 use Rattle.ere.specs.declared.matching.Matched.{Matched}
@@ -25,9 +25,9 @@ numbersOf Nothing = without done
 numbersOf BadEre = without badEre
 numbersOf LongText = without textTooLong
 
--- an ERE in a text, by edition 1
+-- an ERE in a text, by the first edition
 abbrev pub matchOf : List ℕ → List ℕ → MatchAnswer
-matchOf ere text = numbersOf (searchOf 1 ere text)
+matchOf ere text = numbersOf (searchOf firstEdition ere text)
 
 -- What the code may take as given of a search's answer, and `search-within` of proofs/ shows: a match ends within the bytes of a text value.
 abbrev pub Within : Matched → Type 0

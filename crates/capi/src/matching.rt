@@ -43,7 +43,7 @@ fn numbers_of(m: Matched) -> MatchAnswer
     }
 }
 
-// The leftmost, longest match of the ERE in the text, by edition 1.
+// The leftmost, longest match of the ERE in the text, by the first edition.
 #[no_mangle]
 pub extern "C" fn flowawk_match(ere: &[u8], text: &[u8], rstart: &mut u64, rlength: &mut i64) -> u64
     ensures { λ r. ⌜ numbers r (now (rstart .exit)) (now (rlength .exit)) ≡ matchOf (now (ere .entry)) (now (text .entry)) ⌝ }

@@ -1,6 +1,7 @@
 // The fields of a record, for C.
 ghost use mathlib.Core.Path.{_≡_};
 ghost use lib.ListN.{length as length'};
+ghost use Rattle.edition.specs.Limits.{firstEdition};
 ghost use Rattle.splitting.specs.Field.{span};
 ghost use Rattle.splitting.specs.Splitting.{splitOf, outcomeOf, countOf, spanOf};
 ghost use Rattle.capi.specs.Split.{outcomeIn, countIn};
@@ -31,18 +32,18 @@ fn count_of(s: Splitting) -> u64
     }
 }
 
-// Splits a record, by edition 1.
+// Splits a record, by the first edition.
 #[no_mangle]
 pub extern "C" fn flowawk_split(record: &[u8], fs: &[u8], count: &mut u64) -> u64
-    ensures { λ r. ⌜ (r ≡ outcomeOf (splitOf 1 (now (fs .entry)) (now («record» .entry))))
-        × (now (count .exit) ≡ countOf (splitOf 1 (now (fs .entry)) (now («record» .entry)))) ⌝ }
+    ensures { λ r. ⌜ (r ≡ outcomeOf (splitOf firstEdition (now (fs .entry)) (now («record» .entry))))
+        × (now (count .exit) ≡ countOf (splitOf firstEdition (now (fs .entry)) (now («record» .entry)))) ⌝ }
 {
     let s = fields::split(record, fs);
     *count = count_of(s);
     outcome_of(s)
 }
 
-// Field k of a record, by edition 1: the outcome of splitting it, and the field's place and length.
+// Field k of a record, by the first edition: the outcome of splitting it, and the field's place and length.
 #[no_mangle]
 pub extern "C" fn flowawk_field(
     record: &[u8],
@@ -51,8 +52,8 @@ pub extern "C" fn flowawk_field(
     start: &mut u64,
     length: &mut u64,
 ) -> u64
-    ensures { λ r. ⌜ (r ≡ outcomeOf (splitOf 1 (now (fs .entry)) (now («record» .entry))))
-        × (span (now (start .exit)) (now (length .exit)) ≡ spanOf (length' (now («record» .entry))) k (splitOf 1 (now (fs .entry)) (now («record» .entry)))) ⌝ }
+    ensures { λ r. ⌜ (r ≡ outcomeOf (splitOf firstEdition (now (fs .entry)) (now («record» .entry))))
+        × (span (now (start .exit)) (now (length .exit)) ≡ spanOf (length' (now («record» .entry))) k (splitOf firstEdition (now (fs .entry)) (now («record» .entry)))) ⌝ }
 {
     let f = fields::locate(record, fs, k as usize);
     let s = f.splitting;

@@ -2,6 +2,10 @@
 use Prim.Native.Nat.{ℕ, _^_}
 use Rattle.edition.specs.declared.Limits.{Limits}
 
+-- "Exact rules, edition 1": its number
+abbrev pub firstEdition : ℕ
+firstEdition = 1
+
 -- "filter text 8,192 bytes"
 abbrev pub filterText : ℕ
 filterText = 8192
@@ -62,10 +66,11 @@ erePlaces = 128
 abbrev pub ereGroups : ℕ
 ereGroups = 16
 
--- all of them, under the names that the code has
+-- all of them with the edition that they belong to, under the names that the code has
 abbrev pub limits : Limits
 limits =
     record {
+      edition = firstEdition;
       «filter_text» = filterText;
       text = textBytes;
       «record» = recordBytes;

@@ -9,6 +9,8 @@ pub struct Edition {
 }
 
 impl Edition {
+    // The number of the first edition.
+    pub const FIRST: u64 = 1;
     // Bytes of a filter's text.
     pub const FILTER_TEXT: usize = 8192;
     // Bytes of any text value.
@@ -40,11 +42,12 @@ impl Edition {
     // Open groups of an ERE.
     pub const ERE_GROUPS: usize = 16;
 
-    // Every size, under its name: the contract says that code and definitions have the same.
+    // Gives the first edition's number and sizes, each under its name: the contract says that code and definitions have the same.
     pub fn limits() -> Limits
         ensures { λ r. ⌜ r ≡ Limits·limits ⌝ }
     {
         Limits {
+            edition: Edition::FIRST,
             filter_text: Edition::FILTER_TEXT,
             text: Edition::TEXT,
             record: Edition::RECORD,
@@ -65,6 +68,7 @@ impl Edition {
 }
 
 pub struct Limits {
+    pub edition: u64,
     pub filter_text: usize,
     pub text: usize,
     pub record: usize,

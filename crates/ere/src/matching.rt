@@ -1,6 +1,7 @@
 // EREs as tables, and the match of an ERE in a text.
 ghost use mathlib.Core.Path.{_≡_};
 ghost use lib.ListN.{length};
+ghost use Rattle.edition.specs.Limits.{firstEdition};
 ghost use Rattle.ere_table.specs.Table.{tableWords};
 ghost use Rattle.ere.specs.Answer.{searchOf, Compiles};
 use edition::Edition;
@@ -39,12 +40,14 @@ pub fn compile(ere: &[u8], edition: Edition, t: &mut [u64]) -> bool
     true
 }
 
-// The leftmost, longest match of the ERE in the text, by edition 1.
+// The leftmost, longest match of the ERE in the text, by the first edition.
 pub fn search(ere: &[u8], text: &[u8]) -> Matched
-    ensures { λ r. ⌜ r ≡ searchOf 1 (now (ere .entry)) (now (text .entry)) ⌝ }
+    ensures { λ r. ⌜ r ≡ searchOf firstEdition (now (ere .entry)) (now (text .entry)) ⌝ }
 {
     let mut t = [0u64; ere_table::TABLE_WORDS];
-    let edition = Edition { number: 1 };
+    let edition = Edition {
+        number: Edition::FIRST,
+    };
     if !compile(ere, edition, &mut t) {
         return Matched::BadEre;
     }

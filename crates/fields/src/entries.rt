@@ -2,6 +2,7 @@
 ghost use mathlib.Core.Path.{_≡_};
 ghost use Prim.Native.Nat.{_<_, _-_};
 ghost use lib.ListN.{length};
+ghost use Rattle.edition.specs.Limits.{firstEdition};
 ghost use Rattle.ere_table.specs.Table.{tableWords};
 ghost use Rattle.splitting.specs.Separator.{separatorOf};
 ghost use Rattle.splitting.specs.Field.{span};
@@ -51,12 +52,14 @@ fn split_with(
     Splitting::Fields(n)
 }
 
-// Splits a record, by edition 1. A separator of one byte needs no table, and making one takes longer than such a split.
+// Splits a record, by the first edition. A separator of one byte needs no table, and making one takes longer than such a split.
 fn split_record(record: &[u8], separator: &[u8], first: usize, spans: &mut [usize]) -> Splitting
-    ensures { λ r. ⌜ (r ≡ answer (splitOf 1 (now (separator .entry)) (now («record» .entry))))
-        × (now (spans .exit) ≡ roomOf 1 (now (separator .entry)) (now («record» .entry)) first (now (spans .entry))) ⌝ }
+    ensures { λ r. ⌜ (r ≡ answer (splitOf firstEdition (now (separator .entry)) (now («record» .entry))))
+        × (now (spans .exit) ≡ roomOf firstEdition (now (separator .entry)) (now («record» .entry)) first (now (spans .entry))) ⌝ }
 {
-    let edition = Edition { number: 1 };
+    let edition = Edition {
+        number: Edition::FIRST,
+    };
     if Edition::RECORD < record.len() {
         return Splitting::LongRecord;
     }
@@ -70,7 +73,7 @@ fn split_record(record: &[u8], separator: &[u8], first: usize, spans: &mut [usiz
 
 // The outcome of splitting a record, with the number of its fields.
 pub fn split(record: &[u8], separator: &[u8]) -> Splitting
-    ensures { λ r. ⌜ r ≡ answer (splitOf 1 (now (separator .entry)) (now («record» .entry))) ⌝ }
+    ensures { λ r. ⌜ r ≡ answer (splitOf firstEdition (now (separator .entry)) (now («record» .entry))) ⌝ }
 {
     let mut none = [0usize; 1];
     split_record(record, separator, 0, &mut none)
@@ -88,8 +91,8 @@ fn previous(k: usize) -> usize
 
 // The span of field k, and the outcome of splitting the record. Fields are counted from 1 here, so the room is for the one before k alone.
 pub fn locate(record: &[u8], separator: &[u8], k: usize) -> Located
-    ensures { λ r. ⌜ (r .splitting ≡ answer (splitOf 1 (now (separator .entry)) (now («record» .entry))))
-        × (span (r .start) (r .size) ≡ spanOf (length (now («record» .entry))) k (splitOf 1 (now (separator .entry)) (now («record» .entry)))) ⌝ }
+    ensures { λ r. ⌜ (r .splitting ≡ answer (splitOf firstEdition (now (separator .entry)) (now («record» .entry))))
+        × (span (r .start) (r .size) ≡ spanOf (length (now («record» .entry))) k (splitOf firstEdition (now (separator .entry)) (now («record» .entry)))) ⌝ }
 {
     let mut spans = [0usize; 2];
     let end = record.len();
@@ -119,8 +122,8 @@ pub fn locate(record: &[u8], separator: &[u8], k: usize) -> Located
 
 // Field k of a record, as a part of the record.
 pub fn field<'a, 'b>(record: &'a [u8], separator: &'b [u8], k: usize) -> &'a [u8]
-    ensures { λ r. ⌜ (now r ≡ textOf (now («record» .entry)) (spanOf (length (now («record» .entry))) k (splitOf 1 (now (separator .entry)) (now («record» .entry)))))
-        × (r .ptr ≡ placeOf («record» .entry .ptr) (spanOf (length (now («record» .entry))) k (splitOf 1 (now (separator .entry)) (now («record» .entry))))) ⌝ }
+    ensures { λ r. ⌜ (now r ≡ textOf (now («record» .entry)) (spanOf (length (now («record» .entry))) k (splitOf firstEdition (now (separator .entry)) (now («record» .entry)))))
+        × (r .ptr ≡ placeOf («record» .entry .ptr) (spanOf (length (now («record» .entry))) k (splitOf firstEdition (now (separator .entry)) (now («record» .entry))))) ⌝ }
 {
     let f = locate(record, separator, k);
     let start = f.start;
