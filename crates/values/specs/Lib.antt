@@ -1,3 +1,4 @@
 -- Values, and what the operations answer.
 pub mod Value
 pub mod Operations
+pub mod Explained
