@@ -1,0 +1,4 @@
+-- Document 01's cases and rules as tables.
+pub mod Text
+pub mod Assembler
+pub mod EightCases
