@@ -1,8 +1,5 @@
--- The tables hold, by computing.
-use mathlib.Core.Path.{_≡_, refl}
-use mathlib.Core.List.{List, [], _∷_}
-use Rattle.sound.specs.Text.{Each}
-use Rattle.sound.specs.EightCases.{Case, Claim, eightCases}
+-- The tables hold, by computing: every definition that the rows come to is opened.
+use mathlib.Core.Path.{refl}
 use Rattle.lists.specs.Elements.{nth as lists-nth, oneOf as lists-oneOf, allBelow as lists-allBelow, leading as lists-leading}
 use Rattle.lists.specs.Parsing.{many as lists-many}
 use Rattle.buffer.specs.First.{firstByte as buffer-firstByte, startsWith as buffer-startsWith, firstPart as buffer-firstPart}
@@ -33,8 +30,13 @@ use Rattle.semantics.specs.Moves.{execute as semantics-execute, fromBetween as 
 use Rattle.semantics.specs.Run.{after as semantics-after, runFor as semantics-runFor, run as semantics-run}
 use Rattle.semantics.specs.Variables.{assignable as semantics-assignable}
 use Rattle.semantics.specs.World.{valueAt as semantics-valueAt, splitBy as semantics-splitBy, readRecord as semantics-readRecord}
+use Rattle.sound.specs.Text.{Each}
+use Rattle.sound.specs.EightCases.{Claim as OfCase, eightCases}
+use Rattle.sound.specs.ValueRows.{Claim as OfValues, valueRows}
+use Rattle.sound.specs.RunRows.{Claim as OfRun, Row, runRows}
 
-pub eight-cases : Each Claim eightCases
+-- document 01's eight cases, one statement over their table
+pub eight-cases : Each OfCase eightCases
 unfolding lists-nth lists-oneOf lists-allBelow lists-leading lists-many buffer-firstByte buffer-startsWith buffer-firstPart buffer-ordering buffer-equalBytes buffer-part buffer-put number-sumOf number-differenceOf number-productOf number-quotientOf number-remainderOf number-negationOf number-ranged number-unbias numeral-capped numeral-judgedBy numeral-digitsWithin numeral-decimalDigits numeral-decimalText numeral-digitsFrom numeral-signLength numeral-wholeDigits numeral-pointAt numeral-hasPoint numeral-fractionDigits numeral-prefixLength numeral-afterBlanks numeral-blankAfter numeral-looksNumeric numeral-valueAfter numeral-nonzeroDigit numeral-judged numeral-prefixNumber numeral-numberOf ere_meaning-bestFrom ere_meaning-bestOf ere_meaning-inSome ere_meaning-accepts ere_meaning-places ere_grammar-lookup ere_grammar-escapeOf ere_grammar-isPlain ere_grammar-begins ere_grammar-tail ere_grammar-escapedByte ere_grammar-readEscape ere_grammar-readMember ere_grammar-joins ere_grammar-withRange ere_grammar-lastHyphen ere_grammar-rangeTo ere_grammar-afterByte ere_grammar-readItems ere_grammar-bracketOf ere_grammar-readBracket ere_grammar-onlyByte ere_grammar-readAtom ere_grammar-finished ere_grammar-repeated ere_grammar-afterAtom ere_grammar-afterGroup ere_grammar-afterBar ere_grammar-readGroup ere_grammar-readRest ere_grammar-whole ere_grammar-readEre splitting-nextField splitting-fieldsIn splitting-fieldsFrom splitting-fieldsOf splitting-blanks splitting-separatorOf splitting-splitOf splitting-spanOf image_format-codeOf image_format-coded image_format-takeGroups image_format-takeNumber image_format-readImage image_format-all image_format-written values-arithmeticOf values-negateOf values-toNumberOf values-notOf values-compareOf values-joinOf values-lengthOf values-indexOf values-between values-substrOf values-fieldNumber values-textOf values-numberOf values-numeric values-truthOf semantics-holdsFor semantics-check semantics-over semantics-lineOf semantics-passed semantics-full semantics-execute semantics-fromBetween semantics-move semantics-after semantics-runFor semantics-run semantics-assignable semantics-valueAt semantics-splitBy semantics-readRecord
 eight-cases = (
   refl,
@@ -51,6 +53,520 @@ eight-cases = (
             (
               record { read = refl; written = refl; checked = refl },
               ((refl, refl), tt),
+            ),
+          ),
+        ),
+      ),
+    ),
+  ),
+)
+
+-- the table of operations on values
+pub values-computed : Each OfValues valueRows
+unfolding lists-nth lists-oneOf lists-allBelow lists-leading lists-many buffer-firstByte buffer-startsWith buffer-firstPart buffer-ordering buffer-equalBytes buffer-part buffer-put number-sumOf number-differenceOf number-productOf number-quotientOf number-remainderOf number-negationOf number-ranged number-unbias numeral-capped numeral-judgedBy numeral-digitsWithin numeral-decimalDigits numeral-decimalText numeral-digitsFrom numeral-signLength numeral-wholeDigits numeral-pointAt numeral-hasPoint numeral-fractionDigits numeral-prefixLength numeral-afterBlanks numeral-blankAfter numeral-looksNumeric numeral-valueAfter numeral-nonzeroDigit numeral-judged numeral-prefixNumber numeral-numberOf ere_meaning-bestFrom ere_meaning-bestOf ere_meaning-inSome ere_meaning-accepts ere_meaning-places ere_grammar-lookup ere_grammar-escapeOf ere_grammar-isPlain ere_grammar-begins ere_grammar-tail ere_grammar-escapedByte ere_grammar-readEscape ere_grammar-readMember ere_grammar-joins ere_grammar-withRange ere_grammar-lastHyphen ere_grammar-rangeTo ere_grammar-afterByte ere_grammar-readItems ere_grammar-bracketOf ere_grammar-readBracket ere_grammar-onlyByte ere_grammar-readAtom ere_grammar-finished ere_grammar-repeated ere_grammar-afterAtom ere_grammar-afterGroup ere_grammar-afterBar ere_grammar-readGroup ere_grammar-readRest ere_grammar-whole ere_grammar-readEre splitting-nextField splitting-fieldsIn splitting-fieldsFrom splitting-fieldsOf splitting-blanks splitting-separatorOf splitting-splitOf splitting-spanOf image_format-codeOf image_format-coded image_format-takeGroups image_format-takeNumber image_format-readImage image_format-all image_format-written values-arithmeticOf values-negateOf values-toNumberOf values-notOf values-compareOf values-joinOf values-lengthOf values-indexOf values-between values-substrOf values-fieldNumber values-textOf values-numberOf values-numeric values-truthOf semantics-holdsFor semantics-check semantics-over semantics-lineOf semantics-passed semantics-full semantics-execute semantics-fromBetween semantics-move semantics-after semantics-runFor semantics-run semantics-assignable semantics-valueAt semantics-splitBy semantics-readRecord
+values-computed = (
+  refl,
+  (
+    refl,
+    (
+      refl,
+      (
+        refl,
+        (
+          refl,
+          (
+            refl,
+            (
+              refl,
+              (
+                refl,
+                (
+                  refl,
+                  (
+                    refl,
+                    (
+                      refl,
+                      (
+                        refl,
+                        (
+                          refl,
+                          (
+                            refl,
+                            (
+                              refl,
+                              (
+                                refl,
+                                (
+                                  refl,
+                                  (
+                                    refl,
+                                    (
+                                      refl,
+                                      (
+                                        refl,
+                                        (
+                                          refl,
+                                          (
+                                            refl,
+                                            (
+                                              refl,
+                                              (
+                                                refl,
+                                                (
+                                                  refl,
+                                                  (
+                                                    refl,
+                                                    (
+                                                      refl,
+                                                      (
+                                                        refl,
+                                                        (
+                                                          refl,
+                                                          (
+                                                            refl,
+                                                            (
+                                                              refl,
+                                                              (
+                                                                refl,
+                                                                (
+                                                                  refl,
+                                                                  (
+                                                                    refl,
+                                                                    (
+                                                                      refl,
+                                                                      (
+                                                                        refl,
+                                                                        (
+                                                                          refl,
+                                                                          (
+                                                                            refl,
+                                                                            (
+                                                                              refl,
+                                                                              (
+                                                                                refl,
+                                                                                (
+                                                                                  refl,
+                                                                                  (
+                                                                                    refl,
+                                                                                    (
+                                                                                      refl,
+                                                                                      (
+                                                                                        refl,
+                                                                                        (
+                                                                                          refl,
+                                                                                          (
+                                                                                            refl,
+                                                                                            (
+                                                                                              refl,
+                                                                                              (
+                                                                                                refl,
+                                                                                                (
+                                                                                                  refl,
+                                                                                                  (
+                                                                                                    refl,
+                                                                                                    (
+                                                                                                      refl,
+                                                                                                      (
+                                                                                                        refl,
+                                                                                                        (
+                                                                                                          refl,
+                                                                                                          (
+                                                                                                            refl,
+                                                                                                            (
+                                                                                                              refl,
+                                                                                                              (
+                                                                                                                refl,
+                                                                                                                (
+                                                                                                                  refl,
+                                                                                                                  (
+                                                                                                                    refl,
+                                                                                                                    (
+                                                                                                                      refl,
+                                                                                                                      (
+                                                                                                                        refl,
+                                                                                                                        (
+                                                                                                                          refl,
+                                                                                                                          (
+                                                                                                                            refl,
+                                                                                                                            (
+                                                                                                                              refl,
+                                                                                                                              (
+                                                                                                                                refl,
+                                                                                                                                (
+                                                                                                                                  refl,
+                                                                                                                                  (
+                                                                                                                                    refl,
+                                                                                                                                    (
+                                                                                                                                      refl,
+                                                                                                                                      (
+                                                                                                                                        refl,
+                                                                                                                                        (
+                                                                                                                                          refl,
+                                                                                                                                          (
+                                                                                                                                            refl,
+                                                                                                                                            (
+                                                                                                                                              refl,
+                                                                                                                                              (
+                                                                                                                                                refl,
+                                                                                                                                                (
+                                                                                                                                                  refl,
+                                                                                                                                                  (
+                                                                                                                                                    refl,
+                                                                                                                                                    (
+                                                                                                                                                      refl,
+                                                                                                                                                      (
+                                                                                                                                                        refl,
+                                                                                                                                                        (
+                                                                                                                                                          refl,
+                                                                                                                                                          (
+                                                                                                                                                            refl,
+                                                                                                                                                            (
+                                                                                                                                                              refl,
+                                                                                                                                                              (
+                                                                                                                                                                refl,
+                                                                                                                                                                (
+                                                                                                                                                                  refl,
+                                                                                                                                                                  (
+                                                                                                                                                                    refl,
+                                                                                                                                                                    (
+                                                                                                                                                                      refl,
+                                                                                                                                                                      (
+                                                                                                                                                                        refl,
+                                                                                                                                                                        (
+                                                                                                                                                                          refl,
+                                                                                                                                                                          (
+                                                                                                                                                                            refl,
+                                                                                                                                                                            (
+                                                                                                                                                                              refl,
+                                                                                                                                                                              (
+                                                                                                                                                                                refl,
+                                                                                                                                                                                (
+                                                                                                                                                                                  refl,
+                                                                                                                                                                                  (
+                                                                                                                                                                                    refl,
+                                                                                                                                                                                    (
+                                                                                                                                                                                      refl,
+                                                                                                                                                                                      (
+                                                                                                                                                                                        refl,
+                                                                                                                                                                                        (
+                                                                                                                                                                                          refl,
+                                                                                                                                                                                          (
+                                                                                                                                                                                            refl,
+                                                                                                                                                                                            (
+                                                                                                                                                                                              refl,
+                                                                                                                                                                                              tt,
+                                                                                                                                                                                            ),
+                                                                                                                                                                                          ),
+                                                                                                                                                                                        ),
+                                                                                                                                                                                      ),
+                                                                                                                                                                                    ),
+                                                                                                                                                                                  ),
+                                                                                                                                                                                ),
+                                                                                                                                                                              ),
+                                                                                                                                                                            ),
+                                                                                                                                                                          ),
+                                                                                                                                                                        ),
+                                                                                                                                                                      ),
+                                                                                                                                                                    ),
+                                                                                                                                                                  ),
+                                                                                                                                                                ),
+                                                                                                                                                              ),
+                                                                                                                                                            ),
+                                                                                                                                                          ),
+                                                                                                                                                        ),
+                                                                                                                                                      ),
+                                                                                                                                                    ),
+                                                                                                                                                  ),
+                                                                                                                                                ),
+                                                                                                                                              ),
+                                                                                                                                            ),
+                                                                                                                                          ),
+                                                                                                                                        ),
+                                                                                                                                      ),
+                                                                                                                                    ),
+                                                                                                                                  ),
+                                                                                                                                ),
+                                                                                                                              ),
+                                                                                                                            ),
+                                                                                                                          ),
+                                                                                                                        ),
+                                                                                                                      ),
+                                                                                                                    ),
+                                                                                                                  ),
+                                                                                                                ),
+                                                                                                              ),
+                                                                                                            ),
+                                                                                                          ),
+                                                                                                        ),
+                                                                                                      ),
+                                                                                                    ),
+                                                                                                  ),
+                                                                                                ),
+                                                                                              ),
+                                                                                            ),
+                                                                                          ),
+                                                                                        ),
+                                                                                      ),
+                                                                                    ),
+                                                                                  ),
+                                                                                ),
+                                                                              ),
+                                                                            ),
+                                                                          ),
+                                                                        ),
+                                                                      ),
+                                                                    ),
+                                                                  ),
+                                                                ),
+                                                              ),
+                                                            ),
+                                                          ),
+                                                        ),
+                                                      ),
+                                                    ),
+                                                  ),
+                                                ),
+                                              ),
+                                            ),
+                                          ),
+                                        ),
+                                      ),
+                                    ),
+                                  ),
+                                ),
+                              ),
+                            ),
+                          ),
+                        ),
+                      ),
+                    ),
+                  ),
+                ),
+              ),
+            ),
+          ),
+        ),
+      ),
+    ),
+  ),
+)
+
+-- the table of runs
+pub runs-computed : Each OfRun runRows
+unfolding lists-nth lists-oneOf lists-allBelow lists-leading lists-many buffer-firstByte buffer-startsWith buffer-firstPart buffer-ordering buffer-equalBytes buffer-part buffer-put number-sumOf number-differenceOf number-productOf number-quotientOf number-remainderOf number-negationOf number-ranged number-unbias numeral-capped numeral-judgedBy numeral-digitsWithin numeral-decimalDigits numeral-decimalText numeral-digitsFrom numeral-signLength numeral-wholeDigits numeral-pointAt numeral-hasPoint numeral-fractionDigits numeral-prefixLength numeral-afterBlanks numeral-blankAfter numeral-looksNumeric numeral-valueAfter numeral-nonzeroDigit numeral-judged numeral-prefixNumber numeral-numberOf ere_meaning-bestFrom ere_meaning-bestOf ere_meaning-inSome ere_meaning-accepts ere_meaning-places ere_grammar-lookup ere_grammar-escapeOf ere_grammar-isPlain ere_grammar-begins ere_grammar-tail ere_grammar-escapedByte ere_grammar-readEscape ere_grammar-readMember ere_grammar-joins ere_grammar-withRange ere_grammar-lastHyphen ere_grammar-rangeTo ere_grammar-afterByte ere_grammar-readItems ere_grammar-bracketOf ere_grammar-readBracket ere_grammar-onlyByte ere_grammar-readAtom ere_grammar-finished ere_grammar-repeated ere_grammar-afterAtom ere_grammar-afterGroup ere_grammar-afterBar ere_grammar-readGroup ere_grammar-readRest ere_grammar-whole ere_grammar-readEre splitting-nextField splitting-fieldsIn splitting-fieldsFrom splitting-fieldsOf splitting-blanks splitting-separatorOf splitting-splitOf splitting-spanOf image_format-codeOf image_format-coded image_format-takeGroups image_format-takeNumber image_format-readImage image_format-all image_format-written values-arithmeticOf values-negateOf values-toNumberOf values-notOf values-compareOf values-joinOf values-lengthOf values-indexOf values-between values-substrOf values-fieldNumber values-textOf values-numberOf values-numeric values-truthOf semantics-holdsFor semantics-check semantics-over semantics-lineOf semantics-passed semantics-full semantics-execute semantics-fromBetween semantics-move semantics-after semantics-runFor semantics-run semantics-assignable semantics-valueAt semantics-splitBy semantics-readRecord
+runs-computed = (
+  record { checked = refl; ran = refl },
+  (
+    record { checked = refl; ran = refl },
+    (
+      record { checked = refl; ran = refl },
+      (
+        record { checked = refl; ran = refl },
+        (
+          record { checked = refl; ran = refl },
+          (
+            record { checked = refl; ran = refl },
+            (
+              record { checked = refl; ran = refl },
+              (
+                record { checked = refl; ran = refl },
+                (
+                  record { checked = refl; ran = refl },
+                  (
+                    record { checked = refl; ran = refl },
+                    (
+                      record { checked = refl; ran = refl },
+                      (
+                        record { checked = refl; ran = refl },
+                        (
+                          record { checked = refl; ran = refl },
+                          (
+                            record { checked = refl; ran = refl },
+                            (
+                              record { checked = refl; ran = refl },
+                              (
+                                record { checked = refl; ran = refl },
+                                (
+                                  record { checked = refl; ran = refl },
+                                  (
+                                    record { checked = refl; ran = refl },
+                                    (
+                                      record { checked = refl; ran = refl },
+                                      (
+                                        record { checked = refl; ran = refl },
+                                        (
+                                          record { checked = refl; ran = refl },
+                                          (
+                                            record { checked = refl; ran = refl },
+                                            (
+                                              record { checked = refl; ran = refl },
+                                              (
+                                                record { checked = refl; ran = refl },
+                                                (
+                                                  record { checked = refl; ran = refl },
+                                                  (
+                                                    record { checked = refl; ran = refl },
+                                                    (
+                                                      record { checked = refl; ran = refl },
+                                                      (
+                                                        record { checked = refl; ran = refl },
+                                                        (
+                                                          record { checked = refl; ran = refl },
+                                                          (
+                                                            record { checked = refl; ran = refl },
+                                                            (
+                                                              record { checked = refl; ran = refl },
+                                                              (
+                                                                record { checked = refl; ran = refl },
+                                                                (
+                                                                  record { checked = refl; ran = refl },
+                                                                  (
+                                                                    record { checked = refl; ran = refl },
+                                                                    (
+                                                                      record { checked = refl; ran = refl },
+                                                                      (
+                                                                        record { checked = refl; ran = refl },
+                                                                        (
+                                                                          record { checked = refl; ran = refl },
+                                                                          (
+                                                                            record { checked = refl; ran = refl },
+                                                                            (
+                                                                              record { checked = refl; ran = refl },
+                                                                              (
+                                                                                record { checked = refl; ran = refl },
+                                                                                (
+                                                                                  record { checked = refl; ran = refl },
+                                                                                  (
+                                                                                    record { checked = refl; ran = refl },
+                                                                                    (
+                                                                                      record { checked = refl; ran = refl },
+                                                                                      (
+                                                                                        record { checked = refl; ran = refl },
+                                                                                        (
+                                                                                          record { checked = refl; ran = refl },
+                                                                                          (
+                                                                                            record { checked = refl; ran = refl },
+                                                                                            (
+                                                                                              record { checked = refl; ran = refl },
+                                                                                              (
+                                                                                                record { checked = refl; ran = refl },
+                                                                                                (
+                                                                                                  record { checked = refl; ran = refl },
+                                                                                                  (
+                                                                                                    record { checked = refl; ran = refl },
+                                                                                                    (
+                                                                                                      record { checked = refl; ran = refl },
+                                                                                                      (
+                                                                                                        record { checked = refl; ran = refl },
+                                                                                                        (
+                                                                                                          record { checked = refl; ran = refl },
+                                                                                                          (
+                                                                                                            record { checked = refl; ran = refl },
+                                                                                                            (
+                                                                                                              record { checked = refl; ran = refl },
+                                                                                                              (
+                                                                                                                record { checked = refl; ran = refl },
+                                                                                                                (
+                                                                                                                  record { checked = refl; ran = refl },
+                                                                                                                  (
+                                                                                                                    record { checked = refl; ran = refl },
+                                                                                                                    (
+                                                                                                                      record { checked = refl; ran = refl },
+                                                                                                                      (
+                                                                                                                        record { checked = refl; ran = refl },
+                                                                                                                        (
+                                                                                                                          record { checked = refl; ran = refl },
+                                                                                                                          (
+                                                                                                                            record { checked = refl; ran = refl },
+                                                                                                                            (
+                                                                                                                              record { checked = refl; ran = refl },
+                                                                                                                              (
+                                                                                                                                record { checked = refl; ran = refl },
+                                                                                                                                (
+                                                                                                                                  record { checked = refl; ran = refl },
+                                                                                                                                  (
+                                                                                                                                    record { checked = refl; ran = refl },
+                                                                                                                                    (
+                                                                                                                                      record { checked = refl; ran = refl },
+                                                                                                                                      (
+                                                                                                                                        record { checked = refl; ran = refl },
+                                                                                                                                        (
+                                                                                                                                          record { checked = refl; ran = refl },
+                                                                                                                                          (
+                                                                                                                                            record { checked = refl; ran = refl },
+                                                                                                                                            (
+                                                                                                                                              record { checked = refl; ran = refl },
+                                                                                                                                              (
+                                                                                                                                                record { checked = refl; ran = refl },
+                                                                                                                                                (
+                                                                                                                                                  record { checked = refl; ran = refl },
+                                                                                                                                                  tt,
+                                                                                                                                                ),
+                                                                                                                                              ),
+                                                                                                                                            ),
+                                                                                                                                          ),
+                                                                                                                                        ),
+                                                                                                                                      ),
+                                                                                                                                    ),
+                                                                                                                                  ),
+                                                                                                                                ),
+                                                                                                                              ),
+                                                                                                                            ),
+                                                                                                                          ),
+                                                                                                                        ),
+                                                                                                                      ),
+                                                                                                                    ),
+                                                                                                                  ),
+                                                                                                                ),
+                                                                                                              ),
+                                                                                                            ),
+                                                                                                          ),
+                                                                                                        ),
+                                                                                                      ),
+                                                                                                    ),
+                                                                                                  ),
+                                                                                                ),
+                                                                                              ),
+                                                                                            ),
+                                                                                          ),
+                                                                                        ),
+                                                                                      ),
+                                                                                    ),
+                                                                                  ),
+                                                                                ),
+                                                                              ),
+                                                                            ),
+                                                                          ),
+                                                                        ),
+                                                                      ),
+                                                                    ),
+                                                                  ),
+                                                                ),
+                                                              ),
+                                                            ),
+                                                          ),
+                                                        ),
+                                                      ),
+                                                    ),
+                                                  ),
+                                                ),
+                                              ),
+                                            ),
+                                          ),
+                                        ),
+                                      ),
+                                    ),
+                                  ),
+                                ),
+                              ),
+                            ),
+                          ),
+                        ),
+                      ),
+                    ),
+                  ),
+                ),
+              ),
             ),
           ),
         ),

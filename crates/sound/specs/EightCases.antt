@@ -5,7 +5,7 @@ use mathlib.Core.List.{List, [], _∷_, map}
 use mathlib.Core.Option.{Option, some, none}
 use Prim.Native.Nat.{ℕ}
 use Prim.Native.String.{String}
-use lib.IntN.{ℤ, pos, negℤ}
+use lib.IntN.{ℤ, pos}
 use Rattle.edition.specs.Limits.{numberBound}
 use Rattle.edition.specs.Outcomes.{done, budgetSpent, numberOutOfRange}
 use Rattle.ere_meaning.specs.Tree.{Class, accepts, Ere}
@@ -13,7 +13,7 @@ use Rattle.ere_grammar.specs.Read.{readEre}
 use Rattle.splitting.specs.Splitting.{Split, fields, long-record, bad-separator, many-fields, splitOf, textOf as spanText}
 use Rattle.splitting.specs.Field.{Span}
 use Rattle.image_format.specs.Codes.{add, remainder}
-use Rattle.image_format.specs.Image.{Image, number as constant}
+use Rattle.image_format.specs.Image.{Image}
 use Rattle.image_format.specs.Reading.{fromBytes, readImage}
 use Rattle.image_format.specs.Writing.{bytesOf}
 use Rattle.values.specs.Value.{Value, number, text, stop, Result, gives, stops}
@@ -24,13 +24,10 @@ use Rattle.semantics.specs.World.{World, startOf, valueAt}
 use Rattle.semantics.specs.Operations.{Effect, byEre, matchMarked}
 use Rattle.semantics.specs.Check.{check}
 use Rattle.semantics.specs.Run.{Answer, answerOf, run}
-use Rattle.sound.specs.Text.{bytes}
-use Rattle.sound.specs.Assembler.{op, op₁, lone, image}
+use Rattle.sound.specs.Text.{bytes, minus}
+use Rattle.sound.specs.Assembler.{constant, field, print, whole, image}
 
 -- ---- what the rows speak of
-
-abbrev pub minus : ℕ → ℤ
-minus n = negℤ (pos n)
 
 -- the texts of a record's fields, if it is split
 abbrev pub fieldTexts : List ℕ → Split → Option (List (List ℕ))
@@ -50,7 +47,7 @@ marksAfter (some (stops s)) = none
 marksAfter (some (gives e)) = some (record { start = valueAt 1 (e .world) RSTART; size = valueAt 1 (e .world) RLENGTH })
 
 abbrev pub marksOf : List ℕ → List ℕ → Option Marks
-marksOf ere line = marksAfter (byEre matchMarked (readEre 1 ere) (text line) (startOf (image 0 [] [] lone lone lone) (oneFeed []) 0))
+marksOf ere line = marksAfter (byEre matchMarked (readEre 1 ere) (text line) (startOf (image 0 [] [] [] [] []) (oneFeed []) 0))
 
 -- a run of an image that reads, in a room of 100 bytes
 abbrev pub ranOf : Option Image → List ℕ → ℕ → Option Answer
@@ -111,7 +108,7 @@ eightCases =
     (adds "9007199254740992" 0 (gives (number (pos 9007199254740992))))
     (adds "9007199254740992" 1 (stops (stop numberOutOfRange)))
     ∷ translates "{ print }" printImage
-    (image 0 (constant 0 ∷ []) [] lone (op₁ 1 0 0 ∷ op 4 1 ∷ op₁ 29 1 1 ∷ op 0 0 ∷ []) lone)
+    (image 0 (whole 0 ∷ []) [] [] (constant 0 ∷ field ∷ print 1 ∷ []) [])
     ∷ both
     (runs printImage "a\nb\n" 10 done 10 2 "a\nb\n")
     (runs printImage "a\nb\n" 9 budgetSpent 9 2 "a\nb\n")

@@ -2,3 +2,5 @@
 pub mod Text
 pub mod Assembler
 pub mod EightCases
+pub mod ValueRows
+pub mod RunRows
