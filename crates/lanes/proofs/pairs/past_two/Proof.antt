@@ -1,0 +1,64 @@
+-- `past_two` meets its contract: the run from `at` on goes to index k and on from there.
+use Prim.Native.Nat.{_+_, _-_, _≤_}
+use mathlib.Core.Path.{_≡_, refl, sym, ap, _∙_}
+use mathlib.Core.Bool.{not}
+use mathlib.Core.List.{[], _∷_}
+use native.Mathlib.Omega.{arith}
+use lib.ListN.{length, drop}
+use Rattle.lists.specs.Elements.{oneOf, leading}
+use Rattle.lists.proofs.Leading.{leading-more, leading-stop, leading-end}
+use Rattle.lists.proofs.Tests.{was-true, was-false}
+use borrow.Author.Needs.{needs}
+use Rattle.lanes.proofs.pairs.past_two.Statement.{statement}
+use Rattle.lanes.proofs.pairs.past_two.Tie as tie
+
+abbrev Inv-loop : tie.InvT-loop
+Inv-loop s at a b k₀ k = (k ≤ length s) × (at + leading (oneOf (a ∷ b ∷ [])) (drop at s) ≡ k + leading (oneOf (a ∷ b ∷ [])) (drop k s))
+
+abbrev μ-loop : tie.MeasureT-loop
+μ-loop s at a b k₀ k = length s - k
+
+loop-holds : tie.Need-loop-holds Inv-loop μ-loop
+loop-holds c = (c .before .pre, refl)
+
+shared-slice-read-is-either : tie.Need-shared-slice-read-is-either Inv-loop μ-loop
+shared-slice-read-is-either c = omega arith
+
+is-either-requires : tie.Need-is-either-requires Inv-loop μ-loop
+is-either-requires c κs = search needs
+
+returns : tie.Need-returns Inv-loop μ-loop
+returns c =
+    let a = c .before .before .before .before .before .before .args in
+    omega (arith, c .before .before .before .before .loop .inv .1, leading-stop (oneOf (a .a ∷ a .b ∷ [])) (a .s .now) (c .before .before .before .before .loop .k) (omega arith) (sym (was-false (c .if1 .taken) (c .before .is-either .ensures))))
+
+add-k : tie.Need-add-k Inv-loop μ-loop
+add-k c = omega arith
+
+loop-less : tie.Need-loop-less Inv-loop μ-loop
+loop-less c = omega arith
+
+loop-again : tie.Need-loop-again Inv-loop μ-loop
+loop-again c =
+    let a = c .before .before .before .before .before .before .args in
+    (omega arith, omega (arith, c .before .before .before .before .loop .inv .1, leading-more (oneOf (a .a ∷ a .b ∷ [])) (a .s .now) (c .before .before .before .before .loop .k) (omega arith) (sym (was-true (c .if1 .left) (c .before .is-either .ensures)))))
+
+returns-2 : tie.Need-returns-2 Inv-loop μ-loop
+returns-2 c =
+    let a = c .before .before .before .args in
+    omega (arith, c .before .loop .inv .1, leading-end (oneOf (a .a ∷ a .b ∷ [])) (a .s .now) (c .before .loop .k) (omega arith))
+
+pub past-two-spec : {M : Type 1} → statement M
+past-two-spec =
+    tie.close
+    (tie.spec
+    Inv-loop
+    μ-loop
+    loop-holds
+    shared-slice-read-is-either
+    is-either-requires
+    returns
+    add-k
+    loop-less
+    loop-again
+    returns-2)

@@ -1,0 +1,58 @@
+// Copies by blocks.
+use buffer::get_word;
+use buffer::put_word;
+ghost use mathlib.Core.Path.{_≡_};
+ghost use Prim.Native.Nat.{_+_, _≤_, _<_};
+ghost use lib.ListN.{length};
+ghost use Rattle.buffer.specs.Parts.{part, put};
+
+// Copies the 16 bytes of `src` from index `from` on into `dst` from index `to` on. All are read before one is written.
+fn copy_16(dst: &mut [u8], to: usize, src: &[u8], from: usize)
+    requires { ⌜ (to + 16 ≤ length (now dst)) × (from + 16 ≤ length (now src)) ⌝ }
+    ensures { λ _. ⌜ now (dst .exit) ≡ put (now (dst .entry)) to (part from 16 (now (src .entry))) ⌝ }
+{
+    let a = get_word(src, from);
+    let b = get_word(src, from + 8);
+    put_word(dst, to, a);
+    put_word(dst, to + 8, b);
+}
+
+// Copies eight bytes in the same way.
+fn copy_8(dst: &mut [u8], to: usize, src: &[u8], from: usize)
+    requires { ⌜ (to + 8 ≤ length (now dst)) × (from + 8 ≤ length (now src)) ⌝ }
+    ensures { λ _. ⌜ now (dst .exit) ≡ put (now (dst .entry)) to (part from 8 (now (src .entry))) ⌝ }
+{
+    put_word(dst, to, get_word(src, from));
+}
+
+// Copies less than 16 bytes: the first eight and the last eight, which may overlap, or byte by byte.
+fn copy_short(dst: &mut [u8], at: usize, src: &[u8])
+    requires { ⌜ (at + length (now src) ≤ length (now dst)) × (length (now src) < 16) ⌝ }
+    ensures { λ _. ⌜ now (dst .exit) ≡ put (now (dst .entry)) at (now (src .entry)) ⌝ }
+{
+    if src.len() < 8 {
+        buffer::copy(dst, at, src);
+        return;
+    }
+    let last = src.len() - 8;
+    copy_8(dst, at, src, 0);
+    copy_8(dst, at + last, src, last);
+}
+
+// Copies all of `src` into `dst` from index `at` on: blocks of 16 bytes, and the last 16 bytes, which may overlap the block before them.
+pub fn copy(dst: &mut [u8], at: usize, src: &[u8])
+    requires { ⌜ at + length (now src) ≤ length (now dst) ⌝ }
+    ensures { λ _. ⌜ now (dst .exit) ≡ put (now (dst .entry)) at (now (src .entry)) ⌝ }
+{
+    if src.len() < 16 {
+        copy_short(dst, at, src);
+        return;
+    }
+    let last = src.len() - 16;
+    let mut k = 0;
+    while k < last {
+        copy_16(dst, at + k, src, k);
+        k += 16;
+    }
+    copy_16(dst, at + last, src, last);
+}

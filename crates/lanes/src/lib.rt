@@ -1,0 +1,15 @@
+// Bytes in slices, many at a time: the first place of a byte or of one of two, and copies.
+mod blocks;
+mod copies;
+mod pairs;
+mod search;
+mod words;
+
+pub use blocks::any_in_32;
+pub use copies::copy;
+pub use pairs::first_of_two;
+pub use pairs::past_two;
+pub use search::first_byte;
+pub use words::first_in_8;
+pub use words::lanes_of;
+pub use words::zero_lane;
