@@ -37,7 +37,7 @@ module _ (t text : List ℕ) (r : Found) (f : Finds t text 0 0 r) where
   length-found e s bytes = ap lengthOf (serves-answer t text 0 0 r e text s f bytes zero-le refl)
 
   pub found-inside : (s n : ℕ) → r ≡ At s n → n ≤ length text
-  found-inside s n e = let h = subst (Inside 0 (length text)) e (f .inside) in omega (arith, h .1)
+  found-inside s n e = let h = subst (Inside 0 0 (length text)) e (f .inside) in omega (arith, h .1)
 
 pub tells : (t text : List ℕ) (r x : Bool) → length t ≡ tableWords → length text ≤ textBytes → Exists t text r → Bytes text → r ≡ x → Tells t text (cond x 1 0)
 tells t text r x l h f bytes e =

@@ -91,10 +91,10 @@ module _ (t w : List ℕ) (e : Ere ℕ) (T : Tabled t e) (least : ℕ) where
       )
 
 module _ (t rest : List ℕ) (at least : ℕ) where
-  inside : (r : Found) → Seen t rest at least r → Inside at (length rest) r
+  inside : (r : Found) → Seen t rest at least r → Inside at least (length rest) r
   inside (At a n) f =
       let o = of-longest t rest at least (f .0) (suc n) (f .3) in
-      (omega (arith, f .1), omega (arith, f .1, f .2, o .0))
+      (omega (arith, f .1), omega (arith, f .1, f .2, o .0), o .1)
   inside Nowhere f = tt
 
   best : (r : Found) → Seen t rest at least r → (e : Ere ℕ) (w : List ℕ) → Tabled t e → at ≤ length w → drop at w ≡ rest

@@ -15,11 +15,12 @@ abbrev pub matchOf : Found → Match
 matchOf (At s n) = found s n
 matchOf Nowhere = nowhere
 
-abbrev pub Inside : ℕ → ℕ → Found → Type 0
-Inside at len (At s n) = (at ≤ s) × (s + n ≤ at + len)
-Inside at len Nowhere = Unit
+-- a match lies in the text of which `len` bytes are left from place `at` on, and has at least `least` bytes
+abbrev pub Inside : ℕ → ℕ → ℕ → Found → Type 0
+Inside at least len (At s n) = (at ≤ s) × (s + n ≤ at + len) × (least ≤ n)
+Inside at least len Nowhere = Unit
 
 -- r is the best match of at least `least` bytes in the text of which `rest` is what stands from place `at` on
 pub record Finds (t rest : List ℕ) (at least : ℕ) (r : Found) : Type 0 where
-  pub inside : Inside at (length rest) r
+  pub inside : Inside at least (length rest) r
   pub best : (e : Ere ℕ) (w : List ℕ) → Tabled t e → at ≤ length w → drop at w ≡ rest → BestFrom (acceptsAt t) w e at least (matchOf r)

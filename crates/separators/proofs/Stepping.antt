@@ -13,14 +13,15 @@ use Rattle.buffer.proofs.First.{first-byte-most}
 use Rattle.buffer.proofs.Lent.{tail-lent}
 use Rattle.ere_meaning.specs.Tree.{Class, accepts, Ere}
 use Rattle.ere_meaning.specs.Meaning.{Match}
-use Rattle.ere_search.specs.Find.{Finds, matchOf}
+use Rattle.ere_search.specs.Find.{Finds, Inside, matchOf}
 use Rattle.ere_search.specs.declared.search.Found.{Found}
+use Rattle.ere_search.specs.declared.search.Found.the-variants.{At}
 use Rattle.ere.specs.Answer.{Serves, Bytes}
 use Rattle.ere.proofs.Serving.{serves-answer}
-use Rattle.splitting.specs.Separator.{blank, byte, ere}
+use Rattle.splitting.specs.Separator.{Separator, blank, byte, ere}
 use native.Mathlib.Numerals.{add-one}
-use Rattle.splitting.proofs.Turns.{word-more, blank-field}
-use Rattle.splitting.specs.Field.{span, Next, field, none, isIn, untilSeparator, nextField}
+use Rattle.splitting.proofs.Turns.{word-more, blank-field, goes}
+use Rattle.splitting.specs.Field.{span, Next, field, none, Goes, isIn, untilSeparator, nextField}
 
 -- a byte is not of the kind that is looked for, or is
 pub other-kind : (inside x : Bool) (set : List ℕ) (b : ℕ) → x ≡ oneOf set b → not (Bool·beq x inside) ≡ true → isIn inside set b ≡ false
@@ -77,3 +78,18 @@ module _ (text : List ℕ) (at : ℕ) where
   ere-is t r h bytes f e v =
       let z = serves-answer t (midOf at (length text - at) text) at 1 r e text v f bytes h (sym (tail-lent text at)) in
       rw (le-leb at (length text) h, z)
+
+  -- ---- a step goes on
+
+  -- what the definition answers does
+  pub next-goes : (s : Separator) (o : Next) → o ≡ nextField text s at → Goes at (length text) o
+  next-goes s o e = rw e (goes text s at)
+
+  pub found-goes : (s n : ℕ) → at ≤ length text → Inside at 1 (length (midOf at (length text - at) text)) (At s n)
+      → Goes at (length text) (field (span at (s - at)) (s + n))
+  found-goes s n h i =
+      let l = ap length (tail-lent text at) ∙ length-drop at text in
+      (omega arith, omega arith, omega arith, omega arith, omega arith)
+
+  pub end-goes : at ≤ length text → Goes at (length text) (field (span at (length text - at)) (length text + 1))
+  end-goes h = (omega arith, omega arith, omega arith, omega arith, omega arith)

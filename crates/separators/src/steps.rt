@@ -7,7 +7,7 @@ ghost use Rattle.ere_meaning.specs.Tree.{Class, Ere};
 ghost use Rattle.ere_table.specs.Table.{tableWords};
 ghost use Rattle.ere.specs.Answer.{Serves};
 ghost use Rattle.splitting.specs.Separator.{Separator, blanks, blank, byte, ere};
-ghost use Rattle.splitting.specs.Field.{isIn, nextField};
+ghost use Rattle.splitting.specs.Field.{Goes, isIn, nextField};
 ghost use Rattle.separators.specs.Kinds.{Sized, Means, nextOf};
 use crate::kinds::Kind;
 use edition::Edition;
@@ -48,7 +48,8 @@ fn run_end(text: &[u8], edition: Edition, blank: bool, at: usize) -> usize
 
 fn next_word(text: &[u8], edition: Edition, at: usize) -> Step
     requires { ⌜ at ≤ length (now text) ⌝ }
-    ensures { λ r. ⌜ nextOf r ≡ nextField (now (text .entry)) (blank (blanks (edition .number))) at ⌝ }
+    ensures { λ r. ⌜ (Goes at (length (now (text .entry))) (nextOf r))
+        × (nextOf r ≡ nextField (now (text .entry)) (blank (blanks (edition .number))) at) ⌝ }
 {
     let start = run_end(text, edition, true, at);
     if text.len() <= start {
@@ -71,7 +72,7 @@ fn next_word(text: &[u8], edition: Edition, at: usize) -> Step
 
 fn next_by_byte(text: &[u8], b: u8, at: usize) -> Step
     requires { ⌜ at ≤ length (now text) ⌝ }
-    ensures { λ r. ⌜ nextOf r ≡ nextField (now (text .entry)) (byte b) at ⌝ }
+    ensures { λ r. ⌜ (Goes at (length (now (text .entry))) (nextOf r)) × (nextOf r ≡ nextField (now (text .entry)) (byte b) at) ⌝ }
 {
     let n = buffer::first_byte(&text[at..], b);
     Step {
@@ -84,7 +85,8 @@ fn next_by_byte(text: &[u8], b: u8, at: usize) -> Step
 
 fn next_by_pattern(t: &[u64], text: &[u8], at: usize) -> Step
     requires { ⌜ (length (now t) ≡ tableWords) × (at ≤ length (now text)) ⌝ }
-    ensures { λ r. ⌜ ((e : Ere Class) → Serves (now (t .entry)) e → nextOf r ≡ nextField (now (text .entry)) (ere e) at) ⌝ }
+    ensures { λ r. ⌜ (Goes at (length (now (text .entry))) (nextOf r))
+        × ((e : Ere Class) → Serves (now (t .entry)) e → nextOf r ≡ nextField (now (text .entry)) (ere e) at) ⌝ }
 {
     let end = text.len();
     match ere_search::find_from(t, &text[at..], at, 1) {
@@ -103,10 +105,11 @@ fn next_by_pattern(t: &[u64], text: &[u8], at: usize) -> Step
     }
 }
 
-// The next field from the place `at` on.
+// The next field from the place `at` on. Whatever the table has, the field lies in the text, and the place after it moves on.
 pub fn next_field(text: &[u8], kind: Kind, edition: Edition, t: &[u64], at: usize) -> Step
     requires { ⌜ Sized kind (now t) ⌝ }
-    ensures { λ r. ⌜ ((s : Separator) → Means (edition .number) (now (t .entry)) kind s → nextOf r ≡ nextField (now (text .entry)) s at) ⌝ }
+    ensures { λ r. ⌜ (Goes at (length (now (text .entry))) (nextOf r))
+        × ((s : Separator) → Means (edition .number) (now (t .entry)) kind s → nextOf r ≡ nextField (now (text .entry)) s at) ⌝ }
 {
     if text.len() < at {
         return Step {

@@ -19,7 +19,7 @@ use Rattle.ere_meaning.specs.Meaning.{Match, found, nowhere, BestFrom}
 use Rattle.ere_meaning.specs.Search.{bestFrom}
 use Rattle.ere_meaning.proofs.Answers.{best-from}
 use Rattle.splitting.specs.Separator.{Separator, blank, byte, ere}
-use Rattle.splitting.specs.Field.{Span, span, Next, field, none, isIn, untilSeparator, nextField, follow, fieldsIn, fieldsFrom, fieldsOf}
+use Rattle.splitting.specs.Field.{Span, span, Next, field, none, Goes, isIn, untilSeparator, nextField, follow, fieldsIn, fieldsFrom, fieldsOf}
 use Rattle.splitting.specs.Meaning.{Ordered}
 use Rattle.splitting.proofs.Runs.{not-in}
 
@@ -28,11 +28,6 @@ use Rattle.splitting.proofs.Runs.{not-in}
 ruleset holds = (lt-ltb, le-leb)
 
 ruleset fails = (le-ltb, lt-leb)
-
--- A turn goes on: the field lies at or behind `at`, the next place behind it.
-abbrev pub Goes : ℕ → ℕ → Next → Type 0
-Goes at end (field f b) = (at ≤ f .start) × (f .start + f .size ≤ end) × (f .start + f .size ≤ b) × (at < b) × (b ≤ suc end)
-Goes at end none = Unit
 
 module _ (text : List ℕ) where
   -- the byte at which the blanks end is the first of a field

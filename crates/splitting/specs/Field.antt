@@ -1,7 +1,7 @@
 -- Document 01, "Splitting": the fields of a record, each as a span of it.
 use mathlib.Core.Bool.{Bool, true, false, cond, not}
 use mathlib.Core.List.{List, [], _∷_}
-use Prim.Native.Nat.{ℕ, zero, suc, _+_, _-_}
+use Prim.Native.Nat.{ℕ, zero, suc, _+_, _-_, _≤_, _<_}
 use lib.ListN.{length, drop}
 use lib.Dec.{eqb, ltb, leb}
 use Rattle.lists.specs.Elements.{oneOf, leading}
@@ -23,6 +23,11 @@ span a n = record { start = a; size = n }
 pub data Next : Type 0 where
   field : Span → ℕ → Next
   none : Next
+
+-- A turn goes on: the field lies in a text of `end` bytes, at or after `at`, and the next place is after both.
+abbrev pub Goes : ℕ → ℕ → Next → Type 0
+Goes at end (field f b) = (at ≤ f .start) × (f .start + f .size ≤ end) × (f .start + f .size ≤ b) × (at < b) × (b ≤ suc end)
+Goes at end none = Unit
 
 -- b is in the set, or is not
 abbrev pub isIn : Bool → List ℕ → ℕ → Bool

@@ -37,7 +37,7 @@ returns-2 : tie.Need-returns-2 Inv-loop μ-loop
 returns-2 c =
     λ s m.
     spread-end (c .before .before .before .before .before .before .before .before .before .args .text .now) s (c .before .before .before .before .before .before .before .before .before .args .spans .now) (c .before .before .before .before .before .before .before .before .before .args .first) (c .before .before .before .before .loop .at) (c .before .before .before .before .loop .n) (c .before .before .before .before .loop .spans)
-    (sym (c .before .before .next-field .ensures s m) ∙ step-none (c .before .before .next-field .result) (not-true _ (c .if2 .taken)))
+    (sym (c .before .before .next-field .ensures .1 s m) ∙ step-none (c .before .before .next-field .result) (not-true _ (c .if2 .taken)))
     (omega (arith, c .before .before .before .loop-test .taken))
     (c .before .before .before .before .loop .inv .2 s m)
 
@@ -57,7 +57,7 @@ loop-again c = (
   λ s m.
       subst (λ (r : List ℕ). Held (c .before .before .before .before .before .before .before .before .before .before .before .before .before .args .text .now) s (c .before .before .before .before .before .before .before .before .before .before .before .before .before .args .spans .now) (c .before .before .before .before .before .before .before .before .before .before .before .before .before .args .first) (c .before .before .before .before .before .before .next-field .result .after) (c .before .before .before .before .before .before .before .before .loop .n + 1) r) (sym (c .before .before .put-span .ensures))
       (held-more (c .before .before .before .before .before .before .before .before .before .before .before .before .before .args .text .now) s (c .before .before .before .before .before .before .before .before .before .before .before .before .before .args .spans .now) (c .before .before .before .before .before .before .before .before .before .before .before .before .before .args .first) (c .before .before .before .before .before .before .before .before .loop .at) (c .before .before .before .before .before .before .before .before .loop .n) (c .before .before .before .before .before .before .before .before .loop .spans) (span (c .before .before .before .before .before .before .next-field .result .start) (c .before .before .before .before .before .before .next-field .result .size)) (c .before .before .before .before .before .before .next-field .result .after)
-      (sym (c .before .before .before .before .before .before .next-field .ensures s m) ∙ step-found (c .before .before .before .before .before .before .next-field .result) (not-false _ (c .before .before .before .before .if2 .left)))
+      (sym (c .before .before .before .before .before .before .next-field .ensures .1 s m) ∙ step-found (c .before .before .before .before .before .before .next-field .result) (not-false _ (c .before .before .before .before .if2 .left)))
       (c .before .before .before .before .before .before .before .before .loop .inv .2 s m)),
 )
 

@@ -1,5 +1,6 @@
 -- `next_by_byte` meets its contract, by what `first_byte` answers.
-use Rattle.separators.proofs.Stepping.{byte-size, byte-is}
+use Rattle.separators.proofs.Stepping.{byte-size, byte-is, next-goes}
+use Rattle.splitting.specs.Separator.{byte}
 use native.Mathlib.Omega.{arith}
 use borrow.Author.Needs.{needs}
 use Rattle.separators.proofs.steps.next_by_byte.Statement.{statement}
@@ -24,7 +25,10 @@ add-t9 : tie.Need-add-t9
 add-t9 c = omega (arith, byte-size (c .before .before .before .args .text .now) (c .before .before .before .args .at) (c .before .before .before .args .b) (c .first-byte .result) (c .before .before .before .pre) (c .first-byte .ensures))
 
 returns : tie.Need-returns
-returns c = byte-is (c .before .before .before .args .text .now) (c .before .before .before .args .at) (c .before .before .before .args .b) (c .first-byte .result) (c .before .before .before .pre) (c .first-byte .ensures)
+returns c =
+    let a = c .before .before .before .args in
+    let e = byte-is (a .text .now) (a .at) (a .b) (c .first-byte .result) (c .before .before .before .pre) (c .first-byte .ensures) in
+    (next-goes (a .text .now) (a .at) (byte (a .b)) _ e, e)
 
 pub next-by-byte-spec : {M : Type 1} → statement M
 next-by-byte-spec =

@@ -2,7 +2,7 @@
 use Rattle.splitting.specs.Field.{span, field}
 use Prim.Native.Nat.{_-_}
 use native.Mathlib.Numerals.{add-one}
-use Rattle.separators.proofs.Stepping.{ere-is}
+use Rattle.separators.proofs.Stepping.{ere-is, found-goes, end-goes}
 use Rattle.splitting.specs.Field.{untilSeparator}
 use Rattle.ere_search.specs.declared.search.Found.{Found}
 use Rattle.ere_search.specs.Find.{matchOf, Inside}
@@ -29,10 +29,10 @@ enum-known-s : tie.Need-enum-known-s
 enum-known-s c = search needs
 
 sub-t13 : tie.Need-sub-t13
-sub-t13 c = omega (arith, subst (Inside (c .before .before .before .before .before .before .before .args .at) _) (c .before .s .given .1) (c .before .before .before .find-from .ensures .inside) .0)
+sub-t13 c = omega (arith, subst (Inside (c .before .before .before .before .before .before .before .args .at) 1 _) (c .before .s .given .1) (c .before .before .before .find-from .ensures .inside) .0)
 
 add-t14 : tie.Need-add-t14
-add-t14 c = omega (arith, subst (Inside (c .before .before .before .before .before .before .before .args .at) _) (c .before .s .given .1) (c .before .before .before .find-from .ensures .inside) .1)
+add-t14 c = omega (arith, subst (Inside (c .before .before .before .before .before .before .before .args .at) 1 _) (c .before .s .given .1) (c .before .before .before .find-from .ensures .inside) .1)
 
 enum-told : tie.Need-enum-told
 enum-told c = search needs
@@ -45,16 +45,27 @@ add-t16 c = search needs
 
 returns : tie.Need-returns
 returns c =
-    λ e v.
-    ap (λ (x : Found). untilSeparator (c .before .before .before .before .before .before .before .args .at) (length (c .before .before .before .before .before .before .before .args .text .now)) (matchOf x)) (sym (c .before .s .given .1))
-    ∙ ere-is (c .before .before .before .before .before .before .before .args .text .now) (c .before .before .before .before .before .before .before .args .at) (c .before .before .before .before .before .before .before .args .t .now) (c .before .before .before .find-from .result) (c .before .before .before .before .before .before .before .pre .1) (λ i h. c .before .before .before .before .before .shared-slice-known2 .given i .fits) (c .before .before .before .find-from .ensures) e v
+    let a = c .before .before .before .before .before .before .before .args in
+    let p = c .before .before .before .before .before .before .before .pre .1 in
+    let f = c .before .before .before .find-from in
+    let e = c .before .s .given .1 in (
+      found-goes (a .text .now) (a .at) _ _ p (subst (Inside (a .at) 1 _) e (f .ensures .inside)),
+      λ x v.
+          ap (λ (r : Found). untilSeparator (a .at) (length (a .text .now)) (matchOf r)) (sym e)
+          ∙ ere-is (a .text .now) (a .at) (a .t .now) (f .result) p (λ i h. c .before .before .before .before .before .shared-slice-known2 .given i .fits) (f .ensures) x v,
+    )
 
 returns-2 : tie.Need-returns-2
 returns-2 c =
-    λ e v.
-    ap (field (span (c .before .before .before .before .before .before .args .at) (length (c .before .before .before .before .before .before .args .text .now) - c .before .before .before .before .before .before .args .at))) (add-one (length (c .before .before .before .before .before .before .args .text .now)))
-    ∙ ap (λ (x : Found). untilSeparator (c .before .before .before .before .before .before .args .at) (length (c .before .before .before .before .before .before .args .text .now)) (matchOf x)) (sym (c .enum-told .given .1))
-    ∙ ere-is (c .before .before .before .before .before .before .args .text .now) (c .before .before .before .before .before .before .args .at) (c .before .before .before .before .before .before .args .t .now) (c .before .before .find-from .result) (c .before .before .before .before .before .before .pre .1) (λ i h. c .before .before .before .before .shared-slice-known2 .given i .fits) (c .before .before .find-from .ensures) e v
+    let a = c .before .before .before .before .before .before .args in
+    let p = c .before .before .before .before .before .before .pre .1 in
+    let f = c .before .before .find-from in (
+      end-goes (a .text .now) (a .at) p,
+      λ x v.
+          ap (field (span (a .at) (length (a .text .now) - a .at))) (add-one (length (a .text .now)))
+          ∙ ap (λ (r : Found). untilSeparator (a .at) (length (a .text .now)) (matchOf r)) (sym (c .enum-told .given .1))
+          ∙ ere-is (a .text .now) (a .at) (a .t .now) (f .result) p (λ i h. c .before .before .before .before .shared-slice-known2 .given i .fits) (f .ensures) x v,
+    )
 
 pub next-by-pattern-spec : {M : Type 1} → statement M
 next-by-pattern-spec =

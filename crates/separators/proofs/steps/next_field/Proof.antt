@@ -10,7 +10,7 @@ use Rattle.separators.proofs.steps.next_field.Statement.{statement}
 use Rattle.separators.proofs.steps.next_field.Tie as tie
 
 returns : tie.Need-returns
-returns c = λ s m. sym (next-past (c .before .before .before .args .text .now) s (c .before .before .before .args .at) (c .if1 .taken))
+returns c = (tt, λ s m. sym (next-past (c .before .before .before .args .text .now) s (c .before .before .before .args .at) (c .if1 .taken)))
 
 enum-told : tie.Need-enum-told
 enum-told c = search needs
@@ -35,24 +35,35 @@ enum-told-3 c = search needs
 
 returns-2 : tie.Need-returns-2
 returns-2 c =
-    λ s m.
-    let e = subst (λ (k : Kind). Means (c .before .before .before .before .before .before .args .edition .number) (c .before .before .before .before .before .before .args .t .now) k s) (c .before .enum-told .given .1) m in
-    c .next-word .ensures ∙ ap (λ (x : Separator). nextField (c .before .before .before .before .before .before .args .text .now) x (c .before .before .before .before .before .before .args .at)) (sym e)
+    let a = c .before .before .before .before .before .before .args in (
+      c .next-word .ensures .0,
+      λ s m.
+          let e = subst (λ (k : Kind). Means (a .edition .number) (a .t .now) k s) (c .before .enum-told .given .1) m in
+          c .next-word .ensures .1 ∙ ap (λ (x : Separator). nextField (a .text .now) x (a .at)) (sym e),
+    )
 
 returns-3 : tie.Need-returns-3
 returns-3 c =
-    λ s m.
-    let e = subst (λ (k : Kind). Means (c .before .before .before .before .before .before .before .args .edition .number) (c .before .before .before .before .before .before .before .args .t .now) k s) (c .before .before .kind .given .1) m in
-    c .next-by-byte .ensures ∙ ap (λ (x : Separator). nextField (c .before .before .before .before .before .before .before .args .text .now) x (c .before .before .before .before .before .before .before .args .at)) (sym e)
+    let a = c .before .before .before .before .before .before .before .args in (
+      c .next-by-byte .ensures .0,
+      λ s m.
+          let e = subst (λ (k : Kind). Means (a .edition .number) (a .t .now) k s) (c .before .before .kind .given .1) m in
+          c .next-by-byte .ensures .1 ∙ ap (λ (x : Separator). nextField (a .text .now) x (a .at)) (sym e),
+    )
 
 returns-4 : tie.Need-returns-4
 returns-4 c =
-    λ s m.
-    let e = subst (λ (k : Kind). Means (c .before .before .before .before .before .before .args .edition .number) (c .before .before .before .before .before .before .args .t .now) k s) (c .before .enum-told2 .given .1) m in
-    c .next-by-pattern .ensures (e .0) (e .2) ∙ ap (λ (x : Separator). nextField (c .before .before .before .before .before .before .args .text .now) x (c .before .before .before .before .before .before .args .at)) (sym (e .1))
+    let a = c .before .before .before .before .before .before .args in (
+      c .next-by-pattern .ensures .0,
+      λ s m.
+          let e = subst (λ (k : Kind). Means (a .edition .number) (a .t .now) k s) (c .before .enum-told2 .given .1) m in
+          c .next-by-pattern .ensures .1 (e .0) (e .2) ∙ ap (λ (x : Separator). nextField (a .text .now) x (a .at)) (sym (e .1)),
+    )
 
 returns-5 : tie.Need-returns-5
-returns-5 c = λ s m. absurd (subst (λ (k : Kind). Means (c .before .before .before .before .before .args .edition .number) (c .before .before .before .before .before .args .t .now) k s) (c .enum-told3 .given .1) m)
+returns-5 c =
+    let a = c .before .before .before .before .before .args in
+    (tt, λ s m. absurd (subst (λ (k : Kind). Means (a .edition .number) (a .t .now) k s) (c .enum-told3 .given .1) m))
 
 pub next-field-spec : {M : Type 1} → statement M
 next-field-spec =
