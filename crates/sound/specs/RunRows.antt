@@ -174,9 +174,12 @@ runRows =
     (constant 0 ∷ constant 1 ∷ field ∷ set-field ∷ drop ∷ constant 2 ∷ field ∷ length ∷ print 1 ∷ [])
     [])
     (repeated 256 120) (ends 14 5 1 "")
-    ∷ runs "{ x = $0 $0 }"
-    (image 1 (whole 0 ∷ []) [] [] (constant 0 ∷ field ∷ constant 0 ∷ field ∷ join ∷ set 7 ∷ drop ∷ []) [])
-    (repeated 257 120) (ends 14 6 1 "")
+    ∷ runs "{ x = $0 $0; x = x \"y\" }"
+    (image 1 (whole 0 ∷ quoted "y" ∷ []) [] []
+    (constant 0 ∷ field ∷ constant 0 ∷ field ∷ join ∷ set 7 ∷ drop ∷ get 7 ∷ constant 1 ∷ join ∷ set 7 ∷ drop
+    ∷ [])
+    [])
+    (repeated 256 120) (ends 14 11 1 "")
     -- "The FS in force when a record is read, or when `$0` is assigned, splits it."
     ∷ runs "{ FS = \",\"; print $1 }"
     (image 0 (quoted "," ∷ whole 1 ∷ []) [] [] (constant 0 ∷ set FS ∷ drop ∷ constant 1 ∷ field ∷ print 1 ∷ []) [])

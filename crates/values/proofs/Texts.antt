@@ -35,24 +35,21 @@ pub length-counts : (a : Value) → lengthOf a ≡ gives (number (pos (length (t
 unfolding lengthOf
 length-counts a = refl
 
--- ---- index: there is one answer that `Index` allows, and it is given
+-- ---- index: the one answer that `Index` allows
+
+first-place : (s t : List ℕ) → (t ≡ [] → ⊥) → (o : Option ℕ) → IsFirst t s o → Index s t (placeOf o)
+first-place s t n none w = nowhere w
+first-place s t n (some k) w = first n w
+
+place-right : (s t : List ℕ) → Index s t (cond (eqb (length t) 0) 0 (placeOf (firstPart t s)))
+place-right s [] = empty refl
+place-right s (x ∷ t) =
+    rw (ne-eqb (suc (length t)) 0 (λ e. omega arith))
+    (first-place s (x ∷ t) (λ e. omega (arith, ap length e)) (firstPart (x ∷ t) s) (first-part-right (x ∷ t) s))
 
 pub index-is : (a b : Value) → (n : ℕ) × ((indexOf a b ≡ gives (number (pos n))) × (Index (textOf a) (textOf b) n))
 unfolding indexOf
-index-is a b = (answered (textOf b), (refl, right (textOf b)))
-  where
-    answered : List ℕ → ℕ
-    answered t = cond (eqb (length t) 0) 0 (placeOf (firstPart t (textOf a)))
-
-    place : (t : List ℕ) → (t ≡ [] → ⊥) → (o : Option ℕ) → IsFirst t (textOf a) o → Index (textOf a) t (placeOf o)
-    place t n none w = nowhere w
-    place t n (some k) w = first n w
-
-    right : (t : List ℕ) → Index (textOf a) t (answered t)
-    right [] = empty refl
-    right (x ∷ t) =
-        rw (ne-eqb (suc (length t)) 0 (λ e. omega arith))
-        (place (x ∷ t) (λ e. omega (arith, ap length e)) (firstPart (x ∷ t) (textOf a)) (first-part-right (x ∷ t) (textOf a)))
+index-is a b = (_, (refl, place-right (textOf a) (textOf b)))
 
 pub index-one : {s t : List ℕ} {m n : ℕ} → Index s t m → Index s t n → m ≡ n
 index-one (empty e) (empty f) = refl
