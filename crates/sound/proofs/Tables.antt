@@ -1,13 +1,12 @@
 -- The tables hold, by computing: every definition that the rows come to is opened.
 use mathlib.Core.Path.{refl}
-use Rattle.lists.specs.Elements.{nth as lists-nth, oneOf as lists-oneOf, allBelow as lists-allBelow, leading as lists-leading}
+use Rattle.lists.specs.Elements.{nth as lists-nth, oneOf as lists-oneOf, leading as lists-leading}
 use Rattle.lists.specs.Parsing.{many as lists-many}
 use Rattle.buffer.specs.First.{firstByte as buffer-firstByte, startsWith as buffer-startsWith, firstPart as buffer-firstPart}
 use Rattle.buffer.specs.Order.{ordering as buffer-ordering, equalBytes as buffer-equalBytes}
-use Rattle.buffer.specs.Parts.{part as buffer-part, put as buffer-put}
+use Rattle.buffer.specs.Parts.{part as buffer-part}
 use Rattle.number.specs.Arithmetic.{sumOf as number-sumOf, differenceOf as number-differenceOf, productOf as number-productOf, quotientOf as number-quotientOf, remainderOf as number-remainderOf, negationOf as number-negationOf}
-use Rattle.number.specs.Range.{ranged as number-ranged, unbias as number-unbias}
-use Rattle.numeral.specs.Capped.{capped as numeral-capped, judgedBy as numeral-judgedBy}
+use Rattle.number.specs.Range.{ranged as number-ranged}
 use Rattle.numeral.specs.Decimal.{digitsWithin as numeral-digitsWithin, decimalDigits as numeral-decimalDigits, decimalText as numeral-decimalText}
 use Rattle.numeral.specs.Form.{digitsFrom as numeral-digitsFrom, signLength as numeral-signLength, wholeDigits as numeral-wholeDigits, pointAt as numeral-pointAt, hasPoint as numeral-hasPoint, fractionDigits as numeral-fractionDigits, prefixLength as numeral-prefixLength, afterBlanks as numeral-afterBlanks, blankAfter as numeral-blankAfter, looksNumeric as numeral-looksNumeric}
 use Rattle.numeral.specs.Judgement.{valueAfter as numeral-valueAfter, nonzeroDigit as numeral-nonzeroDigit, judged as numeral-judged, prefixNumber as numeral-prefixNumber, numberOf as numeral-numberOf}
@@ -17,7 +16,7 @@ use Rattle.ere_grammar.specs.Bytes.{lookup as ere_grammar-lookup, escapeOf as e
 use Rattle.ere_grammar.specs.Read.{begins as ere_grammar-begins, tail as ere_grammar-tail, escapedByte as ere_grammar-escapedByte, readEscape as ere_grammar-readEscape, readMember as ere_grammar-readMember, joins as ere_grammar-joins, withRange as ere_grammar-withRange, lastHyphen as ere_grammar-lastHyphen, rangeTo as ere_grammar-rangeTo, afterByte as ere_grammar-afterByte, readItems as ere_grammar-readItems, bracketOf as ere_grammar-bracketOf, readBracket as ere_grammar-readBracket, onlyByte as ere_grammar-onlyByte, readAtom as ere_grammar-readAtom, finished as ere_grammar-finished, repeated as ere_grammar-repeated, afterAtom as ere_grammar-afterAtom, afterGroup as ere_grammar-afterGroup, afterBar as ere_grammar-afterBar, readGroup as ere_grammar-readGroup, readRest as ere_grammar-readRest, whole as ere_grammar-whole, readEre as ere_grammar-readEre}
 use Rattle.splitting.specs.Field.{nextField as splitting-nextField, fieldsIn as splitting-fieldsIn, fieldsFrom as splitting-fieldsFrom, fieldsOf as splitting-fieldsOf}
 use Rattle.splitting.specs.Separator.{blanks as splitting-blanks, separatorOf as splitting-separatorOf}
-use Rattle.splitting.specs.Splitting.{splitOf as splitting-splitOf, spanOf as splitting-spanOf}
+use Rattle.splitting.specs.Splitting.{splitOf as splitting-splitOf}
 use Rattle.image_format.specs.Codes.{codeOf as image_format-codeOf}
 use Rattle.image_format.specs.Numbers.{coded as image_format-coded, takeGroups as image_format-takeGroups, takeNumber as image_format-takeNumber}
 use Rattle.image_format.specs.Reading.{readImage as image_format-readImage}
@@ -27,7 +26,7 @@ use Rattle.values.specs.Value.{textOf as values-textOf, numberOf as values-numb
 use Rattle.semantics.specs.Check.{holdsFor as semantics-holdsFor, check as semantics-check}
 use Rattle.semantics.specs.Feed.{over as semantics-over, lineOf as semantics-lineOf, passed as semantics-passed, full as semantics-full}
 use Rattle.semantics.specs.Moves.{execute as semantics-execute, fromBetween as semantics-fromBetween, move as semantics-move}
-use Rattle.semantics.specs.Run.{after as semantics-after, runFor as semantics-runFor, run as semantics-run}
+use Rattle.semantics.specs.Run.{runFor as semantics-runFor, run as semantics-run}
 use Rattle.semantics.specs.Variables.{assignable as semantics-assignable}
 use Rattle.semantics.specs.World.{valueAt as semantics-valueAt, splitBy as semantics-splitBy, readRecord as semantics-readRecord}
 use Rattle.sound.specs.Text.{Each}
@@ -35,542 +34,73 @@ use Rattle.sound.specs.EightCases.{Claim as OfCase, eightCases}
 use Rattle.sound.specs.ValueRows.{Claim as OfValues, valueRows}
 use Rattle.sound.specs.RunRows.{Claim as OfRun, Row, runRows}
 
--- document 01's eight cases, one statement over their table
-pub eight-cases : Each OfCase eightCases
-unfolding lists-nth lists-oneOf lists-allBelow lists-leading lists-many buffer-firstByte buffer-startsWith buffer-firstPart buffer-ordering buffer-equalBytes buffer-part buffer-put number-sumOf number-differenceOf number-productOf number-quotientOf number-remainderOf number-negationOf number-ranged number-unbias numeral-capped numeral-judgedBy numeral-digitsWithin numeral-decimalDigits numeral-decimalText numeral-digitsFrom numeral-signLength numeral-wholeDigits numeral-pointAt numeral-hasPoint numeral-fractionDigits numeral-prefixLength numeral-afterBlanks numeral-blankAfter numeral-looksNumeric numeral-valueAfter numeral-nonzeroDigit numeral-judged numeral-prefixNumber numeral-numberOf ere_meaning-bestFrom ere_meaning-bestOf ere_meaning-inSome ere_meaning-accepts ere_meaning-places ere_grammar-lookup ere_grammar-escapeOf ere_grammar-isPlain ere_grammar-begins ere_grammar-tail ere_grammar-escapedByte ere_grammar-readEscape ere_grammar-readMember ere_grammar-joins ere_grammar-withRange ere_grammar-lastHyphen ere_grammar-rangeTo ere_grammar-afterByte ere_grammar-readItems ere_grammar-bracketOf ere_grammar-readBracket ere_grammar-onlyByte ere_grammar-readAtom ere_grammar-finished ere_grammar-repeated ere_grammar-afterAtom ere_grammar-afterGroup ere_grammar-afterBar ere_grammar-readGroup ere_grammar-readRest ere_grammar-whole ere_grammar-readEre splitting-nextField splitting-fieldsIn splitting-fieldsFrom splitting-fieldsOf splitting-blanks splitting-separatorOf splitting-splitOf splitting-spanOf image_format-codeOf image_format-coded image_format-takeGroups image_format-takeNumber image_format-readImage image_format-all image_format-written values-arithmeticOf values-negateOf values-toNumberOf values-notOf values-compareOf values-joinOf values-lengthOf values-indexOf values-between values-substrOf values-fieldNumber values-textOf values-numberOf values-numeric values-truthOf semantics-holdsFor semantics-check semantics-over semantics-lineOf semantics-passed semantics-full semantics-execute semantics-fromBetween semantics-move semantics-after semantics-runFor semantics-run semantics-assignable semantics-valueAt semantics-splitBy semantics-readRecord
-eight-cases = (
-  refl,
+-- a row, and those after it
+infixr 67 _and_
+abbrev _and_ : {A B : Type 0} → A → B → A × B
+a and b = (a, b)
+
+-- all three, so that the definitions are opened once
+computed : (Each OfCase eightCases) × ((Each OfValues valueRows) × (Each OfRun runRows))
+unfolding lists-nth lists-oneOf lists-leading lists-many buffer-firstByte buffer-startsWith buffer-firstPart
+    buffer-ordering buffer-equalBytes buffer-part number-sumOf number-differenceOf number-productOf
+    number-quotientOf number-remainderOf number-negationOf number-ranged numeral-digitsWithin
+    numeral-decimalDigits numeral-decimalText numeral-digitsFrom numeral-signLength numeral-wholeDigits
+    numeral-pointAt numeral-hasPoint numeral-fractionDigits numeral-prefixLength numeral-afterBlanks
+    numeral-blankAfter numeral-looksNumeric numeral-valueAfter numeral-nonzeroDigit numeral-judged
+    numeral-prefixNumber numeral-numberOf ere_meaning-bestFrom ere_meaning-bestOf ere_meaning-inSome
+    ere_meaning-accepts ere_meaning-places ere_grammar-lookup ere_grammar-escapeOf ere_grammar-isPlain
+    ere_grammar-begins ere_grammar-tail ere_grammar-escapedByte ere_grammar-readEscape ere_grammar-readMember
+    ere_grammar-joins ere_grammar-withRange ere_grammar-lastHyphen ere_grammar-rangeTo ere_grammar-afterByte
+    ere_grammar-readItems ere_grammar-bracketOf ere_grammar-readBracket ere_grammar-onlyByte
+    ere_grammar-readAtom ere_grammar-finished ere_grammar-repeated ere_grammar-afterAtom ere_grammar-afterGroup
+    ere_grammar-afterBar ere_grammar-readGroup ere_grammar-readRest ere_grammar-whole ere_grammar-readEre
+    splitting-nextField splitting-fieldsIn splitting-fieldsFrom splitting-fieldsOf splitting-blanks
+    splitting-separatorOf splitting-splitOf image_format-codeOf image_format-coded image_format-takeGroups
+    image_format-takeNumber image_format-readImage image_format-all image_format-written values-arithmeticOf
+    values-negateOf values-toNumberOf values-notOf values-compareOf values-joinOf values-lengthOf values-indexOf
+    values-between values-substrOf values-fieldNumber values-textOf values-numberOf values-numeric
+    values-truthOf semantics-holdsFor semantics-check semantics-over semantics-lineOf semantics-passed
+    semantics-full semantics-execute semantics-fromBetween semantics-move semantics-runFor semantics-run
+    semantics-assignable semantics-valueAt semantics-splitBy semantics-readRecord
+computed = (
+  refl and refl and refl and refl
+      and (refl, refl)
+      and (refl, refl)
+      and record { read = refl; written = refl; checked = refl }
+      and (refl, refl)
+      and tt,
   (
-    refl,
-    (
-      refl,
-      (
-        refl,
-        (
-          (refl, refl),
-          (
-            (refl, refl),
-            (
-              record { read = refl; written = refl; checked = refl },
-              ((refl, refl), tt),
-            ),
-          ),
-        ),
-      ),
-    ),
+    (refl and refl and refl and refl and refl and refl and refl and refl and refl and refl
+        and refl and refl and refl and refl and refl and refl and refl and refl and refl and refl
+        and refl and refl and refl and refl and refl and refl and refl and refl and refl and refl
+        and refl and refl and refl and refl and refl and refl and refl and refl and refl and refl
+        and refl and refl and refl and refl and refl and refl and refl and refl and refl and refl
+        and refl and refl and refl and refl and refl and refl and refl and refl and refl and refl
+        and refl and refl and refl and refl and refl and refl and refl and refl and refl and refl
+        and refl and refl and refl and refl and refl and refl and refl and refl and refl and refl
+        and refl and refl and refl and refl and refl and refl and refl and refl and refl and refl
+        and refl and refl and refl and refl and refl
+        and tt),
+    (refl and refl and refl and refl and refl and refl and refl and refl and refl and refl
+        and refl and refl and refl and refl and refl and refl and refl and refl and refl and refl
+        and refl and refl and refl and refl and refl and refl and refl and refl and refl and refl
+        and refl and refl and refl and refl and refl and refl and refl and refl and refl and refl
+        and refl and refl and refl and refl and refl and refl and refl and refl and refl and refl
+        and refl and refl and refl and refl and refl and refl and refl and refl and refl and refl
+        and refl and refl and refl and refl and refl and refl and refl and refl and refl and refl
+        and refl and refl and refl
+        and tt),
   ),
 )
+
+-- document 01's eight cases, one statement over their table
+pub eight-cases : Each OfCase eightCases
+eight-cases = computed .0
 
 -- the table of operations on values
 pub values-computed : Each OfValues valueRows
-unfolding lists-nth lists-oneOf lists-allBelow lists-leading lists-many buffer-firstByte buffer-startsWith buffer-firstPart buffer-ordering buffer-equalBytes buffer-part buffer-put number-sumOf number-differenceOf number-productOf number-quotientOf number-remainderOf number-negationOf number-ranged number-unbias numeral-capped numeral-judgedBy numeral-digitsWithin numeral-decimalDigits numeral-decimalText numeral-digitsFrom numeral-signLength numeral-wholeDigits numeral-pointAt numeral-hasPoint numeral-fractionDigits numeral-prefixLength numeral-afterBlanks numeral-blankAfter numeral-looksNumeric numeral-valueAfter numeral-nonzeroDigit numeral-judged numeral-prefixNumber numeral-numberOf ere_meaning-bestFrom ere_meaning-bestOf ere_meaning-inSome ere_meaning-accepts ere_meaning-places ere_grammar-lookup ere_grammar-escapeOf ere_grammar-isPlain ere_grammar-begins ere_grammar-tail ere_grammar-escapedByte ere_grammar-readEscape ere_grammar-readMember ere_grammar-joins ere_grammar-withRange ere_grammar-lastHyphen ere_grammar-rangeTo ere_grammar-afterByte ere_grammar-readItems ere_grammar-bracketOf ere_grammar-readBracket ere_grammar-onlyByte ere_grammar-readAtom ere_grammar-finished ere_grammar-repeated ere_grammar-afterAtom ere_grammar-afterGroup ere_grammar-afterBar ere_grammar-readGroup ere_grammar-readRest ere_grammar-whole ere_grammar-readEre splitting-nextField splitting-fieldsIn splitting-fieldsFrom splitting-fieldsOf splitting-blanks splitting-separatorOf splitting-splitOf splitting-spanOf image_format-codeOf image_format-coded image_format-takeGroups image_format-takeNumber image_format-readImage image_format-all image_format-written values-arithmeticOf values-negateOf values-toNumberOf values-notOf values-compareOf values-joinOf values-lengthOf values-indexOf values-between values-substrOf values-fieldNumber values-textOf values-numberOf values-numeric values-truthOf semantics-holdsFor semantics-check semantics-over semantics-lineOf semantics-passed semantics-full semantics-execute semantics-fromBetween semantics-move semantics-after semantics-runFor semantics-run semantics-assignable semantics-valueAt semantics-splitBy semantics-readRecord
-values-computed = (
-  refl,
-  (
-    refl,
-    (
-      refl,
-      (
-        refl,
-        (
-          refl,
-          (
-            refl,
-            (
-              refl,
-              (
-                refl,
-                (
-                  refl,
-                  (
-                    refl,
-                    (
-                      refl,
-                      (
-                        refl,
-                        (
-                          refl,
-                          (
-                            refl,
-                            (
-                              refl,
-                              (
-                                refl,
-                                (
-                                  refl,
-                                  (
-                                    refl,
-                                    (
-                                      refl,
-                                      (
-                                        refl,
-                                        (
-                                          refl,
-                                          (
-                                            refl,
-                                            (
-                                              refl,
-                                              (
-                                                refl,
-                                                (
-                                                  refl,
-                                                  (
-                                                    refl,
-                                                    (
-                                                      refl,
-                                                      (
-                                                        refl,
-                                                        (
-                                                          refl,
-                                                          (
-                                                            refl,
-                                                            (
-                                                              refl,
-                                                              (
-                                                                refl,
-                                                                (
-                                                                  refl,
-                                                                  (
-                                                                    refl,
-                                                                    (
-                                                                      refl,
-                                                                      (
-                                                                        refl,
-                                                                        (
-                                                                          refl,
-                                                                          (
-                                                                            refl,
-                                                                            (
-                                                                              refl,
-                                                                              (
-                                                                                refl,
-                                                                                (
-                                                                                  refl,
-                                                                                  (
-                                                                                    refl,
-                                                                                    (
-                                                                                      refl,
-                                                                                      (
-                                                                                        refl,
-                                                                                        (
-                                                                                          refl,
-                                                                                          (
-                                                                                            refl,
-                                                                                            (
-                                                                                              refl,
-                                                                                              (
-                                                                                                refl,
-                                                                                                (
-                                                                                                  refl,
-                                                                                                  (
-                                                                                                    refl,
-                                                                                                    (
-                                                                                                      refl,
-                                                                                                      (
-                                                                                                        refl,
-                                                                                                        (
-                                                                                                          refl,
-                                                                                                          (
-                                                                                                            refl,
-                                                                                                            (
-                                                                                                              refl,
-                                                                                                              (
-                                                                                                                refl,
-                                                                                                                (
-                                                                                                                  refl,
-                                                                                                                  (
-                                                                                                                    refl,
-                                                                                                                    (
-                                                                                                                      refl,
-                                                                                                                      (
-                                                                                                                        refl,
-                                                                                                                        (
-                                                                                                                          refl,
-                                                                                                                          (
-                                                                                                                            refl,
-                                                                                                                            (
-                                                                                                                              refl,
-                                                                                                                              (
-                                                                                                                                refl,
-                                                                                                                                (
-                                                                                                                                  refl,
-                                                                                                                                  (
-                                                                                                                                    refl,
-                                                                                                                                    (
-                                                                                                                                      refl,
-                                                                                                                                      (
-                                                                                                                                        refl,
-                                                                                                                                        (
-                                                                                                                                          refl,
-                                                                                                                                          (
-                                                                                                                                            refl,
-                                                                                                                                            (
-                                                                                                                                              refl,
-                                                                                                                                              (
-                                                                                                                                                refl,
-                                                                                                                                                (
-                                                                                                                                                  refl,
-                                                                                                                                                  (
-                                                                                                                                                    refl,
-                                                                                                                                                    (
-                                                                                                                                                      refl,
-                                                                                                                                                      (
-                                                                                                                                                        refl,
-                                                                                                                                                        (
-                                                                                                                                                          refl,
-                                                                                                                                                          (
-                                                                                                                                                            refl,
-                                                                                                                                                            (
-                                                                                                                                                              refl,
-                                                                                                                                                              (
-                                                                                                                                                                refl,
-                                                                                                                                                                (
-                                                                                                                                                                  refl,
-                                                                                                                                                                  (
-                                                                                                                                                                    refl,
-                                                                                                                                                                    (
-                                                                                                                                                                      refl,
-                                                                                                                                                                      (
-                                                                                                                                                                        refl,
-                                                                                                                                                                        (
-                                                                                                                                                                          refl,
-                                                                                                                                                                          (
-                                                                                                                                                                            refl,
-                                                                                                                                                                            (
-                                                                                                                                                                              refl,
-                                                                                                                                                                              (
-                                                                                                                                                                                refl,
-                                                                                                                                                                                (
-                                                                                                                                                                                  refl,
-                                                                                                                                                                                  (
-                                                                                                                                                                                    refl,
-                                                                                                                                                                                    (
-                                                                                                                                                                                      refl,
-                                                                                                                                                                                      (
-                                                                                                                                                                                        refl,
-                                                                                                                                                                                        (
-                                                                                                                                                                                          refl,
-                                                                                                                                                                                          (
-                                                                                                                                                                                            refl,
-                                                                                                                                                                                            (
-                                                                                                                                                                                              refl,
-                                                                                                                                                                                              tt,
-                                                                                                                                                                                            ),
-                                                                                                                                                                                          ),
-                                                                                                                                                                                        ),
-                                                                                                                                                                                      ),
-                                                                                                                                                                                    ),
-                                                                                                                                                                                  ),
-                                                                                                                                                                                ),
-                                                                                                                                                                              ),
-                                                                                                                                                                            ),
-                                                                                                                                                                          ),
-                                                                                                                                                                        ),
-                                                                                                                                                                      ),
-                                                                                                                                                                    ),
-                                                                                                                                                                  ),
-                                                                                                                                                                ),
-                                                                                                                                                              ),
-                                                                                                                                                            ),
-                                                                                                                                                          ),
-                                                                                                                                                        ),
-                                                                                                                                                      ),
-                                                                                                                                                    ),
-                                                                                                                                                  ),
-                                                                                                                                                ),
-                                                                                                                                              ),
-                                                                                                                                            ),
-                                                                                                                                          ),
-                                                                                                                                        ),
-                                                                                                                                      ),
-                                                                                                                                    ),
-                                                                                                                                  ),
-                                                                                                                                ),
-                                                                                                                              ),
-                                                                                                                            ),
-                                                                                                                          ),
-                                                                                                                        ),
-                                                                                                                      ),
-                                                                                                                    ),
-                                                                                                                  ),
-                                                                                                                ),
-                                                                                                              ),
-                                                                                                            ),
-                                                                                                          ),
-                                                                                                        ),
-                                                                                                      ),
-                                                                                                    ),
-                                                                                                  ),
-                                                                                                ),
-                                                                                              ),
-                                                                                            ),
-                                                                                          ),
-                                                                                        ),
-                                                                                      ),
-                                                                                    ),
-                                                                                  ),
-                                                                                ),
-                                                                              ),
-                                                                            ),
-                                                                          ),
-                                                                        ),
-                                                                      ),
-                                                                    ),
-                                                                  ),
-                                                                ),
-                                                              ),
-                                                            ),
-                                                          ),
-                                                        ),
-                                                      ),
-                                                    ),
-                                                  ),
-                                                ),
-                                              ),
-                                            ),
-                                          ),
-                                        ),
-                                      ),
-                                    ),
-                                  ),
-                                ),
-                              ),
-                            ),
-                          ),
-                        ),
-                      ),
-                    ),
-                  ),
-                ),
-              ),
-            ),
-          ),
-        ),
-      ),
-    ),
-  ),
-)
+values-computed = computed .1 .0
 
 -- the table of runs
 pub runs-computed : Each OfRun runRows
-unfolding lists-nth lists-oneOf lists-allBelow lists-leading lists-many buffer-firstByte buffer-startsWith buffer-firstPart buffer-ordering buffer-equalBytes buffer-part buffer-put number-sumOf number-differenceOf number-productOf number-quotientOf number-remainderOf number-negationOf number-ranged number-unbias numeral-capped numeral-judgedBy numeral-digitsWithin numeral-decimalDigits numeral-decimalText numeral-digitsFrom numeral-signLength numeral-wholeDigits numeral-pointAt numeral-hasPoint numeral-fractionDigits numeral-prefixLength numeral-afterBlanks numeral-blankAfter numeral-looksNumeric numeral-valueAfter numeral-nonzeroDigit numeral-judged numeral-prefixNumber numeral-numberOf ere_meaning-bestFrom ere_meaning-bestOf ere_meaning-inSome ere_meaning-accepts ere_meaning-places ere_grammar-lookup ere_grammar-escapeOf ere_grammar-isPlain ere_grammar-begins ere_grammar-tail ere_grammar-escapedByte ere_grammar-readEscape ere_grammar-readMember ere_grammar-joins ere_grammar-withRange ere_grammar-lastHyphen ere_grammar-rangeTo ere_grammar-afterByte ere_grammar-readItems ere_grammar-bracketOf ere_grammar-readBracket ere_grammar-onlyByte ere_grammar-readAtom ere_grammar-finished ere_grammar-repeated ere_grammar-afterAtom ere_grammar-afterGroup ere_grammar-afterBar ere_grammar-readGroup ere_grammar-readRest ere_grammar-whole ere_grammar-readEre splitting-nextField splitting-fieldsIn splitting-fieldsFrom splitting-fieldsOf splitting-blanks splitting-separatorOf splitting-splitOf splitting-spanOf image_format-codeOf image_format-coded image_format-takeGroups image_format-takeNumber image_format-readImage image_format-all image_format-written values-arithmeticOf values-negateOf values-toNumberOf values-notOf values-compareOf values-joinOf values-lengthOf values-indexOf values-between values-substrOf values-fieldNumber values-textOf values-numberOf values-numeric values-truthOf semantics-holdsFor semantics-check semantics-over semantics-lineOf semantics-passed semantics-full semantics-execute semantics-fromBetween semantics-move semantics-after semantics-runFor semantics-run semantics-assignable semantics-valueAt semantics-splitBy semantics-readRecord
-runs-computed = (
-  record { checked = refl; ran = refl },
-  (
-    record { checked = refl; ran = refl },
-    (
-      record { checked = refl; ran = refl },
-      (
-        record { checked = refl; ran = refl },
-        (
-          record { checked = refl; ran = refl },
-          (
-            record { checked = refl; ran = refl },
-            (
-              record { checked = refl; ran = refl },
-              (
-                record { checked = refl; ran = refl },
-                (
-                  record { checked = refl; ran = refl },
-                  (
-                    record { checked = refl; ran = refl },
-                    (
-                      record { checked = refl; ran = refl },
-                      (
-                        record { checked = refl; ran = refl },
-                        (
-                          record { checked = refl; ran = refl },
-                          (
-                            record { checked = refl; ran = refl },
-                            (
-                              record { checked = refl; ran = refl },
-                              (
-                                record { checked = refl; ran = refl },
-                                (
-                                  record { checked = refl; ran = refl },
-                                  (
-                                    record { checked = refl; ran = refl },
-                                    (
-                                      record { checked = refl; ran = refl },
-                                      (
-                                        record { checked = refl; ran = refl },
-                                        (
-                                          record { checked = refl; ran = refl },
-                                          (
-                                            record { checked = refl; ran = refl },
-                                            (
-                                              record { checked = refl; ran = refl },
-                                              (
-                                                record { checked = refl; ran = refl },
-                                                (
-                                                  record { checked = refl; ran = refl },
-                                                  (
-                                                    record { checked = refl; ran = refl },
-                                                    (
-                                                      record { checked = refl; ran = refl },
-                                                      (
-                                                        record { checked = refl; ran = refl },
-                                                        (
-                                                          record { checked = refl; ran = refl },
-                                                          (
-                                                            record { checked = refl; ran = refl },
-                                                            (
-                                                              record { checked = refl; ran = refl },
-                                                              (
-                                                                record { checked = refl; ran = refl },
-                                                                (
-                                                                  record { checked = refl; ran = refl },
-                                                                  (
-                                                                    record { checked = refl; ran = refl },
-                                                                    (
-                                                                      record { checked = refl; ran = refl },
-                                                                      (
-                                                                        record { checked = refl; ran = refl },
-                                                                        (
-                                                                          record { checked = refl; ran = refl },
-                                                                          (
-                                                                            record { checked = refl; ran = refl },
-                                                                            (
-                                                                              record { checked = refl; ran = refl },
-                                                                              (
-                                                                                record { checked = refl; ran = refl },
-                                                                                (
-                                                                                  record { checked = refl; ran = refl },
-                                                                                  (
-                                                                                    record { checked = refl; ran = refl },
-                                                                                    (
-                                                                                      record { checked = refl; ran = refl },
-                                                                                      (
-                                                                                        record { checked = refl; ran = refl },
-                                                                                        (
-                                                                                          record { checked = refl; ran = refl },
-                                                                                          (
-                                                                                            record { checked = refl; ran = refl },
-                                                                                            (
-                                                                                              record { checked = refl; ran = refl },
-                                                                                              (
-                                                                                                record { checked = refl; ran = refl },
-                                                                                                (
-                                                                                                  record { checked = refl; ran = refl },
-                                                                                                  (
-                                                                                                    record { checked = refl; ran = refl },
-                                                                                                    (
-                                                                                                      record { checked = refl; ran = refl },
-                                                                                                      (
-                                                                                                        record { checked = refl; ran = refl },
-                                                                                                        (
-                                                                                                          record { checked = refl; ran = refl },
-                                                                                                          (
-                                                                                                            record { checked = refl; ran = refl },
-                                                                                                            (
-                                                                                                              record { checked = refl; ran = refl },
-                                                                                                              (
-                                                                                                                record { checked = refl; ran = refl },
-                                                                                                                (
-                                                                                                                  record { checked = refl; ran = refl },
-                                                                                                                  (
-                                                                                                                    record { checked = refl; ran = refl },
-                                                                                                                    (
-                                                                                                                      record { checked = refl; ran = refl },
-                                                                                                                      (
-                                                                                                                        record { checked = refl; ran = refl },
-                                                                                                                        (
-                                                                                                                          record { checked = refl; ran = refl },
-                                                                                                                          (
-                                                                                                                            record { checked = refl; ran = refl },
-                                                                                                                            (
-                                                                                                                              record { checked = refl; ran = refl },
-                                                                                                                              (
-                                                                                                                                record { checked = refl; ran = refl },
-                                                                                                                                (
-                                                                                                                                  record { checked = refl; ran = refl },
-                                                                                                                                  (
-                                                                                                                                    record { checked = refl; ran = refl },
-                                                                                                                                    (
-                                                                                                                                      record { checked = refl; ran = refl },
-                                                                                                                                      (
-                                                                                                                                        record { checked = refl; ran = refl },
-                                                                                                                                        (
-                                                                                                                                          record { checked = refl; ran = refl },
-                                                                                                                                          (
-                                                                                                                                            record { checked = refl; ran = refl },
-                                                                                                                                            (
-                                                                                                                                              record { checked = refl; ran = refl },
-                                                                                                                                              (
-                                                                                                                                                record { checked = refl; ran = refl },
-                                                                                                                                                (
-                                                                                                                                                  record { checked = refl; ran = refl },
-                                                                                                                                                  tt,
-                                                                                                                                                ),
-                                                                                                                                              ),
-                                                                                                                                            ),
-                                                                                                                                          ),
-                                                                                                                                        ),
-                                                                                                                                      ),
-                                                                                                                                    ),
-                                                                                                                                  ),
-                                                                                                                                ),
-                                                                                                                              ),
-                                                                                                                            ),
-                                                                                                                          ),
-                                                                                                                        ),
-                                                                                                                      ),
-                                                                                                                    ),
-                                                                                                                  ),
-                                                                                                                ),
-                                                                                                              ),
-                                                                                                            ),
-                                                                                                          ),
-                                                                                                        ),
-                                                                                                      ),
-                                                                                                    ),
-                                                                                                  ),
-                                                                                                ),
-                                                                                              ),
-                                                                                            ),
-                                                                                          ),
-                                                                                        ),
-                                                                                      ),
-                                                                                    ),
-                                                                                  ),
-                                                                                ),
-                                                                              ),
-                                                                            ),
-                                                                          ),
-                                                                        ),
-                                                                      ),
-                                                                    ),
-                                                                  ),
-                                                                ),
-                                                              ),
-                                                            ),
-                                                          ),
-                                                        ),
-                                                      ),
-                                                    ),
-                                                  ),
-                                                ),
-                                              ),
-                                            ),
-                                          ),
-                                        ),
-                                      ),
-                                    ),
-                                  ),
-                                ),
-                              ),
-                            ),
-                          ),
-                        ),
-                      ),
-                    ),
-                  ),
-                ),
-              ),
-            ),
-          ),
-        ),
-      ),
-    ),
-  ),
-)
+runs-computed = computed .1 .1

@@ -60,9 +60,12 @@ abbrev pub unchecked : String → Image → List ℕ → Option Answer → Row
 unchecked what i input answer =
     record { filter = what; image = i; checks = false; budget = 100; room = 100; begun = 0; input = input; answer = answer }
 
-pub record Claim (r : Row) : Type 0 where
-  pub checked : check (r .image) ≡ r .checks
-  pub ran : answerOf (run (r .image) (r .budget) (feed (r .input) (r .begun)) (r .room)) ≡ r .answer
+-- whether the image passes the check, and the answer
+abbrev pub seen : Row → Bool × (Option Answer)
+seen r = (check (r .image), answerOf (run (r .image) (r .budget) (feed (r .input) (r .begun)) (r .room)))
+
+abbrev pub Claim : Row → Type 0
+Claim r = seen r ≡ (r .checks, r .answer)
 
 -- so many bytes, all the same
 abbrev pub repeated : ℕ → ℕ → List ℕ
