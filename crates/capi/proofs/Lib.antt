@@ -1,4 +1,3 @@
 -- Laws on what the C functions answer.
 pub mod Within
-pub mod Splits
 pub mod Copying

@@ -1,4 +1,2 @@
--- What the C functions answer and store.
+-- What the C functions take as given of the answers that they store.
 pub mod Match
-pub mod Split
-pub mod Images

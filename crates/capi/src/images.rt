@@ -1,15 +1,15 @@
 // Reading, writing and checking images, for C.
 ghost use mathlib.Core.Path.{_≡_};
-ghost use Rattle.image.specs.Copy.{copying, readOf, writtenOf};
+ghost use mathlib.Core.List.{[]};
+ghost use Rattle.image.specs.Copy.{copying, copyingOf, readOf, writtenOf};
 ghost use Rattle.image_check.specs.Verdict.{outcomeOf, checkOf};
-ghost use Rattle.capi.specs.Images.{outcomeIn, lengthIn};
 use edition::Outcome;
 use image::Copied;
 use image_check::Verdict;
 
 // The number of an answer's outcome.
 fn outcome_of(c: Copied) -> u64
-    ensures { λ r. ⌜ r ≡ outcomeIn c ⌝ }
+    ensures { λ r. ⌜ r ≡ copyingOf c [] .outcome ⌝ }
 {
     match c {
         Copied::Written(n) => Outcome::DONE,
@@ -20,7 +20,7 @@ fn outcome_of(c: Copied) -> u64
 
 // The length written, 0 on a refusal.
 fn length_of(c: Copied) -> u64
-    ensures { λ r. ⌜ r ≡ lengthIn c ⌝ }
+    ensures { λ r. ⌜ r ≡ copyingOf c [] .length ⌝ }
 {
     match c {
         Copied::Written(n) => n as u64,
@@ -32,7 +32,8 @@ fn length_of(c: Copied) -> u64
 // The content of an image.
 #[no_mangle]
 pub extern "C" fn flowawk_read(image: &[u8], content: &mut [u64], written: &mut u64) -> u64
-    ensures { λ r. ⌜ copying r (now (written .exit)) (now (content .exit)) ≡ readOf (now (image .entry)) (now (content .entry)) ⌝ }
+    ensures { λ r. ⌜ copying r (now (written .exit)) (now (content .exit))
+        ≡ readOf (now (image .entry)) (now (content .entry)) ⌝ }
 {
     let c = image::read(image, content);
     *written = length_of(c);
@@ -42,7 +43,8 @@ pub extern "C" fn flowawk_read(image: &[u8], content: &mut [u64], written: &mut 
 // The bytes of an image, from its content.
 #[no_mangle]
 pub extern "C" fn flowawk_write(content: &[u64], image: &mut [u8], written: &mut u64) -> u64
-    ensures { λ r. ⌜ copying r (now (written .exit)) (now (image .exit)) ≡ writtenOf (now (content .entry)) (now (image .entry)) ⌝ }
+    ensures { λ r. ⌜ copying r (now (written .exit)) (now (image .exit))
+        ≡ writtenOf (now (content .entry)) (now (image .entry)) ⌝ }
 {
     let c = image::write(content, image);
     *written = length_of(c);

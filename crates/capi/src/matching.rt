@@ -1,6 +1,9 @@
 // The match of an ERE in a text, for C.
 ghost use mathlib.Core.Path.{_≡_};
-ghost use Rattle.capi.specs.Match.{numbers, without, numbersOf, matchOf, Within};
+ghost use Rattle.edition.specs.Limits.{firstEdition};
+ghost use Rattle.ere.specs.Answer.{matching, matchingOf, searchOf};
+ghost use Rattle.ere.specs.Answer.{without as withoutMatch};
+ghost use Rattle.capi.specs.Match.{Within};
 use edition::Outcome;
 use ere::Matched;
 
@@ -13,7 +16,7 @@ pub struct MatchAnswer {
 
 // The numbers where there is no match.
 fn without(outcome: u64) -> MatchAnswer
-    ensures { λ r. ⌜ r ≡ without outcome ⌝ }
+    ensures { λ r. ⌜ matching (r .outcome) (r .rstart) (r .rlength) ≡ withoutMatch outcome ⌝ }
 {
     MatchAnswer {
         outcome,
@@ -24,8 +27,8 @@ fn without(outcome: u64) -> MatchAnswer
 
 // The numbers of a search's answer.
 fn numbers_of(m: Matched) -> MatchAnswer
-    requires { ⌜ Within m ⌝ }
-    ensures { λ r. ⌜ r ≡ numbersOf m ⌝ }
+    requires { ⌜ Within (matchingOf m) ⌝ }
+    ensures { λ r. ⌜ matching (r .outcome) (r .rstart) (r .rlength) ≡ matchingOf m ⌝ }
 {
     match m {
         Matched::At(start, length) => {
@@ -46,7 +49,8 @@ fn numbers_of(m: Matched) -> MatchAnswer
 // The leftmost, longest match of the ERE in the text, by the first edition.
 #[no_mangle]
 pub extern "C" fn flowawk_match(ere: &[u8], text: &[u8], rstart: &mut u64, rlength: &mut i64) -> u64
-    ensures { λ r. ⌜ numbers r (now (rstart .exit)) (now (rlength .exit)) ≡ matchOf (now (ere .entry)) (now (text .entry)) ⌝ }
+    ensures { λ r. ⌜ matching r (now (rstart .exit)) (now (rlength .exit))
+        ≡ searchOf firstEdition (now (ere .entry)) (now (text .entry)) ⌝ }
 {
     let n = numbers_of(ere::search(ere, text));
     let length = n.rlength;

@@ -1,16 +1,15 @@
 // The fields of a record, for C.
 ghost use mathlib.Core.Path.{_≡_};
-ghost use lib.ListN.{length as length'};
 ghost use Rattle.edition.specs.Limits.{firstEdition};
 ghost use Rattle.splitting.specs.Field.{span};
-ghost use Rattle.splitting.specs.Splitting.{splitOf, outcomeOf, countOf, spanOf};
-ghost use Rattle.capi.specs.Split.{outcomeIn, countIn};
+ghost use Rattle.splitting.specs.Splitting.{splitOf, counting, countOf, fieldOf};
+ghost use Rattle.fields.specs.Answer.{countingOf};
 use edition::Outcome;
 use fields::Splitting;
 
 // The number of a split's outcome.
 fn outcome_of(s: Splitting) -> u64
-    ensures { λ r. ⌜ r ≡ outcomeIn s ⌝ }
+    ensures { λ r. ⌜ r ≡ countingOf s .outcome ⌝ }
 {
     match s {
         Splitting::Fields(n) => Outcome::DONE,
@@ -22,7 +21,7 @@ fn outcome_of(s: Splitting) -> u64
 
 // How many fields there are, 0 of a refused record.
 fn count_of(s: Splitting) -> u64
-    ensures { λ r. ⌜ r ≡ countIn s ⌝ }
+    ensures { λ r. ⌜ r ≡ countingOf s .count ⌝ }
 {
     match s {
         Splitting::Fields(n) => n as u64,
@@ -35,8 +34,8 @@ fn count_of(s: Splitting) -> u64
 // Splits a record, by the first edition.
 #[no_mangle]
 pub extern "C" fn flowawk_split(record: &[u8], fs: &[u8], count: &mut u64) -> u64
-    ensures { λ r. ⌜ (r ≡ outcomeOf (splitOf firstEdition (now (fs .entry)) (now («record» .entry))))
-        × (now (count .exit) ≡ countOf (splitOf firstEdition (now (fs .entry)) (now («record» .entry)))) ⌝ }
+    ensures { λ r. ⌜ counting r (now (count .exit))
+        ≡ countOf (splitOf firstEdition (now (fs .entry)) (now («record» .entry))) ⌝ }
 {
     let s = fields::split(record, fs);
     *count = count_of(s);
@@ -52,8 +51,9 @@ pub extern "C" fn flowawk_field(
     start: &mut u64,
     length: &mut u64,
 ) -> u64
-    ensures { λ r. ⌜ (r ≡ outcomeOf (splitOf firstEdition (now (fs .entry)) (now («record» .entry))))
-        × (span (now (start .exit)) (now (length .exit)) ≡ spanOf (length' (now («record» .entry))) k (splitOf firstEdition (now (fs .entry)) (now («record» .entry)))) ⌝ }
+    ensures { λ r. ⌜ (r ≡ countOf (splitOf firstEdition (now (fs .entry)) (now («record» .entry))) .outcome)
+        × (span (now (start .exit)) (now (length .exit))
+        ≡ fieldOf firstEdition (now (fs .entry)) (now («record» .entry)) k) ⌝ }
 {
     let f = fields::locate(record, fs, k as usize);
     let s = f.splitting;

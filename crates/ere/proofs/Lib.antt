@@ -1,3 +1,4 @@
 -- Whole EREs, and the answers of a search.
 pub mod Whole
 pub mod Serving
+pub mod Cases

@@ -7,6 +7,7 @@ use Prim.Native.Nat.{ℕ, _≤_, _<_, zero-le}
 use lib.ListN.{length, getD, drop}
 use borrow.Author.Tests.{le-leb, lt-leb}
 use Rattle.edition.specs.Limits.{textBytes, erePlaces}
+use Rattle.edition.specs.Outcomes.{textTooLong}
 use Rattle.ere_meaning.specs.Tree.{Class, accepts, Ere}
 use Rattle.ere_meaning.specs.Meaning.{Leads}
 use Rattle.ere_meaning.specs.Search.{bestFrom, bestOf}
@@ -17,7 +18,7 @@ use Rattle.ere_search.specs.Any.{isMatch, Exists}
 use Rattle.ere_search.specs.declared.search.Found.{Found}
 use Rattle.ere_search.proofs.Answers.{answer}
 use Rattle.ere_parser.specs.Built.{Agrees, at-place, at-bol, at-eol, in-cat, in-alt, in-star, in-plus, in-opt}
-use Rattle.ere.specs.Answer.{matched, judged, searchOf, Serves, Compiles, Bytes}
+use Rattle.ere.specs.Answer.{without, matchingOf, bestMatching, judged, searchOf, Serves, Compiles, Bytes}
 use Rattle.ere.specs.declared.matching.Matched.the-variants.{BadEre, LongText}
 
 module _ (t text : List ℕ) (bytes : Bytes text) (lo hi : ℕ) where
@@ -65,18 +66,24 @@ serves-exists t r e text s f bytes =
 -- ---- the answers of a search
 
 module _ (edition : ℕ) (ere text t : List ℕ) where
-  pub searched-bad : Compiles edition ere t false → BadEre ≡ searchOf edition ere text
+  pub searched-bad : Compiles edition ere t false → matchingOf BadEre ≡ searchOf edition ere text
   searched-bad c = ap (judged text) (sym (c .refused refl))
 
-  pub searched-long : (c : Compiles edition ere t true) → textBytes < length text → LongText ≡ searchOf edition ere text
+  pub searched-long : (c : Compiles edition ere t true) → textBytes < length text
+      → matchingOf LongText ≡ searchOf edition ere text
   searched-long c h =
       let r = c .read refl in
-      ap (λ (b : Bool). cond b (matched (bestOf accepts text (r .0))) LongText) (sym (lt-leb (length text) textBytes h)) ∙ ap (judged text) (sym (r .1))
+      ap (λ (b : Bool). cond b (bestMatching (bestOf accepts text (r .0))) (without textTooLong))
+      (sym (lt-leb (length text) textBytes h))
+      ∙ ap (judged text) (sym (r .1))
 
-  pub searched-found : (c : Compiles edition ere t true) → length text ≤ textBytes → Bytes text → (x : Found) → Finds t text 0 0 x → matched (matchOf x) ≡ searchOf edition ere text
+  pub searched-found : (c : Compiles edition ere t true) → length text ≤ textBytes → Bytes text
+      → (x : Found) → Finds t text 0 0 x
+      → bestMatching (matchOf x) ≡ searchOf edition ere text
   unfolding bestOf
   searched-found c h bytes x f =
       let r = c .read refl in
-      ap matched (serves-answer t text 0 0 x (r .0) text (r .2) f bytes zero-le refl)
-      ∙ ap (λ (b : Bool). cond b (matched (bestOf accepts text (r .0))) LongText) (sym (le-leb (length text) textBytes h))
+      ap bestMatching (serves-answer t text 0 0 x (r .0) text (r .2) f bytes zero-le refl)
+      ∙ ap (λ (b : Bool). cond b (bestMatching (bestOf accepts text (r .0))) (without textTooLong))
+      (sym (le-leb (length text) textBytes h))
       ∙ ap (judged text) (sym (r .1))

@@ -3,7 +3,7 @@ ghost use mathlib.Core.Path.{_≡_};
 ghost use lib.ListN.{length};
 ghost use Rattle.edition.specs.Limits.{firstEdition};
 ghost use Rattle.ere_table.specs.Table.{tableWords};
-ghost use Rattle.ere.specs.Answer.{searchOf, Compiles};
+ghost use Rattle.ere.specs.Answer.{matchingOf, searchOf, Compiles};
 use edition::Edition;
 use ere_search::Found;
 
@@ -42,7 +42,7 @@ pub fn compile(ere: &[u8], edition: Edition, t: &mut [u64]) -> bool
 
 // The leftmost, longest match of the ERE in the text, by the first edition.
 pub fn search(ere: &[u8], text: &[u8]) -> Matched
-    ensures { λ r. ⌜ r ≡ searchOf firstEdition (now (ere .entry)) (now (text .entry)) ⌝ }
+    ensures { λ r. ⌜ matchingOf r ≡ searchOf firstEdition (now (ere .entry)) (now (text .entry)) ⌝ }
 {
     let mut t = [0u64; ere_table::TABLE_WORDS];
     let edition = Edition {

@@ -14,9 +14,10 @@ use Rattle.buffer.proofs.Lent.{part-lent}
 use Rattle.splitting.specs.Separator.{Separator, separatorOf}
 use Rattle.splitting.specs.Field.{Span, span, fieldsOf}
 use Rattle.splitting.specs.Meaning.{Ordered}
-use Rattle.splitting.specs.Splitting.{Split, fields, long-record, many-fields, fieldAt, counted, separated, splitOf, spanOf, textOf}
+use Rattle.splitting.specs.Splitting.{Split, fields, long-record, many-fields, fieldAt, counted, separated}
+use Rattle.splitting.specs.Splitting.{splitOf, countOf, spanOf, textOf}
 use Rattle.splitting.proofs.Turns.{ordered}
-use Rattle.fields.specs.Answer.{answer, placeOf}
+use Rattle.fields.specs.Answer.{countingOf, placeOf}
 use Rattle.fields.specs.Spread.{withSpans, roomOf}
 use Rattle.fields.specs.declared.entries.Splitting.the-variants.{Fields}
 use Rattle.fields.proofs.Located.{field-whole, field-past, field-inside}
@@ -24,7 +25,8 @@ use Rattle.fields.proofs.Entering.{Has, has-split}
 
 -- ---- read off the room
 
-module _ (edition : ℕ) (separator text room₀ : List ℕ) (k n : ℕ) (h : Fields n ≡ answer (splitOf edition separator text)) where
+module _ (edition : ℕ) (separator text room₀ : List ℕ) (k n : ℕ)
+    (h : countingOf (Fields n) ≡ countOf (splitOf edition separator text)) where
   has : Has n (splitOf edition separator text) room₀ (k - 1) (roomOf edition separator text (k - 1) room₀)
   has = has-split edition separator text room₀ (k - 1) n h
 

@@ -1,4 +1,4 @@
--- The turns of `spread`: what is written and what is left make all fields.
+-- The turns of `split_into`: what is written and what is left make all fields.
 use mathlib.Core.Path.{_≡_, refl, sym, ap, _∙_}
 use mathlib.Core.Bool.{Bool, true, false, cond, _&&_}
 use mathlib.Core.List.{List, [], _∷_}
@@ -34,7 +34,7 @@ abbrev pub Held : List ℕ → Separator → List ℕ → ℕ → ℕ → ℕ �
 Held text s room₀ first at n room =
     (length (fieldsOf text s) ≡ n + length (fieldsFrom text s at)) × (withSpans room₀ first 0 (fieldsOf text s) ≡ withSpans room first n (fieldsFrom text s at))
 
--- what `spread` answers
+-- what `split_into` answers
 abbrev pub Spreads : List ℕ → Separator → List ℕ → ℕ → ℕ → List ℕ → Type 0
 Spreads text s room₀ first r room = (r ≡ upToMany (length (fieldsOf text s))) × (room ≡ withSpans room₀ first 0 (fieldsOf text s))
 

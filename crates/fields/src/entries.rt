@@ -6,8 +6,8 @@ ghost use Rattle.edition.specs.Limits.{firstEdition};
 ghost use Rattle.ere_table.specs.Table.{tableWords};
 ghost use Rattle.splitting.specs.Separator.{separatorOf};
 ghost use Rattle.splitting.specs.Field.{span};
-ghost use Rattle.splitting.specs.Splitting.{separated, splitOf, spanOf, textOf};
-ghost use Rattle.fields.specs.Answer.{answer, placeOf};
+ghost use Rattle.splitting.specs.Splitting.{separated, splitOf, countOf, fieldOf, textOf};
+ghost use Rattle.fields.specs.Answer.{countingOf, placeOf};
 ghost use Rattle.fields.specs.Spread.{spansOf, roomOf};
 use crate::spans as spreading;
 use edition::Edition;
@@ -28,7 +28,8 @@ pub struct Located {
     pub size: usize,
 }
 
-// Splits a record that isn't too long, with a room for the fields from `first` on. The table is for a separator that is an ERE.
+// Splits a record that isn't too long, with a room for the fields from `first` on. The table is for a separator that is
+// an ERE.
 fn split_with(
     record: &[u8],
     separator: &[u8],
@@ -38,8 +39,11 @@ fn split_with(
     spans: &mut [usize],
 ) -> Splitting
     requires { ⌜ (1 < length (now separator) → length (now t) ≡ tableWords) ⌝ }
-    ensures { λ r. ⌜ (r ≡ answer (separated (now («record» .entry)) (separatorOf (edition .number) (now (separator .entry)))))
-        × (now (spans .exit) ≡ spansOf (now (spans .entry)) first (now («record» .entry)) (separatorOf (edition .number) (now (separator .entry)))) ⌝ }
+    ensures { λ r. ⌜ (countingOf r
+        ≡ countOf (separated (now («record» .entry)) (separatorOf (edition .number) (now (separator .entry)))))
+        × (now (spans .exit)
+        ≡ spansOf (now (spans .entry)) first (now («record» .entry))
+        (separatorOf (edition .number) (now (separator .entry)))) ⌝ }
 {
     let kind = separators::kind_of(separator, edition, t);
     if let Kind::Refused = kind {
@@ -52,10 +56,12 @@ fn split_with(
     Splitting::Fields(n)
 }
 
-// Splits a record, by the first edition. A separator of one byte needs no table, and making one takes longer than such a split.
+// Splits a record, by the first edition. A separator of one byte needs no table, and making one takes longer than such
+// a split.
 fn split_record(record: &[u8], separator: &[u8], first: usize, spans: &mut [usize]) -> Splitting
-    ensures { λ r. ⌜ (r ≡ answer (splitOf firstEdition (now (separator .entry)) (now («record» .entry))))
-        × (now (spans .exit) ≡ roomOf firstEdition (now (separator .entry)) (now («record» .entry)) first (now (spans .entry))) ⌝ }
+    ensures { λ r. ⌜ (countingOf r ≡ countOf (splitOf firstEdition (now (separator .entry)) (now («record» .entry))))
+        × (now (spans .exit)
+        ≡ roomOf firstEdition (now (separator .entry)) (now («record» .entry)) first (now (spans .entry))) ⌝ }
 {
     let edition = Edition {
         number: Edition::FIRST,
@@ -73,7 +79,7 @@ fn split_record(record: &[u8], separator: &[u8], first: usize, spans: &mut [usiz
 
 // The outcome of splitting a record, with the number of its fields.
 pub fn split(record: &[u8], separator: &[u8]) -> Splitting
-    ensures { λ r. ⌜ r ≡ answer (splitOf firstEdition (now (separator .entry)) (now («record» .entry))) ⌝ }
+    ensures { λ r. ⌜ countingOf r ≡ countOf (splitOf firstEdition (now (separator .entry)) (now («record» .entry))) ⌝ }
 {
     let mut none = [0usize; 1];
     split_record(record, separator, 0, &mut none)
@@ -89,10 +95,12 @@ fn previous(k: usize) -> usize
     k - 1
 }
 
-// The span of field k, and the outcome of splitting the record. Fields are counted from 1 here, so the room is for the one before k alone.
+// The span of field k, and the outcome of splitting the record. Fields are counted from 1 here, so the room is for the
+// one before k alone.
 pub fn locate(record: &[u8], separator: &[u8], k: usize) -> Located
-    ensures { λ r. ⌜ (r .splitting ≡ answer (splitOf firstEdition (now (separator .entry)) (now («record» .entry))))
-        × (span (r .start) (r .size) ≡ spanOf (length (now («record» .entry))) k (splitOf firstEdition (now (separator .entry)) (now («record» .entry)))) ⌝ }
+    ensures { λ r. ⌜ (countingOf (r .splitting)
+        ≡ countOf (splitOf firstEdition (now (separator .entry)) (now («record» .entry))))
+        × (span (r .start) (r .size) ≡ fieldOf firstEdition (now (separator .entry)) (now («record» .entry)) k) ⌝ }
 {
     let mut spans = [0usize; 2];
     let end = record.len();
@@ -122,8 +130,10 @@ pub fn locate(record: &[u8], separator: &[u8], k: usize) -> Located
 
 // Field k of a record, as a part of the record.
 pub fn field<'a, 'b>(record: &'a [u8], separator: &'b [u8], k: usize) -> &'a [u8]
-    ensures { λ r. ⌜ (now r ≡ textOf (now («record» .entry)) (spanOf (length (now («record» .entry))) k (splitOf firstEdition (now (separator .entry)) (now («record» .entry)))))
-        × (r .ptr ≡ placeOf («record» .entry .ptr) (spanOf (length (now («record» .entry))) k (splitOf firstEdition (now (separator .entry)) (now («record» .entry))))) ⌝ }
+    ensures { λ r. ⌜ (now r
+        ≡ textOf (now («record» .entry)) (fieldOf firstEdition (now (separator .entry)) (now («record» .entry)) k))
+        × (r .ptr
+        ≡ placeOf («record» .entry .ptr) (fieldOf firstEdition (now (separator .entry)) (now («record» .entry)) k)) ⌝ }
 {
     let f = locate(record, separator, k);
     let start = f.start;

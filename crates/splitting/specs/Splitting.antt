@@ -28,18 +28,20 @@ separated text (some s) = counted (fieldsOf text s)
 unfoldable pub splitOf : ℕ → List ℕ → List ℕ → Split
 splitOf edition separator text = cond (leb (length text) recordBytes) (separated text (separatorOf edition separator)) long-record
 
--- the outcome's number, and the count
-abbrev pub outcomeOf : Split → ℕ
-outcomeOf (fields fs) = done
-outcomeOf long-record = recordTooLong
-outcomeOf bad-separator = badSeparator
-outcomeOf many-fields = badFieldNumber
+-- the outcome, and the count of fields
+pub record Counting : Type 0 where
+  pub outcome : ℕ
+  pub count : ℕ
 
-abbrev pub countOf : Split → ℕ
-countOf (fields fs) = length fs
-countOf long-record = 0
-countOf bad-separator = 0
-countOf many-fields = 0
+abbrev pub counting : ℕ → ℕ → Counting
+counting o n = record { outcome = o; count = n }
+
+-- "15, 18, 16, count 0"
+abbrev pub countOf : Split → Counting
+countOf (fields fs) = counting done (length fs)
+countOf long-record = counting recordTooLong 0
+countOf bad-separator = counting badSeparator 0
+countOf many-fields = counting badFieldNumber 0
 
 -- field k of a record of so many bytes
 abbrev pub fieldAt : ℕ → List Span → ℕ → Span
@@ -51,6 +53,10 @@ spanOf end k (fields fs) = fieldAt end fs k
 spanOf end k long-record = span end 0
 spanOf end k bad-separator = span end 0
 spanOf end k many-fields = span end 0
+
+-- where field k of a record is
+abbrev pub fieldOf : ℕ → List ℕ → List ℕ → ℕ → Span
+fieldOf edition separator text k = spanOf (length text) k (splitOf edition separator text)
 
 -- the bytes of a span
 abbrev pub textOf : List ℕ → Span → List ℕ

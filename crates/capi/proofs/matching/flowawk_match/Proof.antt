@@ -3,7 +3,9 @@ use mathlib.Core.Path.{subst⁻¹, ap, _∙_}
 use lib.IntN.{ℤ}
 use mir.Syntax.{w64}
 use mir.ValLaws.{toZ-ofZ}
-use Rattle.capi.specs.Match.{numbers, numbersOf, Within}
+use Rattle.edition.specs.Limits.{firstEdition}
+use Rattle.ere.specs.Answer.{matching}
+use Rattle.capi.specs.Match.{Within}
 use Rattle.capi.proofs.Within.{search-within}
 use borrow.Author.Needs.{needs}
 use Rattle.capi.proofs.matching.flowawk_match.Statement.{statement}
@@ -13,14 +15,15 @@ search-requires : tie.Need-search-requires
 search-requires c κs = search needs
 
 numbers-of-requires : tie.Need-numbers-of-requires
-numbers-of-requires c κs = subst⁻¹ Within (c .search .ensures) (search-within 1 _ _)
+numbers-of-requires c κs = subst⁻¹ Within (c .search .ensures) (search-within firstEdition _ _)
 
 returns : tie.Need-returns
 returns c =
     let n = c .before .numbers-of .result in
-    ap (λ (z : ℤ). numbers (n .outcome) (n .rstart) z) (toZ-ofZ w64 (n .rlength) (record { sfits = c .struct-told .given .1 .1 .0 .1 }))
+    ap (λ (z : ℤ). matching (n .outcome) (n .rstart) z)
+    (toZ-ofZ w64 (n .rlength) (record { sfits = c .struct-told .given .1 .1 .0 .1 }))
     ∙ (c .before .numbers-of .ensures
-    ∙ ap numbersOf (c .before .before .search .ensures))
+    ∙ c .before .before .search .ensures)
 
 pub flowawk-match-spec : {M : Type 1} → statement M
 flowawk-match-spec = tie.close (tie.spec search-requires numbers-of-requires returns)

@@ -6,7 +6,7 @@ use lib.IntN.{ℤ}
 use mir.Syntax.{w64}
 use mir.ValLaws.{toZ-pos}
 use Rattle.edition.specs.Outcomes.{done}
-use Rattle.capi.specs.Match.{numbers, numbersOf}
+use Rattle.ere.specs.Answer.{matching, matchingOf}
 use Rattle.capi.proofs.Within.{within-at}
 use borrow.Author.Needs.{needs}
 use Rattle.capi.proofs.matching.numbers_of.Statement.{statement}
@@ -42,16 +42,18 @@ without-requires-3 c κs = search needs
 returns : tie.Need-returns
 returns c =
     let g = c .before .m .given in
-    ap (λ (z : ℤ). numbers done (g .0 .0 + 1) z) (toZ-pos w64 _ (omega (arith, within-at (g .1) (c .before .before .before .pre)))) ∙ ap numbersOf (sym (g .1))
+    ap (λ (z : ℤ). matching done (g .0 .0 + 1) z)
+    (toZ-pos w64 _ (omega (arith, within-at (g .1) (c .before .before .before .pre))))
+    ∙ ap matchingOf (sym (g .1))
 
 returns-2 : tie.Need-returns-2
-returns-2 c = c .without .ensures ∙ ap numbersOf (sym (c .before .enum-told .given .1))
+returns-2 c = c .without .ensures ∙ ap matchingOf (sym (c .before .enum-told .given .1))
 
 returns-3 : tie.Need-returns-3
-returns-3 c = c .without2 .ensures ∙ ap numbersOf (sym (c .before .enum-told2 .given .1))
+returns-3 c = c .without2 .ensures ∙ ap matchingOf (sym (c .before .enum-told2 .given .1))
 
 returns-4 : tie.Need-returns-4
-returns-4 c = c .without3 .ensures ∙ ap numbersOf (sym (c .before .enum-told3 .given .1))
+returns-4 c = c .without3 .ensures ∙ ap matchingOf (sym (c .before .enum-told3 .given .1))
 
 pub numbers-of-spec : {M : Type 1} → statement M
 numbers-of-spec =

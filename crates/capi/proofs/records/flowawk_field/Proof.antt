@@ -1,8 +1,6 @@
 -- `flowawk_field`: the numbers of what `locate` answers.
-use Rattle.capi.proofs.Splits.{outcome-is}
-use Rattle.capi.specs.Split.{outcomeIn}
 use mathlib.Core.Path.{ap, _∙_}
-use Rattle.splitting.specs.Splitting.{splitOf}
+use Rattle.splitting.specs.Splitting.{Counting}
 use borrow.Author.Needs.{needs}
 use Rattle.capi.proofs.records.flowawk_field.Statement.{statement}
 use Rattle.capi.proofs.records.flowawk_field.Tie as tie
@@ -14,7 +12,9 @@ outcome-of-requires : tie.Need-outcome-of-requires
 outcome-of-requires c κs = search needs
 
 returns : tie.Need-returns
-returns c = (c .outcome-of .ensures ∙ ap outcomeIn (c .before .locate .ensures .0) ∙ outcome-is (splitOf 1 (c .before .before .before .before .args .fs .now) (c .before .before .before .before .args .«record» .now)), c .before .locate .ensures .1)
+returns c =
+    let e = c .before .locate .ensures in
+    (c .outcome-of .ensures ∙ ap (λ (x : Counting). x .outcome) (e .0), e .1)
 
 pub flowawk-field-spec : {M : Type 1} → statement M
 flowawk-field-spec = tie.close (tie.spec locate-requires outcome-of-requires returns)

@@ -1,8 +1,6 @@
 -- `flowawk_split`: the numbers of what `split` answers.
-use Rattle.capi.proofs.Splits.{outcome-is, count-is}
-use Rattle.capi.specs.Split.{outcomeIn, countIn}
-use mathlib.Core.Path.{ap, _∙_}
-use Rattle.splitting.specs.Splitting.{splitOf}
+use mathlib.Core.Path.{ap₂, _∙_}
+use Rattle.splitting.specs.Splitting.{counting}
 use borrow.Author.Needs.{needs}
 use Rattle.capi.proofs.records.flowawk_split.Statement.{statement}
 use Rattle.capi.proofs.records.flowawk_split.Tie as tie
@@ -17,7 +15,7 @@ outcome-of-requires : tie.Need-outcome-of-requires
 outcome-of-requires c κs = search needs
 
 returns : tie.Need-returns
-returns c = (c .outcome-of .ensures ∙ ap outcomeIn (c .before .before .split .ensures) ∙ outcome-is (splitOf 1 (c .before .before .before .before .before .args .fs .now) (c .before .before .before .before .before .args .«record» .now)), c .before .count-of .ensures ∙ ap countIn (c .before .before .split .ensures) ∙ count-is (splitOf 1 (c .before .before .before .before .before .args .fs .now) (c .before .before .before .before .before .args .«record» .now)))
+returns c = ap₂ counting (c .outcome-of .ensures) (c .before .count-of .ensures) ∙ c .before .before .split .ensures
 
 pub flowawk-split-spec : {M : Type 1} → statement M
 flowawk-split-spec =

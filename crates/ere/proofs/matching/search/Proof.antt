@@ -3,7 +3,8 @@ use mathlib.Core.Path.{sym, ap, subst, _∙_}
 use borrow.Author.Tests.{not-true, not-false}
 use Rattle.ere_search.specs.Find.{matchOf}
 use Rattle.ere_search.specs.declared.search.Found.{Found}
-use Rattle.ere.specs.Answer.{matched, Compiles}
+use Rattle.edition.specs.Limits.{firstEdition}
+use Rattle.ere.specs.Answer.{bestMatching, Compiles}
 use Rattle.ere.proofs.Serving.{searched-bad, searched-long, searched-found}
 use borrow.Author.Needs.{needs}
 use Rattle.ere.proofs.matching.search.Statement.{statement}
@@ -16,10 +17,19 @@ compile-requires : tie.Need-compile-requires
 compile-requires c κs = search needs
 
 returns : tie.Need-returns
-returns c = searched-bad 1 (c .before .before .before .before .before .before .args .ere .now) (c .before .before .before .before .before .before .args .text .now) _ (subst (Compiles 1 (c .before .before .before .before .before .before .args .ere .now) _) (not-true _ (c .if1 .taken)) (c .before .before .compile .ensures))
+returns c =
+    let a = c .before .before .before .before .before .before .args in
+    let o = not-true _ (c .if1 .taken) in
+    let r = subst (Compiles firstEdition (a .ere .now) _) o (c .before .before .compile .ensures) in
+    searched-bad firstEdition (a .ere .now) (a .text .now) _ r
 
 returns-2 : tie.Need-returns-2
-returns-2 c = searched-long 1 (c .before .before .before .before .before .before .before .args .ere .now) (c .before .before .before .before .before .before .before .args .text .now) _ (subst (Compiles 1 (c .before .before .before .before .before .before .before .args .ere .now) _) (not-false _ (c .before .if1 .left)) (c .before .before .before .compile .ensures)) (c .if2 .taken)
+returns-2 c =
+    let b = c .before .before .before in
+    let a = b .before .before .before .before .args in
+    let o = not-false _ (c .before .if1 .left) in
+    let r = subst (Compiles firstEdition (a .ere .now) _) o (b .compile .ensures) in
+    searched-long firstEdition (a .ere .now) (a .text .now) _ r (c .if2 .taken)
 
 slice-aggregate-find-from : tie.Need-slice-aggregate-find-from
 slice-aggregate-find-from c = search needs
@@ -35,13 +45,25 @@ enum-told c = search needs
 
 returns-3 : tie.Need-returns-3
 returns-3 c =
-    ap (λ (x : Found). matched (matchOf x)) (sym (c .before .start .given .1))
-    ∙ searched-found 1 (c .before .before .before .before .before .before .before .before .before .before .before .before .args .ere .now) (c .before .before .before .before .before .before .before .before .before .before .before .before .args .text .now) _ (subst (Compiles 1 (c .before .before .before .before .before .before .before .before .before .before .before .before .args .ere .now) _) (not-false _ (c .before .before .before .before .before .before .if1 .left)) (c .before .before .before .before .before .before .before .before .compile .ensures)) (c .before .before .before .before .before .if2 .left) (λ i h. c .before .before .before .before .before .before .before .before .before .before .shared-slice-known2 .given i .fits) (c .before .before .before .find-from .result) (c .before .before .before .find-from .ensures)
+    let f = c .before .before .before in
+    let b = f .before .before .before .before .before in
+    let a = b .before .before .before .before .args in
+    let o = not-false _ (f .before .before .before .if1 .left) in
+    let r = subst (Compiles firstEdition (a .ere .now) _) o (b .compile .ensures) in
+    ap (λ (x : Found). bestMatching (matchOf x)) (sym (c .before .start .given .1))
+    ∙ searched-found firstEdition (a .ere .now) (a .text .now) _ r (f .before .before .if2 .left)
+    (λ i h. b .before .before .shared-slice-known2 .given i .fits) (f .find-from .result) (f .find-from .ensures)
 
 returns-4 : tie.Need-returns-4
 returns-4 c =
-    ap (λ (x : Found). matched (matchOf x)) (sym (c .enum-told .given .1))
-    ∙ searched-found 1 (c .before .before .before .before .before .before .before .before .before .before .before .args .ere .now) (c .before .before .before .before .before .before .before .before .before .before .before .args .text .now) _ (subst (Compiles 1 (c .before .before .before .before .before .before .before .before .before .before .before .args .ere .now) _) (not-false _ (c .before .before .before .before .before .if1 .left)) (c .before .before .before .before .before .before .before .compile .ensures)) (c .before .before .before .before .if2 .left) (λ i h. c .before .before .before .before .before .before .before .before .before .shared-slice-known2 .given i .fits) (c .before .before .find-from .result) (c .before .before .find-from .ensures)
+    let f = c .before .before in
+    let b = f .before .before .before .before .before in
+    let a = b .before .before .before .before .args in
+    let o = not-false _ (f .before .before .before .if1 .left) in
+    let r = subst (Compiles firstEdition (a .ere .now) _) o (b .compile .ensures) in
+    ap (λ (x : Found). bestMatching (matchOf x)) (sym (c .enum-told .given .1))
+    ∙ searched-found firstEdition (a .ere .now) (a .text .now) _ r (f .before .before .if2 .left)
+    (λ i h. b .before .before .shared-slice-known2 .given i .fits) (f .find-from .result) (f .find-from .ensures)
 
 pub search-spec : {M : Type 1} → statement M
 search-spec =

@@ -1,7 +1,9 @@
--- `locate` meets its contract, by what `fill` answers, and by k.
+-- `locate` meets its contract, by what `split_record` answers, and by k.
 use Rattle.fields.proofs.Inside.{located-whole, located-past, located-field}
 use Rattle.fields.proofs.Entering.{no-span, refused}
+use Rattle.fields.specs.Answer.{countingOf}
 use Rattle.fields.specs.Spread.{roomOf}
+use Rattle.edition.specs.Limits.{firstEdition}
 use Rattle.splitting.specs.Splitting.{splitOf}
 use lib.ListN.{length}
 use Prim.Native.Nat.{ℕ}
@@ -25,8 +27,10 @@ enum-known-s c = search needs
 
 returns : tie.Need-returns
 returns c =
-    let h = sym (c .before .before .s .given .1) ∙ c .before .before .before .before .before .split-record .ensures .0 in
-    (h, located-whole 1 (c .before .before .before .before .before .before .before .before .before .before .args .separator .now) (c .before .before .before .before .before .before .before .before .before .before .args .«record» .now) (c .before .before .before .before .before .before .before .before .before .before .args .«record» .now) (c .before .before .before .before .before .before .before .before .before .before .args .k) _ h (c .if1 .taken))
+    let b = c .before .before .before .before .before in
+    let a = b .before .before .before .before .before .args in
+    let h = ap countingOf (sym (c .before .before .s .given .1)) ∙ b .split-record .ensures .0 in
+    (h, located-whole firstEdition (a .separator .now) (a .«record» .now) (a .«record» .now) (a .k) _ h (c .if1 .taken))
 
 array-read-t14 : tie.Need-array-read-t14
 array-read-t14 c = search needs
@@ -36,17 +40,30 @@ array-read-t17 c = search needs
 
 returns-2 : tie.Need-returns-2
 returns-2 c =
-    let h = sym (c .before .before .before .s .given .1) ∙ c .before .before .before .before .before .before .split-record .ensures .0 in
-    let e = c .before .before .before .before .before .before .split-record .ensures .1 ∙ ap (λ (n : ℕ). roomOf 1 (c .before .before .before .before .before .before .before .before .before .before .before .args .separator .now) (c .before .before .before .before .before .before .before .before .before .before .before .args .«record» .now) n _) (c .before .before .before .before .before .before .before .before .previous .ensures) in
-    (h, located-field 1 (c .before .before .before .before .before .before .before .before .before .before .before .args .separator .now) (c .before .before .before .before .before .before .before .before .before .before .before .args .«record» .now) _ (c .before .before .before .before .before .before .before .before .before .before .before .args .k) _ h _ e (omega arith) (c .before .if1 .left) (c .if2 .taken))
+    let b = c .before .before .before .before .before .before in
+    let a = b .before .before .before .before .before .args in
+    let h = ap countingOf (sym (c .before .before .before .s .given .1)) ∙ b .split-record .ensures .0 in
+    let l = a .«record» .now in
+    let e =
+    b .split-record .ensures .1
+    ∙ ap (λ (n : ℕ). roomOf firstEdition (a .separator .now) l n _) (b .before .before .previous .ensures) in
+    (h, located-field firstEdition (a .separator .now) l _ (a .k) _ h _ e (omega arith) (c .before .if1 .left) (c .if2 .taken))
 
 returns-3 : tie.Need-returns-3
 returns-3 c =
-    let h = sym (c .before .before .before .s .given .1) ∙ c .before .before .before .before .before .before .split-record .ensures .0 in
-    (h, located-past 1 (c .before .before .before .before .before .before .before .before .before .before .before .args .separator .now) (c .before .before .before .before .before .before .before .before .before .before .before .args .«record» .now) (c .before .before .before .before .before .before .before .before .before .before .before .args .«record» .now) (c .before .before .before .before .before .before .before .before .before .before .before .args .k) _ h (c .if2 .left))
+    let b = c .before .before .before .before .before .before in
+    let a = b .before .before .before .before .before .args in
+    let h = ap countingOf (sym (c .before .before .before .s .given .1)) ∙ b .split-record .ensures .0 in
+    (h, located-past firstEdition (a .separator .now) (a .«record» .now) (a .«record» .now) (a .k) _ h (c .if2 .left))
 
 returns-4 : tie.Need-returns-4
-returns-4 c = (c .before .before .split-record .ensures .0, no-span (length (c .before .before .before .before .before .before .before .args .«record» .now)) (c .before .before .before .before .before .before .before .args .k) (splitOf 1 (c .before .before .before .before .before .before .before .args .separator .now) (c .before .before .before .before .before .before .before .args .«record» .now)) (c .before .before .split-record .result) (c .before .before .split-record .ensures .0) (refused (c .before .before .split-record .result) (c .match .keys2)))
+returns-4 c =
+    let b = c .before .before in
+    let a = b .before .before .before .before .before .args in
+    let x = splitOf firstEdition (a .separator .now) (a .«record» .now) in
+    let s = b .split-record .result in
+    let e = b .split-record .ensures .0 in
+    (e, no-span (length (a .«record» .now)) (a .k) x s e (refused s (c .match .keys2)))
 
 pub locate-spec : {M : Type 1} → statement M
 locate-spec =

@@ -1,4 +1,4 @@
--- `fill` meets its contract, by the record's length and by what `fill_with` answers.
+-- `split_record` meets its contract, by the record's length and by what `split_with` answers.
 use Rattle.fields.proofs.Entering.{split-long, split-filled}
 use borrow.Author.Needs.{needs}
 use Rattle.fields.proofs.entries.split_record.Statement.{statement}

@@ -1,4 +1,4 @@
--- `fill_with` meets its contract, by the separator's kind and by how many fields there are.
+-- `split_with` meets its contract, by the separator's kind and by how many fields there are.
 use Rattle.separators.proofs.Separating.{told, not-refused}
 use Rattle.fields.proofs.Entering.{filled-none, filled-many, filled-some}
 use Rattle.separators.specs.Kinds.{Tells}

@@ -1,4 +1,4 @@
--- `spread` meets its contract: n fields are written, and those from `at` on are left.
+-- `split_into` meets its contract: n fields are written, and those from `at` on are left.
 use mathlib.Core.List.{List}
 use borrow.Author.Needs.{needs}
 use Prim.Native.Nat.{ℕ, _+_, _-_, _≤_}
