@@ -1,0 +1,3 @@
+-- Laws on words and on runs of stores.
+pub mod Packed
+pub mod Stores

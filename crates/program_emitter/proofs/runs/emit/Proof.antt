@@ -1,0 +1,30 @@
+use borrow.Author.Needs.{needs}
+use Rattle.program_emitter.proofs.runs.emit.Statement.{statement}
+use Rattle.program_emitter.proofs.runs.emit.Tie as tie
+use Rattle.program_emitter.proofs.runs.emit.Reads as reads
+use Rattle.program_emitter.proofs.runs.emit.Lts as lts
+use Rattle.program_emitter.proofs.runs.put.Reads as put-reads
+use Rattle.program_emitter.proofs.words.instruction.Reads as instruction-reads
+
+-- src/runs.rt:24:21
+instruction-requires : tie.Need-instruction-requires
+instruction-requires c κs = search needs
+
+-- src/runs.rt:24:5
+put-requires : tie.Need-put-requires
+put-requires c κs = search needs
+
+-- src/runs.rt:25:5
+add-result : tie.Need-add-result
+add-result c = search needs
+
+-- src/runs.rt:20:1
+same-length : tie.Need-same-length
+same-length c = search needs
+
+-- src/runs.rt:20:1
+returns : tie.Need-returns
+returns c = (search needs, cc)
+
+pub emit-spec : {M : Type 1} → statement M
+emit-spec = tie.close (tie.spec instruction-requires put-requires add-result same-length returns)

@@ -1,0 +1,53 @@
+use mathlib.Core.Path.{_≡_}
+use Prim.Native.Nat.{ℕ, suc, _+_}
+use native.Mathlib.Omega.{arith}
+use borrow.Author.Needs.{needs}
+use Rattle.program_emitter.proofs.runs.emit_print.Statement.{statement}
+use Rattle.program_emitter.proofs.runs.emit_print.Tie as tie
+use Rattle.program_emitter.proofs.runs.emit_print.Reads as reads
+use Rattle.program_emitter.proofs.runs.emit_print.Lts as lts
+use Rattle.program_emitter.proofs.runs.emit.Reads as emit-reads
+
+-- src/runs.rt:69:5
+emit-requires : tie.Need-emit-requires
+emit-requires c κs = search needs
+
+-- src/runs.rt:70:19
+add-emit : tie.Need-add-emit
+add-emit c = search needs
+
+-- src/runs.rt:70:5
+emit-requires-2 : tie.Need-emit-requires-2
+emit-requires-2 c κs = search needs
+
+-- src/runs.rt:71:19
+add-emit-2 : tie.Need-add-emit-2
+add-emit-2 c = search needs
+
+-- src/runs.rt:71:5
+emit-requires-3 : tie.Need-emit-requires-3
+emit-requires-3 c κs = search needs
+
+-- src/runs.rt:65:1
+same-length : tie.Need-same-length
+same-length c = search needs
+
+-- src/runs.rt:65:1
+returns : tie.Need-returns
+returns c =
+    let n : ℕ = c .before .before .before .before .before .before .before .before .before .before .before .before .before .args .n in
+    let n1 : n + 1 ≡ suc (n) = omega arith in
+    let n2 : n + 2 ≡ suc (suc (n)) = omega arith in
+    (omega (arith, c .before .before .emit3 .ensures .0), cc (n1, n2))
+
+pub emit-print-spec : {M : Type 1} → statement M
+emit-print-spec =
+    tie.close
+    (tie.spec
+    emit-requires
+    add-emit
+    emit-requires-2
+    add-emit-2
+    emit-requires-3
+    same-length
+    returns)

@@ -1,0 +1,2 @@
+-- Instructions as words.
+pub mod Words
