@@ -11,7 +11,7 @@ use borrow.Author.Tests.{not-true, not-false}
 use Rattle.lists.specs.Elements.{agree}
 use Rattle.edition.specs.Limits.{operandDepth}
 use Rattle.image_format.specs.Codes.{codeOf}
-use Rattle.opcodes.specs.Rows.{rows, isKnown}
+use Rattle.opcodes.specs.Rows.{rowIn, isKnown}
 use Rattle.image_index.specs.Lists.{numbersOf}
 use Rattle.image_index.specs.declared.access.Numbers.{Numbers}
 use Rattle.image_check.specs.Judge.{terminatesOf, popsOf, existsOf, allowedOf, placedOf, leadsOf, hasDepth, judgedAt}
@@ -49,12 +49,13 @@ leads-as r count has n c v after x y l j e f = rw (l, j, e, f, add-one)
 
 -- an instruction is judged by the answers to the single clauses
 module _ (r : Context) (index : List ℕ) (count n : ℕ) (j : Numbers) (e : j ≡ numbersOf (getD index n 0)) where
-  pub judged-as : {row taken : ℕ} {known exists placed enough leads allowed : Bool}
-      → row ≡ getD (rows (r .edition)) (j .code) 0 → taken ≡ popsOf row (j .operand)
-      → known ≡ isKnown (codeOf (r .edition) (j .code)) → exists ≡ existsOf r count (row / 8) (j .operand)
+  pub judged-as : {row taken : ℕ} {known first second placed enough leads allowed : Bool}
+      → row ≡ rowIn (codeOf (r .edition) (j .code)) → taken ≡ popsOf row (j .first)
+      → known ≡ isKnown (codeOf (r .edition) (j .code))
+      → first ≡ existsOf r count (row / 8 % 8) (j .first) → second ≡ existsOf r count (row / 64) (j .second)
       → placed ≡ placedOf r count n (j .code) (j .depth) true → enough ≡ leb taken (j .depth)
-      → leads ≡ leadsOf r count (hasDepth index count) n (j .code) (j .operand) (j .depth - taken + row / 4 % 2)
-      → allowed ≡ allowedOf r count (j .code) (j .operand)
-      → (known && (exists && (placed && (enough && (leads && allowed))))) ≡ judgedAt r index count n
+      → leads ≡ leadsOf r count (hasDepth index count) n (j .code) (j .first) (j .depth - taken + row / 4 % 2)
+      → allowed ≡ allowedOf r (j .code)
+      → (known && ((first && second) && (placed && (enough && (leads && allowed))))) ≡ judgedAt r index count n
   unfolding judgedAt
-  judged-as q t k x p m l a = rw (k, x, p, m, l, a, t, q, e, and-last)
+  judged-as q t k x y p m l a = rw (k, x, y, p, m, l, a, t, q, e, and-last)

@@ -15,11 +15,11 @@ use Rattle.lists.specs.Elements.{allFrom}
 use Rattle.edition.specs.Limits.{userNames}
 use Rattle.edition.specs.Outcomes.{done, imageMalformed, imageFailsCheck}
 use Rattle.image_format.specs.Codes.{next}
-use Rattle.image_format.specs.Image.{Image}
+use Rattle.image_format.specs.Image.{Image, imageBound}
 use Rattle.image_format.specs.Reading.{fromBytes, wordUpTo, counted, instruction, readImage}
 use Rattle.image_format.proofs.Consequences.{reading-back}
-use Rattle.semantics.specs.Moves.{Section, begin, main, end, sectionOf}
-use Rattle.semantics.specs.Check.{instructionChecks, flowAllowed, sectionChecks, check}
+use Rattle.semantics.specs.Moves.{Section, begin, main, end, sectionOf, inMain}
+use Rattle.semantics.specs.Check.{instructionChecks, sectionChecks, check}
 use Rattle.semantics.proofs.ImageSizes.{image-bytes}
 use Rattle.image.specs.Copy.{isImage}
 use Rattle.image_index.specs.Lists.{Fits, ListAt}
@@ -103,7 +103,7 @@ module _ (edition users constants eres : ℕ) where
   contextBy records = record { edition = edition; users = users; constants = constants; eres = eres; main = records }
 
   context-of : (i : Image) (s : Section) → edition ≡ i .edition → users ≡ i .users → constants ≡ length (i .constants) → eres ≡ length (i .eres)
-      → ContextOf (contextBy (flowAllowed s next)) i s
+      → ContextOf (contextBy (inMain s)) i s
   context-of i s e u c r = record { edition = e; users = u; constants = c; eres = r; nexts = refl }
 
   module _ (l : List ℕ) (at : ℕ) (b : Listed) (x : SectionJudged (contextBy false) l at b) where
@@ -232,7 +232,7 @@ module _ (l : List ℕ) (h : Header) (x : HeaderAt l h) where
 
 module _ (l : List ℕ) where
   -- an accepted image is small
-  pub long-refused : 65536 ≤ length l → ImageJudged l false
+  pub long-refused : imageBound ≤ length l → ImageJudged l false
   long-refused h = refuses l (λ i r. unchecked i (λ c. omega (arith, image-bytes i c, ap length (reading-back l i r .1))))
 
   pub outcome-malformed : false ≡ isImage (readImage fromBytes l) → imageMalformed ≡ checkOf l

@@ -12,16 +12,17 @@ use borrow.Author.Tests.{ltb-true, ltb-false}
 use Rattle.lists.proofs.Options.{some-one, none-some}
 use Rattle.lists.proofs.Elements.{nth-none}
 use Rattle.lists.specs.Elements.{nth, allFrom}
-use Rattle.image_format.specs.Codes.{next, Code, codes, codeOf}
+use Rattle.image_format.specs.Codes.{Code, codes, codeOf}
+use Rattle.image_format.proofs.Codes.{code-row}
 use Rattle.image_format.specs.Image.{Instruction, Image}
-use Rattle.opcodes.specs.Rows.{rows, operandsIn}
-use Rattle.semantics.specs.Moves.{Section, sectionOf}
-use Rattle.semantics.specs.Check.{depthIs, flowAllowed, holdsFor, byCode, instructionChecks}
+use Rattle.opcodes.specs.Rows.{rowNumber, operandsIn}
+use Rattle.semantics.specs.Moves.{Section, sectionOf, inMain}
+use Rattle.semantics.specs.Check.{depthIs, holdsFor, byCode, instructionChecks}
 use Rattle.semantics.proofs.Tables.{nth-some}
 use Rattle.image_index.specs.Stands.{instructionOf}
 use Rattle.image_index.specs.Lists.{Indexes}
 use Rattle.image_index.specs.declared.indexes.Kind.the-variants.{Instructions}
-use Rattle.image_check.specs.Judge.{judgedBy, hasDepth, judgedAt, ContextOf, Judges}
+use Rattle.image_check.specs.Judge.{judgedRow, judgedBy, hasDepth, judgedAt, ContextOf, Judges}
 use Rattle.image_check.specs.declared.context.Context.{Context}
 
 -- each element with its number, the first of which is n
@@ -63,29 +64,30 @@ module _ (i : Image) (s : Section) where
     users = i .users;
     constants = length (i .constants);
     eres = length (i .eres);
-    main = flowAllowed s next;
+    main = inMain s;
   }
 
   module _ (n : ℕ) where
     Agree : ℕ → Code → Type 0
     Agree c k =
-        (d v : ℕ) → holdsFor i s n (record { code = c; depth = d; immediates = take (length (k .immediates)) (v ∷ []) }) k
-        ≡ judgedBy contextIn (length (sectionOf i s)) hasIn n c d v
+        (d v w : ℕ)
+        → holdsFor i s n (record { code = c; depth = d; immediates = take (length (k .immediates)) (v ∷ w ∷ []) }) k
+        ≡ judgedRow contextIn (length (sectionOf i s)) hasIn (rowNumber k) n c d v w
 
-    all-agree : AllFrom Agree 0 (codes (i .edition))
-    unfolding Agree holdsFor rows codeOf nth
-    all-agree = ((λ d v. refl), ((λ d v. refl), ((λ d v. refl), ((λ d v. refl), ((λ d v. refl), ((λ d v. refl), ((λ d v. refl), ((λ d v. refl), ((λ d v. refl), ((λ d v. refl), ((λ d v. refl), ((λ d v. refl), ((λ d v. refl), ((λ d v. refl), ((λ d v. refl), ((λ d v. refl), ((λ d v. refl), ((λ d v. refl), ((λ d v. refl), ((λ d v. refl), ((λ d v. refl), ((λ d v. refl), ((λ d v. refl), ((λ d v. refl), ((λ d v. refl), ((λ d v. refl), ((λ d v. refl), ((λ d v. refl), ((λ d v. refl), ((λ d v. refl), ((λ d v. refl), ((λ d v. refl), tt))))))))))))))))))))))))))))))))
+    all-agree : AllFrom Agree 0 codes
+    unfolding Agree holdsFor codes
+    all-agree = ((λ d v w. refl), ((λ d v w. refl), ((λ d v w. refl), ((λ d v w. refl), ((λ d v w. refl), ((λ d v w. refl), ((λ d v w. refl), ((λ d v w. refl), ((λ d v w. refl), ((λ d v w. refl), ((λ d v w. refl), ((λ d v w. refl), ((λ d v w. refl), ((λ d v w. refl), ((λ d v w. refl), ((λ d v w. refl), ((λ d v w. refl), ((λ d v w. refl), ((λ d v w. refl), ((λ d v w. refl), ((λ d v w. refl), ((λ d v w. refl), ((λ d v w. refl), ((λ d v w. refl), ((λ d v w. refl), ((λ d v w. refl), ((λ d v w. refl), ((λ d v w. refl), ((λ d v w. refl), ((λ d v w. refl), ((λ d v w. refl), ((λ d v w. refl), tt))))))))))))))))))))))))))))))))
 
-    by-numbers : (c d v : ℕ)
-        → instructionChecks i s n (instructionOf (i .edition) c d v) ≡ judgedBy contextIn (length (sectionOf i s)) hasIn n c d v
-    unfolding Agree codeOf
-    by-numbers c d v = by (codeOf (i .edition) c) refl
+    by-numbers : (c d v w : ℕ)
+        → instructionChecks i s n (instructionOf (i .edition) c d v w) ≡ judgedBy contextIn (length (sectionOf i s)) hasIn n c d v w
+    unfolding Agree
+    by-numbers c d v w = by (codeOf (i .edition) c) refl
       where
         by : (o : Option Code) → codeOf (i .edition) c ≡ o
-            → byCode i s n (record { code = c; depth = d; immediates = take (operandsIn o) (v ∷ []) }) o
-            ≡ judgedBy contextIn (length (sectionOf i s)) hasIn n c d v
+            → byCode i s n (record { code = c; depth = d; immediates = take (operandsIn o) (v ∷ w ∷ []) }) o
+            ≡ judgedBy contextIn (length (sectionOf i s)) hasIn n c d v w
         by none e = rw e
-        by (some k) e = from-of Agree 0 (codes (i .edition)) all-agree c c k e (omega arith) d v
+        by (some k) e = rw e (from-of Agree 0 codes all-agree c c k (code-row (i .edition) c e) (omega arith) d v w)
 
   module _ (l index : List ℕ) (indexed : Indexes (i .edition) Instructions l (sectionOf i s) index) (room : length (sectionOf i s) ≤ length index) where
     has-is : (m d : ℕ) → hasDepth index (length (sectionOf i s)) m d ≡ hasIn m d
@@ -106,10 +108,10 @@ module _ (i : Image) (s : Section) where
         let context : r ≡ contextIn = rw (← (x .edition), ← (x .users), ← (x .constants), ← (x .eres), ← (x .nexts)) in
         let has : hasDepth index (length (sectionOf i s)) ≡ hasIn = fun-ext (λ m. fun-ext (λ d. has-is m d)) in
         let w = getD index n 0 in
-        let judged : Context → (ℕ → ℕ → Bool) → Bool = λ r has. judgedBy r (length (sectionOf i s)) has n (w % 64) (w / 64 % 64) (w / 4096) in
+        let judged : Context → (ℕ → ℕ → Bool) → Bool = λ r has. judgedBy r (length (sectionOf i s)) has n (w % 64) (w / 64 % 64) (w / 4096 % 1024) (w / 4194304) in
         ap (λ (r : Context). judged r (hasDepth index (length (sectionOf i s)))) context
         ∙ ap (λ (has : ℕ → ℕ → Bool). judged contextIn has) has
-        ∙ sym (by-numbers n (w % 64) (w / 64 % 64) (w / 4096))
+        ∙ sym (by-numbers n (w % 64) (w / 64 % 64) (w / 4096 % 1024) (w / 4194304))
         ∙ ap (instructionChecks i s n) (indexed n j h (omega arith))
 
 -- ---- the section

@@ -7,12 +7,12 @@ use lib.ListN.{length, getD}
 use lib.Dec.{eqb, ltb, leb}
 use Rattle.lists.specs.Elements.{agree, allFrom}
 use Rattle.edition.specs.Limits.{operandDepth}
-use Rattle.image_format.specs.Codes.{next, codeOf}
+use Rattle.image_format.specs.Codes.{codeOf}
 use Rattle.image_format.specs.Image.{Image}
-use Rattle.opcodes.specs.Rows.{rows, isKnown}
-use Rattle.semantics.specs.Variables.{specials, assignable}
-use Rattle.semantics.specs.Moves.{Section, sectionOf}
-use Rattle.semantics.specs.Check.{flowAllowed, instructionChecks}
+use Rattle.opcodes.specs.Rows.{rowIn, isKnown}
+use Rattle.semantics.specs.Variables.{specialCount, assignable}
+use Rattle.semantics.specs.Moves.{Section, sectionOf, inMain}
+use Rattle.semantics.specs.Check.{instructionChecks}
 use Rattle.image_index.specs.Lists.{numbersOf, Indexes}
 use Rattle.image_index.specs.declared.indexes.Kind.the-variants.{Instructions}
 use Rattle.image_check.specs.declared.context.Context.{Context}
@@ -25,23 +25,27 @@ terminatesOf c = eqb c 0 || (eqb c 30 || eqb c 31)
 
 -- what a code takes, by its row: a print takes what it names
 abbrev pub popsOf : ℕ → ℕ → ℕ
-popsOf row v = cond (eqb (row / 8) 5) v (row % 4)
+popsOf row v = cond (eqb (row / 8 % 8) 5) v (row % 4)
 
 abbrev pub givesOf : ℕ → ℕ
 givesOf row = row / 4 % 2
 
+abbrev pub variablesOf : Context → ℕ
+variablesOf r = specialCount (r .edition) + r .users
+
+-- "30 only in the record section"
+abbrev pub allowedOf : Context → ℕ → Bool
+allowedOf r c = not (eqb c 30) || r .main
+
 module _ (r : Context) (count : ℕ) where
-  -- "every number named exists"
+  -- "every number named exists"; "print's n from 1; no set of 0, 1, 5, 6"
   abbrev pub existsOf : ℕ → ℕ → Bool
   existsOf names v =
-      cond (eqb names 1) (ltb v (r .constants) && true)
-      (cond (eqb names 2) (ltb v (length (specials (r .edition)) + r .users) && true)
-      (cond (eqb names 3) (ltb v (r .eres) && true) (cond (eqb names 4) (ltb v count && true) true)))
-
-  -- "print's n from 1; no set of 0, 1, 5, 6; 30 only in the record section"
-  abbrev pub allowedOf : ℕ → ℕ → Bool
-  allowedOf c v =
-      cond (eqb c 3) (assignable (r .edition) v && true) (cond (eqb c 29) (leb 1 v && true) (cond (eqb c 30) (r .main) true))
+      cond (eqb names 1) (ltb v (r .constants))
+      (cond (eqb names 2) (ltb v (variablesOf r))
+      (cond (eqb names 3) (ltb v (r .eres))
+      (cond (eqb names 4) (ltb v count)
+      (cond (eqb names 5) (leb 1 v) (cond (eqb names 6) (ltb v (variablesOf r) && assignable (r .edition) v) true)))))
 
   -- "code 0 last in its section and only there; depth 0 at its start, at 0, 30 and 31, and at most 32"
   abbrev pub placedOf : ℕ → ℕ → ℕ → Bool → Bool
@@ -55,13 +59,17 @@ module _ (r : Context) (count : ℕ) where
         cond (terminatesOf c) true
         (cond (eqb c 27) (has v after && true) (has (suc n) after && cond (eqb c 28) (has v after && true) true))
 
-    -- all clauses on instruction n
-    abbrev pub judgedBy : ℕ → ℕ → ℕ → ℕ → Bool
-    judgedBy n c d v =
-        let row = getD (rows (r .edition)) c 0 in
+    -- all clauses on instruction n, by its code's row
+    abbrev pub judgedRow : ℕ → ℕ → ℕ → ℕ → ℕ → ℕ → Bool
+    judgedRow row n c d v w =
         let takes = popsOf row v in
-        isKnown (codeOf (r .edition) c)
-        && (existsOf (row / 8) v && placedOf n c d (leb takes d && (leadsOf n c v (d - takes + givesOf row) && allowedOf c v)))
+        (existsOf (row / 8 % 8) v && existsOf (row / 64) w)
+        && placedOf n c d (leb takes d && (leadsOf n c v (d - takes + givesOf row) && allowedOf r c))
+
+    abbrev pub judgedBy : ℕ → ℕ → ℕ → ℕ → ℕ → Bool
+    judgedBy n c d v w =
+        let o = codeOf (r .edition) c in
+        isKnown o && judgedRow (rowIn o) n c d v w
 
 -- instruction m of an index is there, with the depth d before it
 abbrev pub hasDepth : List ℕ → ℕ → ℕ → ℕ → Bool
@@ -71,7 +79,7 @@ hasDepth index count m d = ltb m count && eqb (numbersOf (getD index m 0) .depth
 unfoldable pub judgedAt : Context → List ℕ → ℕ → ℕ → Bool
 judgedAt r index count n =
     let j = numbersOf (getD index n 0) in
-    judgedBy r count (hasDepth index count) n (j .code) (j .depth) (j .operand)
+    judgedBy r count (hasDepth index count) n (j .code) (j .depth) (j .first) (j .second)
 
 -- ---- for the image that the numbers are of
 
@@ -81,7 +89,7 @@ pub record ContextOf (r : Context) (i : Image) (s : Section) : Type 0 where
   pub users : r .users ≡ i .users
   pub constants : r .constants ≡ length (i .constants)
   pub eres : r .eres ≡ length (i .eres)
-  pub nexts : r .main ≡ flowAllowed s next
+  pub nexts : r .main ≡ inMain s
 
 -- all instructions of a section, by its index
 abbrev pub Judges : Context → List ℕ → ℕ → Bool → Type 0

@@ -2,6 +2,8 @@
 ghost use mathlib.Core.Path.{_≡_};
 ghost use Prim.Native.Nat.{_≤_, _<_};
 ghost use lib.ListN.{length};
+ghost use Rattle.edition.specs.Limits.{userNames, instructionCount};
+ghost use Rattle.image_format.specs.Image.{imageBound};
 ghost use Rattle.image_check.specs.Sections.{SectionJudged, SectionsJudged, ImageJudged};
 ghost use Rattle.image_check.specs.Verdict.{outcomeOf, checkOf};
 use crate::context::Context;
@@ -19,7 +21,7 @@ pub enum Verdict {
 
 // The section at a place, its index, and whether it passes.
 fn section(image: &[u8], context: Context, at: usize, index: &mut [u32]) -> Listed
-    requires { ⌜ (at ≤ length (now image)) × (length (now image) < 65536) × (1024 ≤ length (now index)) × (context .users ≤ 25) ⌝ }
+    requires { ⌜ (at ≤ length (now image)) × (length (now image) < imageBound) × (instructionCount ≤ length (now index)) × (context .users ≤ userNames) ⌝ }
     ensures { λ r. ⌜ SectionJudged context (now (image .entry)) at r ⌝ }
 {
     let s = image_index::list_at(image, context.edition, Kind::Instructions, at, index);
@@ -42,7 +44,7 @@ fn sections(
     eres: usize,
     at: usize,
 ) -> bool
-    requires { ⌜ (at ≤ length (now image)) × (length (now image) < 65536) × (users ≤ 25) ⌝ }
+    requires { ⌜ (at ≤ length (now image)) × (length (now image) < imageBound) × (users ≤ userNames) ⌝ }
     ensures { λ r. ⌜ SectionsJudged edition users constants eres (now (image .entry)) at r ⌝ }
 {
     let mut index = [0u32; Edition::INSTRUCTIONS];
@@ -74,7 +76,7 @@ fn sections(
 
 // Whether the bytes are an image that passes the check.
 fn passes(image: &[u8]) -> bool
-    requires { ⌜ length (now image) < 65536 ⌝ }
+    requires { ⌜ length (now image) < imageBound ⌝ }
     ensures { λ r. ⌜ ImageJudged (now (image .entry)) r ⌝ }
 {
     let mut places = [0u32; 0];

@@ -4,7 +4,8 @@ ghost use mathlib.Core.Bool.{true, not, _||_};
 ghost use Prim.Native.Nat.{_≤_, _<_};
 ghost use lib.ListN.{length};
 ghost use lib.Dec.{eqb};
-ghost use Rattle.image_check.specs.Judge.{terminatesOf, popsOf, existsOf, allowedOf, placedOf, leadsOf, hasDepth, judgedAt, Judges};
+ghost use Rattle.edition.specs.Limits.{userNames};
+ghost use Rattle.image_check.specs.Judge.{terminatesOf, popsOf, variablesOf, existsOf, allowedOf, placedOf, leadsOf, hasDepth, judgedAt, Judges};
 use crate::context::Context;
 use edition::Edition;
 
@@ -16,25 +17,33 @@ fn terminates(code: u64) -> bool
 }
 
 // How many operands a code takes, by its row.
-fn pops(row: u64, operand: u64) -> u64
-    ensures { λ r. ⌜ r ≡ popsOf row operand ⌝ }
+fn pops(row: u64, first: u64) -> u64
+    ensures { λ r. ⌜ r ≡ popsOf row first ⌝ }
 {
-    if row / 8 == opcodes::COUNT {
-        return operand;
+    if row / 8 % 8 == opcodes::COUNT {
+        return first;
     }
     row % 4
 }
 
-// Whether what an operand names is there.
+// How many variables there are.
+fn variables(context: Context) -> u64
+    requires { ⌜ context .users ≤ userNames ⌝ }
+    ensures { λ r. ⌜ r ≡ variablesOf context ⌝ }
+{
+    opcodes::specials(context.edition) + context.users
+}
+
+// Whether what a number names is there, and keeps the rule of its kind.
 fn exists(context: Context, count: usize, names: u64, v: u64) -> bool
-    requires { ⌜ context .users ≤ 25 ⌝ }
+    requires { ⌜ context .users ≤ userNames ⌝ }
     ensures { λ r. ⌜ r ≡ existsOf context count names v ⌝ }
 {
     if names == opcodes::CONSTANT {
         return v < context.constants;
     }
     if names == opcodes::VARIABLE {
-        return v < opcodes::specials(context.edition) + context.users;
+        return v < variables(context);
     }
     if names == opcodes::ERE {
         return v < context.eres;
@@ -42,23 +51,20 @@ fn exists(context: Context, count: usize, names: u64, v: u64) -> bool
     if names == opcodes::INSTRUCTION {
         return v < count as u64;
     }
+    if names == opcodes::COUNT {
+        return 1 <= v;
+    }
+    if names == opcodes::ASSIGNABLE {
+        return v < variables(context) && opcodes::assignable(context.edition, v);
+    }
     true
 }
 
-// Whether a code may have its operand, and stand in the section.
-fn allowed(context: Context, count: usize, code: u64, v: u64) -> bool
-    ensures { λ r. ⌜ r ≡ allowedOf context count code v ⌝ }
+// Whether a code may be in the section.
+fn allowed(context: Context, code: u64) -> bool
+    ensures { λ r. ⌜ r ≡ allowedOf context code ⌝ }
 {
-    if code == opcodes::SET {
-        return opcodes::assignable(context.edition, v);
-    }
-    if code == opcodes::PRINT {
-        return 1 <= v;
-    }
-    if code == opcodes::NEXT {
-        return context.main;
-    }
-    true
+    code != opcodes::NEXT || context.main
 }
 
 // Whether a depth is 0, if it has to be.
@@ -127,7 +133,7 @@ fn check_successors(
 
 // Whether instruction n passes.
 fn check_instruction(index: &[u32], context: Context, count: usize, n: usize) -> bool
-    requires { ⌜ (count ≤ length (now index)) × (n < count) × (context .users ≤ 25) ⌝ }
+    requires { ⌜ (count ≤ length (now index)) × (n < count) × (context .users ≤ userNames) ⌝ }
     ensures { λ r. ⌜ r ≡ judgedAt context (now (index .entry)) count n ⌝ }
 {
     let j = image_index::instruction(index, n);
@@ -136,24 +142,26 @@ fn check_instruction(index: &[u32], context: Context, count: usize, n: usize) ->
         return false;
     }
     let row = opcodes::row(context.edition, code);
-    if !exists(context, count, row / 8, j.operand) {
+    if !exists(context, count, row / 8 % 8, j.first) {
+        return false;
+    }
+    if !exists(context, count, row / 64, j.second) {
         return false;
     }
     if !check_position(context, count, n, code, j.depth) {
         return false;
     }
-    let taken = pops(row, j.operand);
+    let taken = pops(row, j.first);
     if j.depth < taken {
         return false;
     }
     let after = j.depth - taken + row / 4 % 2;
-    check_successors(index, context, count, n, code, j.operand, after)
-        && allowed(context, count, code, j.operand)
+    check_successors(index, context, count, n, code, j.first, after) && allowed(context, code)
 }
 
 // Whether all instructions of a section pass.
 pub fn check_instructions(index: &[u32], context: Context, count: usize) -> bool
-    requires { ⌜ (count ≤ length (now index)) × (context .users ≤ 25) ⌝ }
+    requires { ⌜ (count ≤ length (now index)) × (context .users ≤ userNames) ⌝ }
     ensures { λ r. ⌜ Judges context (now (index .entry)) count r ⌝ }
 {
     let mut n: usize = 0;

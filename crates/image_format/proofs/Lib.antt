@@ -1,4 +1,5 @@
--- Laws on an image's bytes and content words.
+-- Laws on the codes, and on an image's bytes and content words.
+pub mod Codes
 pub mod Numbers
 pub mod Takes
 pub mod Sources

@@ -2,12 +2,12 @@
 use mathlib.Core.List.{List, [], _∷_}
 use mathlib.Core.Option.{Option, some, none}
 use Prim.Native.Nat.{ℕ, zero, suc}
-use lib.ListN.{getD}
+use lib.ListN.{take, getD}
 use Rattle.lists.specs.Elements.{nth}
 
--- what a number of an instruction names
+-- what a number of an instruction names: the kind carries the rule that the number keeps
 pub data ImmediateKind : Type 0 where
-  a-constant a-variable an-ere an-instruction a-count : ImmediateKind
+  a-constant a-variable an-assignable-variable an-ere an-instruction a-positive-count : ImmediateKind
 
 pub data Arithmetic : Type 0 where
   add subtract multiply divide remainder : Arithmetic
@@ -44,15 +44,15 @@ code o a b kinds = record { operation = o; pops = λ ns. a; pushes = λ ns. b; i
 
 -- "29 print n (n-0)"
 abbrev pub printing : Code
-printing = record { operation = action print; pops = λ ns. getD ns 0 0; pushes = λ ns. 0; immediates = a-count ∷ [] }
+printing = record { operation = action print; pops = λ ns. getD ns 0 0; pushes = λ ns. 0; immediates = a-positive-count ∷ [] }
 
--- the codes of an edition, from 0 on
-abbrev pub codes : ℕ → List Code
-codes edition =
+-- all codes that there are, from 0 on
+unfoldable pub codes : List Code
+codes =
     code (flow section-end) 0 0 []
     ∷ code (action constant) 0 1 (a-constant ∷ [])
     ∷ code (action get) 0 1 (a-variable ∷ [])
-    ∷ code (action set) 1 1 (a-variable ∷ [])
+    ∷ code (action set) 1 1 (an-assignable-variable ∷ [])
     ∷ code (action field) 1 1 []
     ∷ code (action set-field) 2 1 []
     ∷ code (action drop) 1 0 []
@@ -83,6 +83,13 @@ codes edition =
     ∷ code (flow exit) 0 0 []
     ∷ []
 
+-- how many of them an edition has
+unfoldable pub codeCount : ℕ → ℕ
+codeCount edition = 32
+
+abbrev pub codesOf : ℕ → List Code
+codesOf edition = take (codeCount edition) codes
+
 -- "an unknown .. code" has none
 unfoldable pub codeOf : ℕ → ℕ → Option Code
-codeOf edition n = nth (codes edition) n
+codeOf edition n = nth (codesOf edition) n

@@ -25,6 +25,10 @@ pub record Image : Type 0 where
   pub main : List Instruction
   pub end : List Instruction
 
+-- An image that passes the check has fewer bytes: by the sizes, not by a rule of its own.
+abbrev pub imageBound : ℕ
+imageBound = 65536
+
 -- "an unknown edition" is refused
 abbrev pub known : ℕ → Bool
 known edition = eqb edition 1

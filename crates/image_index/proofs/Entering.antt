@@ -15,7 +15,7 @@ use Rattle.edition.specs.Limits.{textBytes, instructionCount, operandDepth}
 use Rattle.buffer.specs.Parts.{part}
 use Rattle.buffer.proofs.Parts.{length-part}
 use Rattle.image_format.specs.Codes.{codeOf}
-use Rattle.image_format.specs.Image.{number, text}
+use Rattle.image_format.specs.Image.{number, text, Instruction}
 use Rattle.opcodes.specs.Rows.{operandsIn}
 use Rattle.image_index.specs.Stands.{Stands, ConstantAt, constantOf, instructionOf}
 use Rattle.image_index.specs.Lists.{ItemOf, takerOf, FitsOf, TellsOf, packed, unpacked, EntryAt}
@@ -69,32 +69,45 @@ module _ (edition : ℕ) (l : List ℕ) (at : ℕ) (c : Found) (y : ConstantAt l
 
 -- ---- instructions
 
-module _ (edition code depth operand : ℕ) where
-  pub instruction-fits : depth ≤ operandDepth → operand < instructionCount → FitsOf edition Instructions (instructionOf edition code depth operand)
-  instruction-fits d o = (d, by (operandsIn (codeOf edition code)))
-    where
-      by : (n : ℕ) → Every (λ v. v < instructionCount) (take n (operand ∷ []))
-      by zero = empty
-      by (suc zero) = cons o empty
-      by (suc (suc n)) = cons o empty
+module _ (edition code depth first second : ℕ) where
+  abbrev here : Instruction
+  here = instructionOf edition code depth first second
 
-  pub instruction-deep : operandDepth < depth → FitsOf edition Instructions (instructionOf edition code depth operand) → ⊥
+  pub instruction-fits : depth ≤ operandDepth → first < instructionCount → second < instructionCount → FitsOf edition Instructions here
+  instruction-fits d f s = (d, by (operandsIn (codeOf edition code)))
+    where
+      by : (n : ℕ) → Every (λ v. v < instructionCount) (take n (first ∷ second ∷ []))
+      by zero = empty
+      by (suc zero) = cons f empty
+      by (suc (suc zero)) = cons f (cons s empty)
+      by (suc (suc (suc n))) = cons f (cons s empty)
+
+  pub instruction-deep : operandDepth < depth → FitsOf edition Instructions here → ⊥
   instruction-deep h f = omega (arith, f .0)
 
-  pub instruction-far : (operandsIn (codeOf edition code) ≡ 0 → operand ≡ 0) → instructionCount ≤ operand
-      → FitsOf edition Instructions (instructionOf edition code depth operand) → ⊥
-  instruction-far plain h f = by (operandsIn (codeOf edition code)) plain (f .1)
+  pub first-far : (operandsIn (codeOf edition code) ≡ 0 → first ≡ 0) → instructionCount ≤ first → FitsOf edition Instructions here → ⊥
+  first-far plain h f = by (operandsIn (codeOf edition code)) plain (f .1)
     where
-      by : (n : ℕ) → (n ≡ 0 → operand ≡ 0) → Every (λ v. v < instructionCount) (take n (operand ∷ [])) → ⊥
+      by : (n : ℕ) → (n ≡ 0 → first ≡ 0) → Every (λ v. v < instructionCount) (take n (first ∷ second ∷ [])) → ⊥
       by zero z e = omega (arith, z refl)
       by (suc n) z (cons x e) = omega arith
 
+  pub second-far : (operandsIn (codeOf edition code) ≤ 1 → second ≡ 0) → instructionCount ≤ second → FitsOf edition Instructions here → ⊥
+  second-far plain h f = by (operandsIn (codeOf edition code)) plain (f .1)
+    where
+      by : (n : ℕ) → (n ≤ 1 → second ≡ 0) → Every (λ v. v < instructionCount) (take n (first ∷ second ∷ [])) → ⊥
+      by zero z e = omega (arith, z (omega arith))
+      by (suc zero) z e = omega (arith, z (omega arith))
+      by (suc (suc n)) z (cons x (cons y e)) = omega arith
+
   -- the numbers come back out of their entry
-  pub unpacked-packed : code < 64 → depth < 64 → unpacked edition (packed code depth operand) ≡ instructionOf edition code depth operand
-  unpacked-packed a b =
-      let w = packed code depth operand in
+  pub unpacked-packed : code < 64 → depth < 64 → first < instructionCount → unpacked edition (packed code depth first second) ≡ here
+  unpacked-packed a b f =
+      let w = packed code depth first second in
       let p : w % 64 ≡ code = omega arith in
-      let m : w / 64 ≡ depth + 64 * operand = omega arith in
+      let m : w / 64 ≡ depth + 64 * (first + 1024 * second) = omega arith in
       let q : w / 64 % 64 ≡ depth = rw m (omega arith) in
-      let r : w / 4096 ≡ operand = omega arith in
-      rw (p, q, r)
+      let o : w / 4096 ≡ first + 1024 * second = omega arith in
+      let r : w / 4096 % 1024 ≡ first = rw o (omega arith) in
+      let t : w / 4194304 ≡ second = omega arith in
+      rw (p, q, r, t)

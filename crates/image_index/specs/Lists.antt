@@ -38,17 +38,19 @@ leastOf Constants = 0
 leastOf Eres = 0
 leastOf Instructions = 1
 
--- ---- an instruction as one number: code, depth and operand
+-- ---- an instruction as one number of 32 bits: six for the code, six for the depth, ten each for the numbers that it names
 
-abbrev pub packed : ℕ → ℕ → ℕ → ℕ
-packed code depth operand = code + 64 * depth + 4096 * operand
-
-abbrev pub unpacked : ℕ → ℕ → Instruction
-unpacked edition w = instructionOf edition (w % 64) (w / 64 % 64) (w / 4096)
+abbrev pub packed : ℕ → ℕ → ℕ → ℕ → ℕ
+packed code depth first second = code + 64 * depth + 4096 * first + 4194304 * second
 
 -- the numbers of an entry
 abbrev pub numbersOf : ℕ → Numbers
-numbersOf w = record { code = w % 64; depth = w / 64 % 64; operand = w / 4096 }
+numbersOf w = record { code = w % 64; depth = w / 64 % 64; first = w / 4096 % 1024; second = w / 4194304 }
+
+abbrev pub unpacked : ℕ → ℕ → Instruction
+unpacked edition w =
+    let j = numbersOf w in
+    instructionOf edition (j .code) (j .depth) (j .first) (j .second)
 
 module _ (edition : ℕ) where
   abbrev pub takerOf : (k : Kind) → Parser (ItemOf k)

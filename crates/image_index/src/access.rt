@@ -10,11 +10,12 @@ ghost use Rattle.image_index.specs.declared.indexes.Kind.the-variants.{C
 use crate::items;
 use crate::items::Found;
 
-// The numbers of an instruction: its code, the depth before it, and its operand, 0 where the code names nothing.
+// The numbers of an instruction: its code, the depth before it, and its first and second number, 0 where the code names none.
 pub struct Numbers {
     pub code: u64,
     pub depth: u64,
-    pub operand: u64,
+    pub first: u64,
+    pub second: u64,
 }
 
 // The instruction whose entry has the number n.
@@ -26,7 +27,8 @@ pub fn instruction(index: &[u32], n: usize) -> Numbers
     Numbers {
         code: w % 64,
         depth: w / 64 % 64,
-        operand: w / 4096,
+        first: w / 4096 % 1024,
+        second: w / 4194304,
     }
 }
 

@@ -3,6 +3,7 @@ ghost use mathlib.Core.Path.{_≡_};
 ghost use mathlib.Core.Bool.{false};
 ghost use Prim.Native.Nat.{_≤_, _<_};
 ghost use lib.ListN.{length};
+ghost use Rattle.image_format.specs.Image.{imageBound};
 ghost use Rattle.varint.specs.Room.{withOne};
 ghost use Rattle.image_index.specs.declared.indexes.Kind.the-variants.{Constants, Eres, Instructions};
 ghost use Rattle.image_index.specs.Lists.{mostOf, leastOf, EntryAt, ItemsAt, ListAt};
@@ -46,7 +47,7 @@ fn no_entry() -> Entry
 
 // A constant's entry is its place.
 fn constant_entry(image: &[u8], edition: u64, at: usize) -> Entry
-    requires { ⌜ (at ≤ length (now image)) × (length (now image) < 65536) ⌝ }
+    requires { ⌜ (at ≤ length (now image)) × (length (now image) < imageBound) ⌝ }
     ensures { λ r. ⌜ EntryAt edition Constants (now (image .entry)) at r ⌝ }
 {
     let c = items::constant_at(image, at);
@@ -65,7 +66,7 @@ fn constant_entry(image: &[u8], edition: u64, at: usize) -> Entry
 
 // An ERE's entry is its place.
 fn ere_entry(image: &[u8], edition: u64, at: usize) -> Entry
-    requires { ⌜ (at ≤ length (now image)) × (length (now image) < 65536) ⌝ }
+    requires { ⌜ (at ≤ length (now image)) × (length (now image) < imageBound) ⌝ }
     ensures { λ r. ⌜ EntryAt edition Eres (now (image .entry)) at r ⌝ }
 {
     let e = items::text_at(image, at);
@@ -87,9 +88,9 @@ fn ere_entry(image: &[u8], edition: u64, at: usize) -> Entry
     }
 }
 
-// An instruction's entry is its numbers.
+// An instruction's entry is its numbers: six bits for the code, six for the depth, ten each for the first and the second number.
 fn instruction_entry(image: &[u8], edition: u64, at: usize) -> Entry
-    requires { ⌜ (at ≤ length (now image)) × (length (now image) < 65536) ⌝ }
+    requires { ⌜ (at ≤ length (now image)) × (length (now image) < imageBound) ⌝ }
     ensures { λ r. ⌜ EntryAt edition Instructions (now (image .entry)) at r ⌝ }
 {
     let i = items::instruction_at(image, edition, at);
@@ -99,19 +100,22 @@ fn instruction_entry(image: &[u8], edition: u64, at: usize) -> Entry
     if (Edition::DEPTH as u64) < i.depth {
         return no_entry();
     }
-    if (Edition::INSTRUCTIONS as u64) <= i.operand {
+    if (Edition::INSTRUCTIONS as u64) <= i.first {
+        return no_entry();
+    }
+    if (Edition::INSTRUCTIONS as u64) <= i.second {
         return no_entry();
     }
     Entry {
         ok: true,
-        entry: (i.code + 64 * i.depth + 4096 * i.operand) as u32,
+        entry: (i.code + 64 * i.depth + 4096 * i.first + 4194304 * i.second) as u32,
         end: i.end,
     }
 }
 
 // The entry of the item that stands at a place.
 fn entry_at(image: &[u8], edition: u64, kind: Kind, at: usize) -> Entry
-    requires { ⌜ (at ≤ length (now image)) × (length (now image) < 65536) ⌝ }
+    requires { ⌜ (at ≤ length (now image)) × (length (now image) < imageBound) ⌝ }
     ensures { λ r. ⌜ EntryAt edition kind (now (image .entry)) at r ⌝ }
 {
     match kind {
@@ -171,7 +175,7 @@ fn items_at(
     first: usize,
     index: &mut [u32],
 ) -> Listed
-    requires { ⌜ (first ≤ length (now image)) × (length (now image) < 65536) ⌝ }
+    requires { ⌜ (first ≤ length (now image)) × (length (now image) < imageBound) ⌝ }
     ensures { λ r. ⌜ ItemsAt edition kind (now (image .entry)) n first r (now (index .exit)) ⌝ }
 {
     let mut at = first;
@@ -194,7 +198,7 @@ fn items_at(
 
 // The list whose count stands at a place; its index goes as far as the room does.
 pub fn list_at(image: &[u8], edition: u64, kind: Kind, at: usize, index: &mut [u32]) -> Listed
-    requires { ⌜ (at ≤ length (now image)) × (length (now image) < 65536) ⌝ }
+    requires { ⌜ (at ≤ length (now image)) × (length (now image) < imageBound) ⌝ }
     ensures { λ r. ⌜ ListAt edition kind (now (image .entry)) at r (now (index .exit)) ⌝ }
 {
     let Taken::Number(n, first) = varint::take_number(image, at) else {

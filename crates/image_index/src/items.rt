@@ -1,9 +1,11 @@
 // What stands in an image from a place on: a text, a constant, an instruction.
 ghost use mathlib.Core.Path.{_≡_};
 ghost use mathlib.Core.Bool.{false};
-ghost use Prim.Native.Nat.{_≤_, _<_};
+ghost use Prim.Native.Nat.{_≤_};
 ghost use lib.ListN.{length};
-ghost use Rattle.image_index.specs.Stands.{TextAt, NumberAt, ConstantAt, OperandAt, InstructionAt};
+ghost use Rattle.image_format.specs.Codes.{codeOf};
+ghost use Rattle.opcodes.specs.Rows.{operandsIn};
+ghost use Rattle.image_index.specs.Stands.{TextAt, NumberAt, ConstantAt, OperandAt, NumbersAt, InstructionAt};
 use varint::Taken;
 
 // The bytes of a text, from `start` to `end`; unless `ok`, there is none.
@@ -22,12 +24,20 @@ pub struct Found {
     pub end: usize,
 }
 
-// An instruction, and where it ends; unless `ok`, there is none. The operand is 0 where the code names nothing.
+// A number that an instruction names, and where it ends; unless `ok`, there is none.
+pub struct Operand {
+    pub ok: bool,
+    pub value: u64,
+    pub end: usize,
+}
+
+// An instruction, and where it ends; unless `ok`, there is none. A number that the code doesn't name is 0.
 pub struct Fetched {
     pub ok: bool,
     pub code: u64,
     pub depth: u64,
-    pub operand: u64,
+    pub first: u64,
+    pub second: u64,
     pub end: usize,
 }
 
@@ -120,34 +130,56 @@ fn no_instruction() -> Fetched
         ok: false,
         code: 0,
         depth: 0,
-        operand: 0,
+        first: 0,
+        second: 0,
         end: 0,
     }
 }
 
-// The instruction with a code and a depth, behind which `at` stands.
-fn operand_at(image: &[u8], edition: u64, code: u64, depth: u64, at: usize) -> Fetched
-    requires { ⌜ (at ≤ length (now image)) × (code < 32) ⌝ }
-    ensures { λ r. ⌜ OperandAt edition code depth (now (image .entry)) at r ⌝ }
+// Reads the number at a place, if one is named there; else it is 0, and has no byte.
+fn operand_at(image: &[u8], named: bool, at: usize) -> Operand
+    requires { ⌜ at ≤ length (now image) ⌝ }
+    ensures { λ r. ⌜ OperandAt named (now (image .entry)) at r ⌝ }
 {
-    if opcodes::operands(edition, code) == 0 {
-        return Fetched {
+    if !named {
+        return Operand {
             ok: true,
-            code,
-            depth,
-            operand: 0,
+            value: 0,
             end: at,
         };
     }
-    let Taken::Number(operand, end) = varint::take_number(image, at) else {
-        return no_instruction();
+    let Taken::Number(value, end) = varint::take_number(image, at) else {
+        return Operand {
+            ok: false,
+            value: 0,
+            end: at,
+        };
     };
-    Fetched {
+    Operand {
         ok: true,
+        value,
+        end,
+    }
+}
+
+// Reads the numbers of an instruction with a code and a depth, which are at a place.
+fn operands_at(image: &[u8], edition: u64, code: u64, depth: u64, at: usize) -> Fetched
+    requires { ⌜ at ≤ length (now image) ⌝ }
+    ensures { λ r. ⌜ NumbersAt (operandsIn (codeOf edition code)) code depth (now (image .entry)) at r ⌝ }
+{
+    let n = opcodes::operands(edition, code);
+    let first = operand_at(image, 0 < n, at);
+    if !first.ok {
+        return no_instruction();
+    }
+    let second = operand_at(image, 1 < n, first.end);
+    Fetched {
+        ok: second.ok,
         code,
         depth,
-        operand,
-        end,
+        first: first.value,
+        second: second.value,
+        end: second.end,
     }
 }
 
@@ -165,5 +197,5 @@ pub fn instruction_at(image: &[u8], edition: u64, at: usize) -> Fetched
     let Taken::Number(depth, last) = varint::take_number(image, behind) else {
         return no_instruction();
     };
-    operand_at(image, edition, code, depth, last)
+    operands_at(image, edition, code, depth, last)
 }

@@ -1,6 +1,7 @@
 // The index of an image that passes the check, made once for a run.
 ghost use Prim.Native.Nat.{_≤_, _<_};
 ghost use lib.ListN.{length};
+ghost use Rattle.image_format.specs.Image.{imageBound};
 ghost use Rattle.image_loader.specs.Loads.{rooms, SectionsLoaded, LoadsAccepted};
 use image_index::Kind;
 
@@ -51,7 +52,7 @@ fn sections(
     main: &mut [u32],
     end: &mut [u32],
 ) -> Counts
-    requires { ⌜ (at ≤ length (now image)) × (length (now image) < 65536) ⌝ }
+    requires { ⌜ (at ≤ length (now image)) × (length (now image) < imageBound) ⌝ }
     ensures { λ r. ⌜ SectionsLoaded edition (now (image .entry)) at r (now (begin .exit)) (now (main .exit)) (now (end .exit)) ⌝ }
 {
     let b = image_index::list_at(image, edition, Kind::Instructions, at, begin);

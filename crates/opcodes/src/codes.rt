@@ -1,27 +1,21 @@
 // The table of codes: which there are, what each takes and leaves, and what it names.
 ghost use mathlib.Core.Path.{_≡_};
-ghost use Prim.Native.Nat.{_<_};
-ghost use lib.ListN.{getD};
 ghost use Rattle.image_format.specs.Codes.{codeOf};
 ghost use Rattle.image_format.specs.Image.{known};
-ghost use Rattle.opcodes.specs.Rows.{rows, isKnown, operandsIn};
+ghost use Rattle.opcodes.specs.Rows.{isKnown, rowIn, operandsIn};
 
-// The codes that the rules of a section, of its flow or of single operands speak of.
+// The codes that the rules of a section and of its flow speak of.
 pub const END: u64 = 0;
-
-pub const SET: u64 = 3;
 
 pub const JUMP: u64 = 27;
 
 pub const JUMP_IF_FALSE: u64 = 28;
 
-pub const PRINT: u64 = 29;
-
 pub const NEXT: u64 = 30;
 
 pub const EXIT: u64 = 31;
 
-// What a number of an instruction names.
+// What a number of an instruction names; its rule goes with it.
 pub const NOTHING: u64 = 0;
 
 pub const CONSTANT: u64 = 1;
@@ -34,15 +28,22 @@ pub const INSTRUCTION: u64 = 4;
 
 pub const COUNT: u64 = 5;
 
+pub const ASSIGNABLE: u64 = 6;
+
 const CODES: u64 = 32;
 
-// A row for each code, a byte each, the low byte first: what the code takes, 4 times what it leaves, and 8 times what it names. A print takes as many as it names. An
-// array of 32 numbers would be written to the stack at each look.
-const ROWS: [u64; 4] = [
-    0x0601060515140c00,
-    0x0605050506060606,
-    0x1d1d060606060606,
-    0x0000282120070605,
+// A row for each code, 16 bits each, the low ones first: what the code takes, 4 times what it leaves, and 8 and 64 times what its
+// first and its second number name. A print takes as many as it names. An array of 32 numbers would be written to the stack at each
+// look.
+const ROWS: [u64; 8] = [
+    0x00350014000c0000,
+    0x0006000100060005,
+    0x0006000600060006,
+    0x0006000500050005,
+    0x0006000600060006,
+    0x001d001d00060006,
+    0x0020000700060005,
+    0x0000000000280021,
 ];
 
 const EDITION: u64 = 1;
@@ -63,21 +64,24 @@ pub fn known_code(edition: u64, code: u64) -> bool
 
 // A code's row, 0 where there is no such code.
 pub fn row(edition: u64, code: u64) -> u64
-    ensures { λ r. ⌜ r ≡ getD (rows edition) code 0 ⌝ }
+    ensures { λ r. ⌜ r ≡ rowIn (codeOf edition code) ⌝ }
 {
     if CODES <= code {
         return 0;
     }
-    (ROWS[(code / 8) as usize] >> (8 * (code % 8))) % 256
+    (ROWS[(code / 4) as usize] >> (16 * (code % 4))) % 65536
 }
 
-// How many numbers a code names.
+// How many numbers a code names, 0 where there is no such code.
 pub fn operands(edition: u64, code: u64) -> u64
-    requires { ⌜ code < 32 ⌝ }
     ensures { λ r. ⌜ r ≡ operandsIn (codeOf edition code) ⌝ }
 {
-    if row(edition, code) / 8 == NOTHING {
+    let r = row(edition, code);
+    if r / 8 % 8 == NOTHING {
         return 0;
     }
-    1
+    if r / 64 == NOTHING {
+        return 1;
+    }
+    2
 }

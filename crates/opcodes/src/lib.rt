@@ -2,6 +2,7 @@
 mod codes;
 mod variables;
 
+pub use codes::ASSIGNABLE;
 pub use codes::CONSTANT;
 pub use codes::COUNT;
 pub use codes::END;
@@ -12,8 +13,6 @@ pub use codes::JUMP;
 pub use codes::JUMP_IF_FALSE;
 pub use codes::NEXT;
 pub use codes::NOTHING;
-pub use codes::PRINT;
-pub use codes::SET;
 pub use codes::VARIABLE;
 pub use codes::known_code;
 pub use codes::known_edition;

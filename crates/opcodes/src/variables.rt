@@ -1,16 +1,15 @@
 // The special variables of an edition.
 ghost use mathlib.Core.Path.{_≡_};
-ghost use lib.ListN.{length};
-ghost use Rattle.semantics.specs.Variables.{specials, assignable};
+ghost use Rattle.semantics.specs.Variables.{specialCount, assignable};
 
 const SPECIALS: usize = 7;
 
 // For each, whether it can be assigned.
 const ASSIGNABLE: [bool; SPECIALS] = [false, false, true, true, true, false, false];
 
-// How many there are; the users' variables come behind them.
+// How many there are; the users' variables come after them.
 pub fn specials(edition: u64) -> u64
-    ensures { λ r. ⌜ r ≡ length (specials edition) ⌝ }
+    ensures { λ r. ⌜ r ≡ specialCount edition ⌝ }
 {
     SPECIALS as u64
 }

@@ -8,73 +8,85 @@ use Prim.Native.Nat.{ℕ, suc, _+_, _-_, _≤_, _<_}
 use native.Mathlib.Omega.{arith}
 use lib.ListN.{length, getD}
 use Rattle.lists.proofs.Options.{some-one, none-some}
-use Rattle.lists.proofs.Says.{Says, restated, true-says, leb-says, ltb-says, eqb-says, and-then, and-says, agree-says, if-says, isSome-says, all-says, all-places, numbered-says}
+use Rattle.lists.proofs.Says.{Says, restated, leb-says, ltb-says, eqb-says, and-says, agree-says, if-says, isSome-says, all-says, all-places, numbered-says}
 use Rattle.lists.specs.Elements.{nth}
 use Rattle.edition.specs.Limits.{textBytes, userNames, constantCount, ereCount, instructionCount, operandDepth}
 use Rattle.ere_grammar.specs.Read.{readEre}
-use Rattle.image_format.specs.Codes.{ImmediateKind, a-constant, a-variable, an-ere, an-instruction, a-count, Code, codeOf, Operation, action, flow, constant, get, set, field, set-field, drop, arithmetic, negate, to-number, negation, compare, join, matches, match, length-of, index, substr, print, section-end, jump, jump-if-false, next, exit}
+use Rattle.image_format.specs.Codes.{ImmediateKind, a-constant, a-variable, an-assignable-variable, an-ere, an-instruction, a-positive-count, Code, codeOf, Operation, action, flow, section-end, jump, jump-if-false, next, exit}
 use Rattle.image_format.specs.Image.{Constant, number, text, Instruction, Image}
-use Rattle.semantics.specs.Variables.{assignable}
-use Rattle.semantics.specs.Moves.{Section, begin, main, end, sectionOf, isEnd}
-use Rattle.semantics.specs.Check.{exists, smallConstant, allExist, terminates, successors, depthIs, flowAllowed, allowed, holdsFor, byCode, instructionChecks, sectionChecks, check}
+use Rattle.semantics.specs.Moves.{Section, begin, main, end, sectionOf, inMain, isEnd}
+use Rattle.semantics.specs.Check.{exists, smallConstant, allExist, terminates, successors, depthIs, isNext, holdsFor, byCode, instructionChecks, sectionChecks, check}
 use Rattle.semantics.specs.Checked.{Exists, AllExist, Allowed, Short, Checked}
-use Rattle.semantics.proofs.Tables.{rowOf, row-is}
 
--- ---- which clause of its own an operation has
-
--- print's, set's, next's, or none
-abbrev clauseOf : Operation → ℕ
-clauseOf (action print) = 1
-clauseOf (action set) = 2
-clauseOf (flow next) = 3
-clauseOf (action constant) = 0
-clauseOf (action get) = 0
-clauseOf (action field) = 0
-clauseOf (action set-field) = 0
-clauseOf (action drop) = 0
-clauseOf (action (arithmetic o)) = 0
-clauseOf (action negate) = 0
-clauseOf (action to-number) = 0
-clauseOf (action negation) = 0
-clauseOf (action (compare o)) = 0
-clauseOf (action join) = 0
-clauseOf (action matches) = 0
-clauseOf (action match) = 0
-clauseOf (action length-of) = 0
-clauseOf (action index) = 0
-clauseOf (action substr) = 0
-clauseOf (flow section-end) = 0
-clauseOf (flow jump) = 0
-clauseOf (flow jump-if-false) = 0
-clauseOf (flow exit) = 0
+-- ---- the tests that an instruction is judged by
 
 -- at which operations the depth is 0: end, next, exit
 abbrev Over : Operation → Type 0
 Over o = (o ≡ flow section-end) ⊎ ((o ≡ flow next) ⊎ (o ≡ flow exit))
 
+small-says : (a : Constant) → Says (smallConstant a) (Short a)
+small-says (number n) = (λ h. tt, λ h. refl)
+small-says (text l) = leb-says (length l) textBytes
+
+isEnd-says : (o : Operation) → Says (isEnd o) (o ≡ flow section-end)
+isEnd-says o = (is o, λ e. ap (isEnd) e)
+  where
+    is : (o : Operation) → isEnd o ≡ true → o ≡ flow section-end
+    is (action a) h = absurd (false≢true h)
+    is (flow section-end) h = refl
+    is (flow jump) h = absurd (false≢true h)
+    is (flow jump-if-false) h = absurd (false≢true h)
+    is (flow next) h = absurd (false≢true h)
+    is (flow exit) h = absurd (false≢true h)
+
+terminates-says : (o : Operation) → Says (terminates o) (Over o)
+terminates-says o = (is o, back)
+  where
+    is : (o : Operation) → terminates o ≡ true → Over o
+    is (action a) h = absurd (false≢true h)
+    is (flow section-end) h = inl refl
+    is (flow jump) h = absurd (false≢true h)
+    is (flow jump-if-false) h = absurd (false≢true h)
+    is (flow next) h = inr (inl refl)
+    is (flow exit) h = inr (inr refl)
+
+    back : Over o → terminates o ≡ true
+    back (inl e) = ap terminates e
+    back (inr (inl e)) = ap terminates e
+    back (inr (inr e)) = ap terminates e
+
+isNext-says : (o : Operation) → Says (isNext o) (o ≡ flow next)
+isNext-says o = (is o, λ e. ap isNext e)
+  where
+    is : (o : Operation) → isNext o ≡ true → o ≡ flow next
+    is (action a) h = absurd (false≢true h)
+    is (flow section-end) h = absurd (false≢true h)
+    is (flow jump) h = absurd (false≢true h)
+    is (flow jump-if-false) h = absurd (false≢true h)
+    is (flow next) h = refl
+    is (flow exit) h = absurd (false≢true h)
+
+depthIs-says : (d : ℕ) (o : Option Instruction) → Says (depthIs d o) ((j : Instruction) × (o ≡ some j) × (j .depth ≡ d))
+depthIs-says d none = (λ h. absurd (false≢true h), λ x. absurd (none-some (x .1)))
+depthIs-says d (some j) = restated (eqb-says (j .depth) d) (λ e. (j, refl, e)) (λ x. ap (λ (j : Instruction). j .depth) (some-one refl (x .1)) ∙ x .2)
+
+inMain-says : (s : Section) → Says (inMain s) (s ≡ main)
+inMain-says s = (is s, λ e. ap inMain e)
+  where
+    is : (s : Section) → inMain s ≡ true → s ≡ main
+    is begin h = absurd (false≢true h)
+    is main h = refl
+    is end h = absurd (false≢true h)
+
 module _ (i : Image) where
-  small-says : (a : Constant) → Says (smallConstant a) (Short a)
-  small-says (number n) = (λ h. tt, λ h. refl)
-  small-says (text l) = leb-says (length l) textBytes
-
-  isEnd-says : (o : Operation) → Says (isEnd o) (o ≡ flow section-end)
-  isEnd-says o = (is o, λ e. ap (isEnd) e)
-    where
-      is : (o : Operation) → isEnd o ≡ true → o ≡ flow section-end
-      is (action a) h = absurd (false≢true h)
-      is (flow section-end) h = refl
-      is (flow jump) h = absurd (false≢true h)
-      is (flow jump-if-false) h = absurd (false≢true h)
-      is (flow next) h = absurd (false≢true h)
-      is (flow exit) h = absurd (false≢true h)
-
   module _ (s : Section) where
     exists-says : (k : ImmediateKind) (n : ℕ) → Says (exists i s k n) (Exists i s k n)
     exists-says a-constant n = ltb-says _ _
     exists-says a-variable n = ltb-says _ _
+    exists-says an-assignable-variable n = and-says (ltb-says _ _) (λ h. h, λ h. h)
     exists-says an-ere n = ltb-says _ _
     exists-says an-instruction n = ltb-says _ _
-    exists-says a-count n = (λ h. tt, λ h. refl)
+    exists-says a-positive-count n = leb-says 1 n
 
     allExist-says : (ks : List ImmediateKind) (ns : List ℕ) → Says (allExist i s ks ns) (AllExist i s ks ns)
     allExist-says [] [] = (λ h. tt, λ h. refl)
@@ -87,91 +99,6 @@ module _ (i : Image) where
     single k [] x = absurd x
     single k (n ∷ []) x = (n, refl, x .0)
     single k (n ∷ m ∷ l) x = absurd (x .1)
-
-    terminates-says : (o : Operation) → Says (terminates o) (Over o)
-    terminates-says o = (is o, back)
-      where
-        is : (o : Operation) → terminates o ≡ true → Over o
-        is (action a) h = absurd (false≢true h)
-        is (flow section-end) h = inl refl
-        is (flow jump) h = absurd (false≢true h)
-        is (flow jump-if-false) h = absurd (false≢true h)
-        is (flow next) h = inr (inl refl)
-        is (flow exit) h = inr (inr refl)
-
-        back : Over o → terminates o ≡ true
-        back (inl e) = ap (terminates) e
-        back (inr (inl e)) = ap (terminates) e
-        back (inr (inr e)) = ap (terminates) e
-
-    depthIs-says : (d : ℕ) (o : Option Instruction) → Says (depthIs d o) ((j : Instruction) × (o ≡ some j) × (j .depth ≡ d))
-    depthIs-says d none = (λ h. absurd (false≢true h), λ x. absurd (none-some (x .1)))
-    depthIs-says d (some j) = restated (eqb-says (j .depth) d) (λ e. (j, refl, e)) (λ x. ap (λ (j : Instruction). j .depth) (some-one refl (x .1)) ∙ x .2)
-
-    -- ---- the clauses of print, set and next
-
-    abbrev Own : Operation → List ℕ → Type 0
-    Own o ns = (o ≡ action print → 1 ≤ getD ns 0 0) × (o ≡ action set → assignable (i .edition) (getD ns 0 0) ≡ true) × (o ≡ flow next → s ≡ main)
-
-    no-clause : (o : Operation) (ns : List ℕ) → clauseOf o ≡ 0 → Says true (Own o ns)
-    no-clause o ns z = (
-      λ h. (
-        λ e. absurd (omega (arith, z, ap clauseOf e)),
-        λ e. absurd (omega (arith, z, ap clauseOf e)),
-        λ e. absurd (omega (arith, z, ap clauseOf e)),
-      ),
-      λ h. refl,
-    )
-
-    print-says : (ns : List ℕ) → AllExist i s (a-count ∷ []) ns → Says (allowed i s (action print) ns) (Own (action print) ns)
-    print-says ns x =
-        let r = single a-count ns x in
-        rw (r .1)
-        (restated (and-says (leb-says 1 (r .0)) true-says)
-        (λ p. (λ e. p .0, λ e. absurd (omega (arith, ap clauseOf e)), λ e. absurd (omega (arith, ap clauseOf e)))) (λ p. (p .0 refl, tt)))
-
-    set-says : (ns : List ℕ) → AllExist i s (a-variable ∷ []) ns → Says (allowed i s (action set) ns) (Own (action set) ns)
-    set-says ns x =
-        let r = single a-variable ns x in
-        rw (r .1)
-        (restated (and-says {P = assignable (i .edition) (r .0) ≡ true} (λ h. h, λ h. h) true-says)
-        (λ p. (λ e. absurd (omega (arith, ap clauseOf e)), λ e. p .0, λ e. absurd (omega (arith, ap clauseOf e)))) (λ p. (p .1 refl, tt)))
-
-  inMain-says : (s : Section) → Says (flowAllowed s next) (s ≡ main)
-  inMain-says s = (is s, λ e. ap (λ (s : Section). flowAllowed s next) e)
-    where
-      is : (s : Section) → flowAllowed s next ≡ true → s ≡ main
-      is begin h = absurd (false≢true h)
-      is main h = refl
-      is end h = absurd (false≢true h)
-
-  module _ (s : Section) where
-    allowed-says : (o : Operation) (ns : List ℕ) → AllExist i s (rowOf o .immediates) ns → Says (allowed i s o ns) (Own s o ns)
-    allowed-says (action print) ns x = print-says s ns x
-    allowed-says (action set) ns x = set-says s ns x
-    allowed-says (flow next) ns x =
-        restated (inMain-says s)
-        (λ p. (λ e. absurd (omega (arith, ap clauseOf e)), λ e. absurd (omega (arith, ap clauseOf e)), λ e. p)) (λ p. p .2 refl)
-    allowed-says (action constant) ns x = no-clause s _ ns refl
-    allowed-says (action get) ns x = no-clause s _ ns refl
-    allowed-says (action field) ns x = no-clause s _ ns refl
-    allowed-says (action set-field) ns x = no-clause s _ ns refl
-    allowed-says (action drop) ns x = no-clause s _ ns refl
-    allowed-says (action (arithmetic o)) ns x = no-clause s _ ns refl
-    allowed-says (action negate) ns x = no-clause s _ ns refl
-    allowed-says (action to-number) ns x = no-clause s _ ns refl
-    allowed-says (action negation) ns x = no-clause s _ ns refl
-    allowed-says (action (compare o)) ns x = no-clause s _ ns refl
-    allowed-says (action join) ns x = no-clause s _ ns refl
-    allowed-says (action matches) ns x = no-clause s _ ns refl
-    allowed-says (action match) ns x = no-clause s _ ns refl
-    allowed-says (action length-of) ns x = no-clause s _ ns refl
-    allowed-says (action index) ns x = no-clause s _ ns refl
-    allowed-says (action substr) ns x = no-clause s _ ns refl
-    allowed-says (flow section-end) ns x = no-clause s _ ns refl
-    allowed-says (flow jump) ns x = no-clause s _ ns refl
-    allowed-says (flow jump-if-false) ns x = no-clause s _ ns refl
-    allowed-says (flow exit) ns x = no-clause s _ ns refl
 
     -- ---- one instruction
 
@@ -188,23 +115,23 @@ module _ (i : Image) where
         × (((k .operation ≡ flow section-end) ↔ (suc n ≡ length (sectionOf i s)))
         × ((n ≡ 0 → j .depth ≡ 0)
         × ((Over (k .operation) → j .depth ≡ 0)
-        × ((j .depth ≤ operandDepth) × (((k .pops) (j .immediates) ≤ j .depth) × ((Leads n j k) × (Own s (k .operation) (j .immediates))))))))
+        × ((j .depth ≤ operandDepth) × (((k .pops) (j .immediates) ≤ j .depth) × ((Leads n j k) × (k .operation ≡ flow next → s ≡ main)))))))
 
-    holds-says : (n : ℕ) (j : Instruction) (k : Code) → k ≡ rowOf (k .operation) → Says (holdsFor i s n j k) (Holds n j k)
+    holds-says : (n : ℕ) (j : Instruction) (k : Code) → Says (holdsFor i s n j k) (Holds n j k)
     unfolding holdsFor
-    holds-says n j k e =
-        and-then (allExist-says s (k .immediates) (j .immediates)) (λ x.
-        and-says (agree-says (isEnd-says (k .operation)) (eqb-says (suc n) (length (sectionOf i s))))
+    holds-says n j k =
+        and-says (allExist-says (k .immediates) (j .immediates))
+        (and-says (agree-says (isEnd-says (k .operation)) (eqb-says (suc n) (length (sectionOf i s))))
         (and-says (if-says (eqb-says n 0) (eqb-says (j .depth) 0))
-        (and-says (if-says (terminates-says s (k .operation)) (eqb-says (j .depth) 0))
+        (and-says (if-says (terminates-says (k .operation)) (eqb-says (j .depth) 0))
         (and-says (leb-says (j .depth) operandDepth)
         (and-says (leb-says ((k .pops) (j .immediates)) (j .depth))
-        (and-says (all-places (λ (m : ℕ). depthIs-says s _ (nth (sectionOf i s) m)) 0 (successors (k .operation) n (j .immediates)))
-        (allowed-says (k .operation) (j .immediates) (rw e at x))))))))
+        (and-says (all-places (λ (m : ℕ). depthIs-says _ (nth (sectionOf i s) m)) 0 (successors (k .operation) n (j .immediates)))
+        (if-says (isNext-says (k .operation)) (inMain-says s))))))))
 
     allowed-holds : (n : ℕ) (j : Instruction) (a : Allowed i s n j) → Holds n j (a .row)
     allowed-holds n j a =
-        (a .exist, (a .last, (a .start, (over, (a .deep, (a .enough, (a .leads, (a .prints, a .sets, a .nexts))))))))
+        (a .exist, (a .last, (a .start, (over, (a .deep, (a .enough, (a .leads, a .nexts)))))))
       where
         over : Over (a .row .operation) → j .depth ≡ 0
         over (inl e) = a .at-end e
@@ -217,7 +144,7 @@ module _ (i : Image) where
         by : (o : Option Code) → codeOf (i .edition) (j .code) ≡ o → Says (byCode i s n j o) (Allowed i s n j)
         by none e = (λ h. absurd (false≢true h), λ a. absurd (none-some (sym e ∙ a .code)))
         by (some k) e =
-            restated (holds-says n j k (row-is (i .edition) (j .code) k e))
+            restated (holds-says n j k)
             (λ h. record {
               row = k;
               code = e;
@@ -230,9 +157,7 @@ module _ (i : Image) where
               deep = h .1 .1 .1 .1 .0;
               enough = h .1 .1 .1 .1 .1 .0;
               leads = h .1 .1 .1 .1 .1 .1 .0;
-              prints = h .1 .1 .1 .1 .1 .1 .1 .0;
-              sets = h .1 .1 .1 .1 .1 .1 .1 .1;
-              nexts = h .1 .1 .1 .1 .1 .1 .1 .2;
+              nexts = h .1 .1 .1 .1 .1 .1 .1;
             }) (λ a. subst (λ (k : Code). Holds n j k) (some-one (a .code) e) (allowed-holds n j a))
 
     -- ---- a section

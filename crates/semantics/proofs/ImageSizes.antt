@@ -1,5 +1,5 @@
--- An image that passes the check is small: each instruction has at most four bytes, and all of it fewer than 65,536. Nothing else is asked of the image: even a
--- number over 2^53, which no image has that was read, has at most eight bytes by `coded`.
+-- An image that passes the check is small: each instruction has at most six bytes, and all of it fewer than 65,536. Nothing else is asked
+-- of the image: even a number over 2^53, which no image has that was read, has at most eight bytes by `coded`.
 use mathlib.Core.Path.{_≡_, refl, subst}
 use mathlib.Core.Bool.{Bool, true, false, cond}
 use mathlib.Core.List.{List, [], _∷_, _++_}
@@ -14,11 +14,13 @@ use Rattle.lists.proofs.Elements.{every-at}
 use Rattle.lists.specs.Elements.{nth, Every, empty, cons}
 use Rattle.edition.specs.Limits.{instructionCount, operandDepth, ereBytes}
 use Rattle.ere_grammar.proofs.Reading.{read-sound}
-use Rattle.image_format.specs.Codes.{ImmediateKind, a-constant, a-variable, an-ere, an-instruction, a-count, Code, codes, codeOf}
-use Rattle.image_format.specs.Image.{Constant, number, text, Instruction, Image}
+use Rattle.image_format.proofs.Codes.{codes-all, codes-few, code-row, code-below}
+use Rattle.image_format.specs.Codes.{ImmediateKind, a-constant, a-variable, an-assignable-variable, an-ere, an-instruction, a-positive-count, Code, codes}
+use Rattle.image_format.specs.Image.{Constant, number, text, Instruction, Image, imageBound}
 use Rattle.image_format.specs.Numbers.{groups, coded}
 use Rattle.image_format.specs.Writing.{all, listed, bytes, constantIn, instructionIn, written, bytesOf}
 use Rattle.semantics.specs.Moves.{Section, begin, main, end, sectionOf}
+use Rattle.semantics.proofs.Specials.{specials-all, specials-few}
 use Rattle.semantics.specs.Checked.{Exists, AllExist, Short, Checked}
 
 -- ---- bytes of a number
@@ -53,12 +55,6 @@ coded-two-bytes n h = by (ltb n 128) (groups-one 6 (n / 128) (omega arith))
 
 -- ---- lists
 
-nth-inside : {A : Type 0} (l : List A) (n : ℕ) {a : A} → nth l n ≡ some a → n < length l
-unfolding nth
-nth-inside [] n h = absurd (none-some h)
-nth-inside (b ∷ l) zero h = omega arith
-nth-inside (b ∷ l) (suc n) h = omega (arith, nth-inside l n h)
-
 -- as many times as there are elements, what an element has at most
 all-most : {A : Type 0} (one : A → List ℕ) (most : ℕ) (l : List A) → ((n : ℕ) (a : A) → nth l n ≡ some a → length (one a) ≤ most)
     → length (all one l) ≤ length l * most
@@ -69,18 +65,34 @@ all-most one most (a ∷ l) h =
 
 -- ---- the table of codes
 
--- A code names at most one number, and takes as many operands as a count that it names.
+-- a code takes as many operands as a count that is its first number
+abbrev CountFirst : ImmediateKind → (List ℕ → ℕ) → Type 0
+CountFirst a-constant takes = Unit
+CountFirst a-variable takes = Unit
+CountFirst an-assignable-variable takes = Unit
+CountFirst an-ere takes = Unit
+CountFirst an-instruction takes = Unit
+CountFirst a-positive-count takes = (n : ℕ) (ns : List ℕ) → takes (n ∷ ns) ≡ n
+
+-- and its second number is no count
+abbrev NoCount : ImmediateKind → Type 0
+NoCount a-constant = Unit
+NoCount a-variable = Unit
+NoCount an-assignable-variable = Unit
+NoCount an-ere = Unit
+NoCount an-instruction = Unit
+NoCount a-positive-count = ⊥
+
+-- A code names at most two numbers.
 abbrev CountTaken : List ImmediateKind → (List ℕ → ℕ) → Type 0
 CountTaken [] takes = Unit
-CountTaken (a-constant ∷ []) takes = Unit
-CountTaken (a-variable ∷ []) takes = Unit
-CountTaken (an-ere ∷ []) takes = Unit
-CountTaken (an-instruction ∷ []) takes = Unit
-CountTaken (a-count ∷ []) takes = (n : ℕ) → takes (n ∷ []) ≡ n
-CountTaken (k ∷ m ∷ l) takes = ⊥
+CountTaken (k ∷ []) takes = CountFirst k takes
+CountTaken (k ∷ m ∷ []) takes = (CountFirst k takes) × (NoCount m)
+CountTaken (k ∷ m ∷ j ∷ l) takes = ⊥
 
-codes-count : (edition : ℕ) → Every (λ (k : Code). CountTaken (k .immediates) (k .pops)) (codes edition)
-codes-count edition = search (cons, empty, tt) depth 80 fits 2000
+codes-count : Every (λ (k : Code). CountTaken (k .immediates) (k .pops)) codes
+unfolding codes
+codes-count = search (cons, empty, tt) depth 80 fits 2000
 
 -- ---- one instruction
 
@@ -88,48 +100,61 @@ codes-count edition = search (cons, empty, tt) depth 80 fits 2000
 pub record SmallInstruction (j : Instruction) : Type 0 where
   pub code : j .code < 128
   pub depth : j .depth ≤ operandDepth
-  pub few : length (j .immediates) ≤ 1
+  pub few : length (j .immediates) ≤ 2
   pub numbers : Every (λ n. n < instructionCount) (j .immediates)
 
 module _ (i : Image) (ok : Checked i) where
-  one-number : (s : Section) (k : ImmediateKind) (takes : List ℕ → ℕ) (n : ℕ) → CountTaken (k ∷ []) takes → Exists i s k n → takes (n ∷ []) ≤ operandDepth
-      → n < instructionCount
-  one-number s a-constant takes n c e t = omega (arith, ok .constants)
-  one-number s a-variable takes n c e t = omega (arith, ok .users)
-  one-number s an-ere takes n c e t = omega (arith, ok .eres)
-  one-number s an-instruction takes n c e t = omega (arith, ok .few s)
-  one-number s a-count takes n c e t = omega (arith, c n)
+  thing-few : (s : Section) (k : ImmediateKind) (n : ℕ) → NoCount k → Exists i s k n → n < instructionCount
+  thing-few s a-constant n c e = omega (arith, ok .constants)
+  thing-few s a-variable n c e = omega (arith, ok .users, specials-all (i .edition), specials-few)
+  thing-few s an-assignable-variable n c e = omega (arith, e .0, ok .users, specials-all (i .edition), specials-few)
+  thing-few s an-ere n c e = omega (arith, ok .eres)
+  thing-few s an-instruction n c e = omega (arith, ok .few s)
+  thing-few s a-positive-count n c e = absurd c
 
-  numbers-few : (s : Section) (names : List ImmediateKind) (takes : List ℕ → ℕ) (ns : List ℕ) → CountTaken names takes → AllExist i s names ns → takes ns ≤ operandDepth
-      → (length ns ≤ 1) × (Every (λ n. n < instructionCount) ns)
+  first-few : (s : Section) (k : ImmediateKind) (takes : List ℕ → ℕ) (n : ℕ) (ns : List ℕ) → CountFirst k takes → Exists i s k n
+      → takes (n ∷ ns) ≤ operandDepth → n < instructionCount
+  first-few s a-constant takes n ns c e t = thing-few s a-constant n tt e
+  first-few s a-variable takes n ns c e t = thing-few s a-variable n tt e
+  first-few s an-assignable-variable takes n ns c e t = thing-few s an-assignable-variable n tt e
+  first-few s an-ere takes n ns c e t = thing-few s an-ere n tt e
+  first-few s an-instruction takes n ns c e t = thing-few s an-instruction n tt e
+  first-few s a-positive-count takes n ns c e t = omega (arith, c n ns)
+
+  numbers-few : (s : Section) (names : List ImmediateKind) (takes : List ℕ → ℕ) (ns : List ℕ) → CountTaken names takes → AllExist i s names ns
+      → takes ns ≤ operandDepth → (length ns ≤ 2) × (Every (λ n. n < instructionCount) ns)
   numbers-few s [] takes [] c e t = (omega arith, empty)
   numbers-few s [] takes (n ∷ ns) c e t = absurd e
   numbers-few s (k ∷ []) takes [] c e t = absurd e
-  numbers-few s (k ∷ []) takes (n ∷ []) c e t = (omega arith, cons (one-number s k takes n c (e .0) t) empty)
+  numbers-few s (k ∷ []) takes (n ∷ []) c e t = (omega arith, cons (first-few s k takes n [] c (e .0) t) empty)
   numbers-few s (k ∷ []) takes (n ∷ m ∷ ns) c e t = absurd (e .1)
-  numbers-few s (k ∷ m ∷ l) takes ns c e t = absurd c
+  numbers-few s (k ∷ m ∷ []) takes [] c e t = absurd e
+  numbers-few s (k ∷ m ∷ []) takes (n ∷ []) c e t = absurd (e .1)
+  numbers-few s (k ∷ m ∷ []) takes (n ∷ o ∷ []) c e t =
+      (omega arith, cons (first-few s k takes n (o ∷ []) (c .0) (e .0) t) (cons (thing-few s m o (c .1) (e .1 .0)) empty))
+  numbers-few s (k ∷ m ∷ []) takes (n ∷ o ∷ p ∷ ns) c e t = absurd (e .1 .1)
+  numbers-few s (k ∷ m ∷ j ∷ l) takes ns c e t = absurd c
 
   pub instruction-small : (s : Section) (n : ℕ) (j : Instruction) → nth (sectionOf i s) n ≡ some j → SmallInstruction j
-  unfolding codeOf
   instruction-small s n j h =
       let a = ok .each-one s n j h in
       let k = a .row in
-      let x = numbers-few s (k .immediates) (k .pops) (j .immediates) (every-at (codes-count (i .edition)) (j .code) k (a .code)) (a .exist) (omega (arith, a .enough, a .deep)) in
+      let x = numbers-few s (k .immediates) (k .pops) (j .immediates) (every-at codes-count (j .code) k (code-row (i .edition) (j .code) (a .code))) (a .exist) (omega (arith, a .enough, a .deep)) in
       record {
-        code = omega (arith, nth-inside (codes (i .edition)) (j .code) (a .code));
+        code = omega (arith, code-below (i .edition) (j .code) (a .code), codes-all (i .edition), codes-few);
         depth = a .deep;
         few = x .0;
         numbers = x .1;
       }
 
-  -- an instruction has at most four bytes
-  numbers-bytes : (ns : List ℕ) → length ns ≤ 1 → Every (λ n. n < instructionCount) ns → length (all coded ns) ≤ 2
+  -- an instruction has at most six bytes
+  numbers-bytes : (ns : List ℕ) → Every (λ n. n < instructionCount) ns → length (all coded ns) ≤ 2 * length ns
   unfolding all
-  numbers-bytes [] h e = omega arith
-  numbers-bytes (n ∷ []) h (cons e r) = omega (arith, length-append (coded n) [], coded-two-bytes n (omega arith))
-  numbers-bytes (n ∷ m ∷ ns) h e = absurd (omega arith)
+  numbers-bytes [] e = omega arith
+  numbers-bytes (n ∷ ns) (cons e r) =
+      omega (arith, length-append (coded n) (all coded ns), coded-two-bytes n (omega arith), numbers-bytes ns r)
 
-  pub instruction-bytes : (s : Section) (n : ℕ) (j : Instruction) → nth (sectionOf i s) n ≡ some j → length (instructionIn coded j) ≤ 4
+  pub instruction-bytes : (s : Section) (n : ℕ) (j : Instruction) → nth (sectionOf i s) n ≡ some j → length (instructionIn coded j) ≤ 6
   instruction-bytes s n j h =
       let a = instruction-small s n j h in
       omega (
@@ -138,7 +163,8 @@ module _ (i : Image) (ok : Checked i) where
         length-append (coded (j .depth)) (all coded (j .immediates)),
         coded-one-byte (j .code) (a .code),
         coded-one-byte (j .depth) (omega (arith, a .depth)),
-        numbers-bytes (j .immediates) (a .few) (a .numbers),
+        numbers-bytes (j .immediates) (a .numbers),
+        a .few,
       )
 
   -- ---- the lists
@@ -147,8 +173,8 @@ module _ (i : Image) (ok : Checked i) where
       → length (listed coded one l) ≤ 2 + length l * most
   listed-most one most l h f = omega (arith, length-append (coded (length l)) (all one l), coded-two-bytes (length l) h, all-most one most l f)
 
-  section-bytes : (s : Section) → length (listed coded (instructionIn coded) (sectionOf i s)) ≤ 4098
-  section-bytes s = omega (arith, ok .few s, listed-most (instructionIn coded) 4 (sectionOf i s) (omega (arith, ok .few s)) (instruction-bytes s))
+  section-bytes : (s : Section) → length (listed coded (instructionIn coded) (sectionOf i s)) ≤ 6146
+  section-bytes s = omega (arith, ok .few s, listed-most (instructionIn coded) 6 (sectionOf i s) (omega (arith, ok .few s)) (instruction-bytes s))
 
   text-bytes : (l : List ℕ) → length l ≤ 512 → length (bytes coded l) ≤ 514
   text-bytes l h = omega (arith, length-append (coded (length l)) l, coded-two-bytes (length l) (omega arith))
@@ -167,7 +193,7 @@ module _ (i : Image) (ok : Checked i) where
   eres-bytes : length (listed coded (bytes coded) (i .eres)) ≤ 8226
   eres-bytes = omega (arith, ok .eres, listed-most (bytes coded) 514 (i .eres) (omega (arith, ok .eres)) (λ n l h. text-bytes l (ere-short n l h)))
 
-  pub image-bytes : length (bytesOf i) < 65536
+  pub image-bytes : length (bytesOf i) < imageBound
   unfolding written
   image-bytes =
       let e = listed coded (instructionIn coded) (i .end) in

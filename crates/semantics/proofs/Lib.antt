@@ -1,4 +1,5 @@
 -- Laws on the check and the run of an image.
+pub mod Specials
 pub mod Tables
 pub mod Checks
 pub mod Actions

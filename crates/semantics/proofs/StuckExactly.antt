@@ -12,6 +12,7 @@ use Rattle.lists.proofs.Options.{none-some}
 use Rattle.lists.specs.Elements.{nth}
 use Rattle.ere_meaning.specs.Tree.{Class, Ere}
 use Rattle.ere_meaning.specs.Meaning.{Match}
+use Rattle.image_format.proofs.Codes.{front-length}
 use Rattle.image_format.specs.Codes.{Code, codeOf, Operation, action, flow, Action, constant, get, set, field, set-field, drop, arithmetic, negate, to-number, negation, compare, join, matches, match, length-of, index, substr, print, Flow, section-end, jump, jump-if-false, next, exit}
 use Rattle.image_format.specs.Image.{Constant, Instruction, Image}
 use Rattle.values.specs.Value.{Value, Result, gives, stops, truthOf}
@@ -22,7 +23,8 @@ use Rattle.semantics.specs.Operations.{Effect, constantAt, pushed, setVa
 use Rattle.semantics.specs.Moves.{Section, begin, main, end, Location, at, between, Config, Move, continues, finishes, stops-at, stuck, sectionOf, unary, applied, advance, inEnd, inMain, applyEffect, branched, orStuck, applyFlow, execute, withOperands, withNumbers, byCode, byInstruction, silent, recordRead, fromBetween, fromLocation, move}
 use Rattle.semantics.specs.Stuck.{There, Ready, Stuck, no-instruction, no-code, no-number, no-operand, no-constant, no-variable, no-variable-to-set, not-assignable, no-ere, unread-ere, print-nothing, next-elsewhere}
 use Rattle.semantics.proofs.Walks.{cond-all, unary-all}
-use Rattle.semantics.proofs.Shapes.{named, Takes, code-fits, one-total, unary-total, binary-total, ternary-total, take-length}
+use Rattle.semantics.proofs.Tables.{rowOf, row-is}
+use Rattle.semantics.proofs.Shapes.{one-total, unary-total, binary-total, ternary-total}
 
 abbrev isStuck : Move → Bool
 isStuck (continues d) = false
@@ -170,8 +172,8 @@ module _ (i : Image) (c : Config) where
     ere-why v e n none g h = no-ere r e n g
     ere-why v e n (some l) g h = unread-ere r e n g h
 
-    action-why : (a : Action) → k .operation ≡ action a → (ns : List ℕ) → j .immediates ≡ ns → length ns ≡ named (action a)
-        → (vs : List Value) → (k .pops) (j .immediates) ≡ length vs → Takes (action a) (length vs)
+    action-why : (a : Action) → k .operation ≡ action a → (ns : List ℕ) → j .immediates ≡ ns → length ns ≡ length (rowOf (action a) .immediates)
+        → (vs : List Value) → (k .pops) (j .immediates) ≡ length vs → length vs ≡ (rowOf (action a) .pops) ns
         → applied i a ns vs (c .world) ≡ none → Stuck i c
     unfolding Why
     action-why constant e ns q l vs m t =
@@ -216,8 +218,8 @@ module _ (i : Image) (c : Config) where
     branched-not n t o (gives false) = refl
     branched-not n t o (stops a) = refl
 
-    flow-why : (f : Flow) → k .operation ≡ flow f → (n : ℕ) (ns : List ℕ) → length ns ≡ named (flow f)
-        → (vs o : List Value) → Takes (flow f) (length vs) → applyFlow s n c f ns vs o ≡ stuck → Stuck i c
+    flow-why : (f : Flow) → k .operation ≡ flow f → (n : ℕ) (ns : List ℕ) → length ns ≡ length (rowOf (flow f) .immediates)
+        → (vs o : List Value) → length vs ≡ (rowOf (flow f) .pops) ns → applyFlow s n c f ns vs o ≡ stuck → Stuck i c
     flow-why section-end e n ns l vs o t h = absurd (not-stuck (cond-all (λ (m : Move). isStuck m ≡ false) (inEnd s) refl refl) h)
     flow-why exit e n ns l vs o t h = absurd (not-stuck (cond-all (λ (m : Move). isStuck m ≡ false) (inEnd s) refl refl) h)
     flow-why jump e n ns l vs o t h =
@@ -232,19 +234,20 @@ module _ (i : Image) (c : Config) where
         by true p h = absurd (not-stuck refl h)
         by false p h = next-elsewhere r e (λ q. true≢false (sym (ap (inMain) q) ∙ p))
 
-    execute-why : (o : Operation) → k .operation ≡ o → (n : ℕ) → length (j .immediates) ≡ named o → Takes o (length (taken j k))
+    execute-why : (o : Operation) → k .operation ≡ o → (n : ℕ) → length (j .immediates) ≡ length (rowOf o .immediates) → length (taken j k) ≡ (rowOf o .pops) (j .immediates)
         → execute i s n c o (j .immediates) (taken j k) (below j k) ≡ stuck → Stuck i c
     unfolding execute
     execute-why (flow f) e n l t h = flow-why f e n (j .immediates) l (taken j k) (below j k) t h
     execute-why (action a) e n l t h =
-        action-why a e (j .immediates) refl l (taken j k) (sym (take-length ((k .pops) (j .immediates)) (c .control .operands) (r .operands))) t
+        action-why a e (j .immediates) refl l (taken j k) (sym (front-length ((k .pops) (j .immediates)) (c .control .operands) (r .operands))) t
         (effect-none n (below j k) (applied i a (j .immediates) (taken j k) (c .world)) h)
 
     ready-why : execute i s (r .there .number) c (k .operation) (j .immediates) (taken j k) (below j k) ≡ stuck → Stuck i c
     ready-why h =
-        let fits = code-fits (i .edition) (j .code) k (r .there .code) in
-        execute-why (k .operation) refl (r .there .number) (r .numbers ∙ fits .names)
-        (subst (Takes (k .operation)) (sym (take-length ((k .pops) (j .immediates)) (c .control .operands) (r .operands))) (fits .takes (j .immediates))) h
+        let ns = j .immediates in
+        let is = row-is (i .edition) (j .code) k (r .there .code) in
+        execute-why (k .operation) refl (r .there .number) (r .numbers ∙ ap (λ (k : Code). length (k .immediates)) is)
+        (front-length ((k .pops) ns) (c .control .operands) (r .operands) ∙ ap (λ (k : Code). (k .pops) ns) is) h
 
   -- a run between records has a rule
   between-not : isStuck (fromBetween i c) ≡ false

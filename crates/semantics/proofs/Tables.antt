@@ -5,20 +5,10 @@ use mathlib.Core.Option.{some}
 use Prim.Native.Nat.{ℕ, zero, suc, _<_}
 use native.Mathlib.Omega.{arith}
 use lib.ListN.{length}
-use Rattle.lists.proofs.Options.{some-one, none-some}
-use Rattle.lists.specs.Elements.{nth}
-use Rattle.image_format.specs.Codes.{a-constant, a-variable, an-ere, an-instruction, Code, code, printing, codes, codeOf, Operation, action, flow, constant, get, set, field, set-field, drop, arithmetic, negate, to-number, negation, compare, join, matches, match, length-of, index, substr, print, section-end, jump, jump-if-false, next, exit}
-
--- each element
-abbrev pub AllOf : {A : Type 0} → (A → Type 0) → List A → Type 0
-AllOf P [] = Unit
-AllOf P (a ∷ l) = (P a) × (AllOf P l)
-
-pub all-of : {A : Type 0} (P : A → Type 0) (l : List A) → AllOf P l → (n : ℕ) (a : A) → nth l n ≡ some a → P a
-unfolding nth
-all-of P [] x n a h = absurd (none-some h)
-all-of P (b ∷ l) x zero a h = rw (← (some-one refl h)) (x .0)
-all-of P (b ∷ l) x (suc n) a h = all-of P l (x .1) n a h
+use Rattle.lists.proofs.Elements.{every-at}
+use Rattle.lists.specs.Elements.{nth, Every, empty, cons}
+use Rattle.image_format.proofs.Codes.{code-row}
+use Rattle.image_format.specs.Codes.{a-constant, a-variable, an-assignable-variable, an-ere, an-instruction, Code, code, printing, codes, codeOf, Operation, action, flow, constant, get, set, field, set-field, drop, arithmetic, negate, to-number, negation, compare, join, matches, match, length-of, index, substr, print, section-end, jump, jump-if-false, next, exit}
 
 -- a number below the length has an element
 pub nth-some : {A : Type 0} (l : List A) (n : ℕ) → n < length l → (a : A) × (nth l n ≡ some a)
@@ -31,7 +21,7 @@ nth-some (a ∷ l) (suc n) h = nth-some l n (omega arith)
 abbrev pub rowOf : Operation → Code
 rowOf (action constant) = code (action constant) 0 1 (a-constant ∷ [])
 rowOf (action get) = code (action get) 0 1 (a-variable ∷ [])
-rowOf (action set) = code (action set) 1 1 (a-variable ∷ [])
+rowOf (action set) = code (action set) 1 1 (an-assignable-variable ∷ [])
 rowOf (action field) = code (action field) 1 1 []
 rowOf (action set-field) = code (action set-field) 2 1 []
 rowOf (action drop) = code (action drop) 1 0 []
@@ -54,9 +44,9 @@ rowOf (flow next) = code (flow next) 0 0 []
 rowOf (flow exit) = code (flow exit) 0 0 []
 
 -- each row of the table is its operation's
+rows-are : Every (λ (k : Code). k ≡ rowOf (k .operation)) codes
+unfolding codes
+rows-are = search (cons, empty) depth 80 fits 2000
+
 pub row-is : (edition n : ℕ) (k : Code) → codeOf edition n ≡ some k → k ≡ rowOf (k .operation)
-unfolding codeOf
-row-is edition n k h = all-of (λ (k : Code). k ≡ rowOf (k .operation)) (codes edition) rows n k h
-  where
-    rows : AllOf (λ (k : Code). k ≡ rowOf (k .operation)) (codes edition)
-    rows = (refl, (refl, (refl, (refl, (refl, (refl, (refl, (refl, (refl, (refl, (refl, (refl, (refl, (refl, (refl, (refl, (refl, (refl, (refl, (refl, (refl, (refl, (refl, (refl, (refl, (refl, (refl, (refl, (refl, (refl, (refl, (refl, tt))))))))))))))))))))))))))))))))
+row-is edition n k h = every-at rows-are n k (code-row edition n h)

@@ -10,9 +10,10 @@ use lib.Dec.{eqb, ltb, leb}
 use Rattle.lists.specs.Elements.{nth, all, allFrom, isSome, agree}
 use Rattle.edition.specs.Limits.{textBytes, userNames, constantCount, ereCount, instructionCount, operandDepth}
 use Rattle.ere_grammar.specs.Read.{readEre}
-use Rattle.image_format.specs.Codes.{ImmediateKind, a-constant, a-variable, an-ere, an-instruction, a-count, Code, codeOf, Operation, action, flow, Action, constant, get, set, field, set-field, drop, arithmetic, negate, to-number, negation, compare, join, matches, match, length-of, index, substr, print, Flow, section-end, jump, jump-if-false, next, exit}
+use Rattle.image_format.specs.Codes.{ImmediateKind, a-constant, a-variable, an-assignable-variable, an-ere, an-instruction, a-positive-count, Code, codeOf, Operation, action, flow, section-end, jump, jump-if-false, next, exit}
 use Rattle.image_format.specs.Image.{Constant, number, text, Instruction, Image, known}
-use Rattle.semantics.specs.Variables.{specials, assignable}
+use Rattle.semantics.specs.Variables.{assignable}
+use Rattle.semantics.specs.World.{variableCount}
 use Rattle.semantics.specs.Moves.{Section, begin, main, end, sectionOf, inMain, isEnd}
 
 -- ---- sizes
@@ -46,12 +47,13 @@ depthIs d none = false
 depthIs d (some j) = eqb (j .depth) d
 
 -- "30 only in the record section"
-abbrev pub flowAllowed : Section → Flow → Bool
-flowAllowed s section-end = true
-flowAllowed s jump = true
-flowAllowed s jump-if-false = true
-flowAllowed s next = inMain s
-flowAllowed s exit = true
+abbrev pub isNext : Operation → Bool
+isNext (action a) = false
+isNext (flow section-end) = false
+isNext (flow jump) = false
+isNext (flow jump-if-false) = false
+isNext (flow next) = true
+isNext (flow exit) = false
 
 module _ (i : Image) where
   -- ---- sizes, and EREs
@@ -67,44 +69,20 @@ module _ (i : Image) where
   module _ (s : Section) where
     -- ---- one instruction
 
-    -- "every number named exists"; a count names nothing, and an instruction is judged as a successor
+    -- "every number named exists"; "print's n from 1; no set of 0, 1, 5, 6"
     abbrev pub exists : ImmediateKind → ℕ → Bool
     exists a-constant n = ltb n (length (i .constants))
-    exists a-variable n = ltb n (length (specials (i .edition)) + i .users)
+    exists a-variable n = ltb n (variableCount i)
+    exists an-assignable-variable n = ltb n (variableCount i) && assignable (i .edition) n
     exists an-ere n = ltb n (length (i .eres))
     exists an-instruction n = ltb n (length (sectionOf i s))
-    exists a-count n = true
+    exists a-positive-count n = leb 1 n
 
     abbrev pub allExist : List ImmediateKind → List ℕ → Bool
     allExist [] [] = true
     allExist [] (n ∷ ns) = false
     allExist (k ∷ ks) [] = false
     allExist (k ∷ ks) (n ∷ ns) = exists k n && allExist ks ns
-
-    -- "print's n from 1; no set of 0, 1, 5, 6"
-    abbrev pub actionAllowed : Action → List ℕ → Bool
-    actionAllowed set ns = all (assignable (i .edition)) ns
-    actionAllowed print ns = all (leb 1) ns
-    actionAllowed constant ns = true
-    actionAllowed get ns = true
-    actionAllowed field ns = true
-    actionAllowed set-field ns = true
-    actionAllowed drop ns = true
-    actionAllowed (arithmetic o) ns = true
-    actionAllowed negate ns = true
-    actionAllowed to-number ns = true
-    actionAllowed negation ns = true
-    actionAllowed (compare o) ns = true
-    actionAllowed join ns = true
-    actionAllowed matches ns = true
-    actionAllowed match ns = true
-    actionAllowed length-of ns = true
-    actionAllowed index ns = true
-    actionAllowed substr ns = true
-
-    abbrev pub allowed : Operation → List ℕ → Bool
-    allowed (action a) ns = actionAllowed a ns
-    allowed (flow f) ns = flowAllowed s f
 
     -- the clauses on one instruction, by its code
     unfoldable pub holdsFor : ℕ → Instruction → Code → Bool
@@ -118,7 +96,7 @@ module _ (i : Image) where
         && (leb d operandDepth
         && (leb ((k .pops) ns) d
         && (all (λ m. depthIs (d - (k .pops) ns + (k .pushes) ns) (nth (sectionOf i s) m)) (successors (k .operation) n ns)
-        && allowed (k .operation) ns))))))
+        && (not (isNext (k .operation)) || inMain s)))))))
 
     abbrev pub byCode : ℕ → Instruction → Option Code → Bool
     byCode n j none = false

@@ -10,9 +10,10 @@ use Rattle.lists.specs.Elements.{nth}
 use Rattle.edition.specs.Limits.{textBytes, userNames, constantCount, ereCount, instructionCount, operandDepth}
 use Rattle.ere_meaning.specs.Tree.{Class, Ere}
 use Rattle.ere_grammar.specs.Read.{readEre}
-use Rattle.image_format.specs.Codes.{ImmediateKind, a-constant, a-variable, an-ere, an-instruction, a-count, Code, codeOf, action, flow, set, print, section-end, next, exit}
+use Rattle.image_format.specs.Codes.{ImmediateKind, a-constant, a-variable, an-assignable-variable, an-ere, an-instruction, a-positive-count, Code, codeOf, flow, section-end, next, exit}
 use Rattle.image_format.specs.Image.{Constant, number, text, Instruction, Image}
-use Rattle.semantics.specs.Variables.{specials, assignable}
+use Rattle.semantics.specs.Variables.{assignable}
+use Rattle.semantics.specs.World.{variableCount}
 use Rattle.semantics.specs.Moves.{Section, main, sectionOf}
 use Rattle.semantics.specs.Check.{successors}
 
@@ -21,13 +22,16 @@ Short (number n) = Unit
 Short (text l) = length l ≤ textBytes
 
 module _ (i : Image) where
-  -- a number names something
+  -- a number names something, and keeps the rule of its kind
   abbrev pub Exists : Section → ImmediateKind → ℕ → Type 0
   Exists s a-constant n = n < length (i .constants)
-  Exists s a-variable n = n < length (specials (i .edition)) + i .users
+  Exists s a-variable n = n < variableCount i
+  -- "no set of 0, 1, 5, 6"
+  Exists s an-assignable-variable n = (n < variableCount i) × (assignable (i .edition) n ≡ true)
   Exists s an-ere n = n < length (i .eres)
   Exists s an-instruction n = n < length (sectionOf i s)
-  Exists s a-count n = Unit
+  -- "print's n from 1"
+  Exists s a-positive-count n = 1 ≤ n
 
   abbrev pub AllExist : Section → List ImmediateKind → List ℕ → Type 0
   AllExist s [] [] = Unit
@@ -50,8 +54,6 @@ module _ (i : Image) where
     pub leads : (k : ℕ) → k < length (successors (row .operation) n (j .immediates))
         → (d : Instruction) × (nth (sectionOf i s) (getD (successors (row .operation) n (j .immediates)) k 0) ≡ some d)
         × (d .depth ≡ j .depth - (row .pops) (j .immediates) + (row .pushes) (j .immediates))
-    pub prints : row .operation ≡ action print → 1 ≤ getD (j .immediates) 0 0
-    pub sets : row .operation ≡ action set → assignable (i .edition) (getD (j .immediates) 0 0) ≡ true
     pub nexts : row .operation ≡ flow next → s ≡ main
 
   pub record Checked : Type 0 where

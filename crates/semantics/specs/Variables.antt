@@ -4,6 +4,7 @@ use mathlib.Core.Bool.{Bool, true, false}
 use mathlib.Core.List.{List, [], _∷_}
 use mathlib.Core.Option.{Option, some, none}
 use Prim.Native.Nat.{ℕ}
+use lib.ListN.{take}
 use lib.IntN.{pos, negsuc}
 use Rattle.lists.specs.Elements.{nth}
 use Rattle.values.specs.Value.{Value, unset, number, text}
@@ -20,9 +21,9 @@ pub record Variable : Type 0 where
 abbrev pub variable : Source → Bool → Variable
 variable s b = record { source = s; assignable = b }
 
--- the special variables of an edition, from 0 on; "no set of 0, 1, 5, 6"
-abbrev pub specials : ℕ → List Variable
-specials edition =
+-- all special variables that there are, from 0 on; "no set of 0, 1, 5, 6"
+unfoldable pub specials : List Variable
+specials =
     variable field-count false
     ∷ variable record-count false
     ∷ variable (stored (text (32 ∷ []))) true
@@ -31,6 +32,17 @@ specials edition =
     ∷ variable (stored (number (pos 0))) false
     ∷ variable (stored (number (negsuc 0))) false
     ∷ []
+
+-- how many of them an edition has
+unfoldable pub specialCount : ℕ → ℕ
+specialCount edition = 7
+
+abbrev pub specialsOf : ℕ → List Variable
+specialsOf edition = take (specialCount edition) specials
+
+-- "users from 7": from there on a number has none
+unfoldable pub specialOf : ℕ → ℕ → Option Variable
+specialOf edition v = nth (specialsOf edition) v
 
 -- the numbers of those that the rules name
 abbrev pub FS : ℕ
@@ -54,7 +66,7 @@ mayAssign none = true
 mayAssign (some v) = v .assignable
 
 unfoldable pub assignable : ℕ → ℕ → Bool
-assignable edition v = mayAssign (nth (specials edition) v)
+assignable edition v = mayAssign (specialOf edition v)
 
 -- a stored variable's first value; the others have none of their own
 abbrev pub firstValue : Variable → Value

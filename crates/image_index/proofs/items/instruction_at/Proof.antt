@@ -2,7 +2,7 @@
 use mathlib.Core.Path.{sym, subst, _∙_}
 use borrow.Author.Tests.{not-true, not-false}
 use Rattle.varint.specs.Take.{TakesAt}
-use Rattle.image_index.proofs.Fetching.{instruction-none, code-missing, code-unknown, code-below, depth-missing, depth-there}
+use Rattle.image_index.proofs.Fetching.{instruction-none, code-missing, code-unknown, depth-missing, depth-there}
 use borrow.Author.Needs.{needs}
 use Rattle.image_index.proofs.items.instruction_at.Statement.{statement}
 use Rattle.image_index.proofs.items.instruction_at.Tie as tie
@@ -51,17 +51,15 @@ returns-3 c =
     let d = subst (TakesAt (c .before .before .before .before .before .before .before .before .before .before .before .args .image .now) (c .before .before .before .before .before .before .before .code .given .0 .1 .0)) (c .before .enum-told2 .given .1) (c .before .before .before .take-number2 .ensures) in
     instruction-none (c .before .before .before .before .before .before .before .before .before .before .before .args .edition) (c .before .before .before .before .before .before .before .before .before .before .before .args .image .now) (c .before .before .before .before .before .before .before .before .before .before .before .args .at) _ (c .no-instruction3 .ensures) (depth-missing (c .before .before .before .before .before .before .before .before .before .before .before .args .edition) (c .before .before .before .before .before .before .before .before .before .before .before .args .image .now) (c .before .before .before .before .before .before .before .before .before .before .before .args .at) _ _ t (sym (c .before .before .before .before .before .known-code .ensures) ∙ not-false _ (c .before .before .before .before .if1 .left)) d)
 
-operand-at-requires : tie.Need-operand-at-requires
-operand-at-requires c κs =
-    let t = subst (TakesAt (c .before .before .before .before .before .before .before .before .before .before .before .args .image .now) (c .before .before .before .before .before .before .before .before .before .before .before .args .at)) (c .before .before .before .before .before .before .before .code .given .1) (c .before .before .before .before .before .before .before .before .before .take-number .ensures) in
-    let d = subst (TakesAt (c .before .before .before .before .before .before .before .before .before .before .before .args .image .now) (c .before .before .before .before .before .before .before .code .given .0 .1 .0)) (c .before .depth .given .1) (c .before .before .before .take-number2 .ensures) in
-    (d .2, code-below (c .before .before .before .before .before .before .before .before .before .before .before .args .edition) (c .before .before .before .before .before .before .before .before .before .before .before .args .image .now) (c .before .before .before .before .before .before .before .before .before .before .before .args .at) _ _ t (sym (c .before .before .before .before .before .known-code .ensures) ∙ not-false _ (c .before .before .before .before .if1 .left)))
+operands-at-requires : tie.Need-operands-at-requires
+operands-at-requires c κs =
+    subst (TakesAt (c .before .before .before .before .before .before .before .before .before .before .before .args .image .now) (c .before .before .before .before .before .before .before .code .given .0 .1 .0)) (c .before .depth .given .1) (c .before .before .before .take-number2 .ensures) .2
 
 returns-4 : tie.Need-returns-4
 returns-4 c =
     let t = subst (TakesAt (c .before .before .before .before .before .before .before .before .before .before .before .before .args .image .now) (c .before .before .before .before .before .before .before .before .before .before .before .before .args .at)) (c .before .before .before .before .before .before .before .before .code .given .1) (c .before .before .before .before .before .before .before .before .before .before .take-number .ensures) in
     let d = subst (TakesAt (c .before .before .before .before .before .before .before .before .before .before .before .before .args .image .now) (c .before .before .before .before .before .before .before .before .code .given .0 .1 .0)) (c .before .before .depth .given .1) (c .before .before .before .before .take-number2 .ensures) in
-    depth-there (c .before .before .before .before .before .before .before .before .before .before .before .before .args .edition) (c .before .before .before .before .before .before .before .before .before .before .before .before .args .image .now) (c .before .before .before .before .before .before .before .before .before .before .before .before .args .at) _ _ t (sym (c .before .before .before .before .before .before .known-code .ensures) ∙ not-false _ (c .before .before .before .before .before .if1 .left)) _ _ d _ (c .operand-at .ensures)
+    depth-there (c .before .before .before .before .before .before .before .before .before .before .before .before .args .edition) (c .before .before .before .before .before .before .before .before .before .before .before .before .args .image .now) (c .before .before .before .before .before .before .before .before .before .before .before .before .args .at) _ _ t (sym (c .before .before .before .before .before .before .known-code .ensures) ∙ not-false _ (c .before .before .before .before .before .if1 .left)) _ _ d _ (c .operands-at .ensures)
 
 pub instruction-at-spec : {M : Type 1} → statement M
 instruction-at-spec =
@@ -80,5 +78,5 @@ instruction-at-spec =
     enum-told-2
     no-instruction-requires-3
     returns-3
-    operand-at-requires
+    operands-at-requires
     returns-4)

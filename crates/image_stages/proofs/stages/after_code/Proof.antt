@@ -2,7 +2,7 @@
 use mathlib.Core.Path.{sym, _∙_}
 use borrow.Author.Needs.{needs}
 use Rattle.image_format.specs.Codes.{codeOf}
-use Rattle.image_stages.proofs.Codes.{known-row, unknown-refused, known-depth}
+use Rattle.image_stages.proofs.Codes.{unknown-refused, known-depth}
 use Rattle.image_stages.proofs.stages.after_code.Statement.{statement}
 use Rattle.image_stages.proofs.stages.after_code.Tie as tie
 
@@ -10,7 +10,7 @@ known-code-requires : tie.Need-known-code-requires
 known-code-requires c κs = search needs
 
 operands-requires : tie.Need-operands-requires
-operands-requires c κs = known-row (c .before .before .args .s .edition) (c .before .before .args .v) (sym (c .before .known-code .ensures) ∙ c .if1 .taken)
+operands-requires c κs = search needs
 
 returns : tie.Need-returns
 returns c = rw (c .operands .ensures) (known-depth (c .before .before .before .args .s) (codeOf (c .before .before .before .args .s .edition) (c .before .before .before .args .v)) (sym (c .before .before .known-code .ensures) ∙ c .before .if1 .taken))

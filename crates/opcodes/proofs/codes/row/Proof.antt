@@ -1,16 +1,12 @@
 -- `row` meets its contract: each byte of the table's words is the definition's row.
-use mathlib.Core.Path.{sym}
-use lib.ListN.{List·getD-eq-default}
 use native.Mathlib.Omega.{arith}
 use borrow.Author.Needs.{needs}
-use Rattle.opcodes.specs.Rows.{rows}
-use Rattle.opcodes.proofs.Bytes.{row-byte}
+use Rattle.opcodes.proofs.Bytes.{row-byte, row-none}
 use Rattle.opcodes.proofs.codes.row.Statement.{statement}
 use Rattle.opcodes.proofs.codes.row.Tie as tie
 
 returns : tie.Need-returns
-unfolding rows
-returns c = sym (List·getD-eq-default (rows (c .before .args .edition)) 0 (c .if1 .taken))
+returns c = row-none (c .before .args .edition) (c .before .args .code) (c .if1 .taken)
 
 mul-result : tie.Need-mul-result
 mul-result c = search needs
