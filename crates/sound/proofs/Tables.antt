@@ -31,16 +31,60 @@ use Rattle.semantics.specs.Variables.{assignable as semantics-assignable}
 use Rattle.semantics.specs.World.{valueAt as semantics-valueAt, splitBy as semantics-splitBy, readRecord as semantics-readRecord}
 use Rattle.sound.specs.Text.{Each}
 use Rattle.sound.specs.EightCases.{Claim as OfCase, eightCases}
-use Rattle.sound.specs.ValueRows.{Claim as OfValues, valueRows}
-use Rattle.sound.specs.RunRows.{Claim as OfRun, Row, runRows}
+use Rattle.sound.specs.ValueRows.{Claim as OfValues}
+use Rattle.sound.specs.ValueRows.{looks, text-numbers, number-stops, number-orders, byte-orders, comparison-stops}
+use Rattle.sound.specs.ValueRows.{nonzero-truths, nonempty-truths, truth-stops, negations, plain-decimals}
+use Rattle.sound.specs.ValueRows.{operand-numbers, quotients, remainders, ranges, substrings, places}
+use Rattle.sound.specs.RunRows.{Claim as OfRun}
+use Rattle.sound.specs.RunRows.{record-kinds, assigned-kinds, unset-fields, field-numbers, match-marks}
+use Rattle.sound.specs.RunRows.{joined-records, separators-in-force, first-and-last-records, first-values}
+use Rattle.sound.specs.RunRows.{unset-users, record-ends, read-stops, stopped-steps, section-order, exits, budgets}
+use Rattle.sound.specs.RunRows.{prints, arithmetic-codes, comparison-codes, text-codes, jumps, kept-operands}
+use Rattle.sound.specs.RunRows.{missing-things, no-rules}
 
--- a row, and those after it
-infixr 67 _and_
-abbrev _and_ : {A B : Type 0} → A → B → A × B
-a and b = (a, b)
-
--- all three, so that the definitions are opened once
-computed : (Each OfCase eightCases) × ((Each OfValues valueRows) × (Each OfRun runRows))
+-- document 01's eight cases; the tables of values; the tables of runs
+pub computed : (Each OfCase eightCases)
+    × (Each OfValues looks)
+    × (Each OfValues text-numbers)
+    × (Each OfValues number-stops)
+    × (Each OfValues number-orders)
+    × (Each OfValues byte-orders)
+    × (Each OfValues comparison-stops)
+    × (Each OfValues nonzero-truths)
+    × (Each OfValues nonempty-truths)
+    × (Each OfValues truth-stops)
+    × (Each OfValues negations)
+    × (Each OfValues plain-decimals)
+    × (Each OfValues operand-numbers)
+    × (Each OfValues quotients)
+    × (Each OfValues remainders)
+    × (Each OfValues ranges)
+    × (Each OfValues substrings)
+    × (Each OfValues places)
+    × (Each OfRun record-kinds)
+    × (Each OfRun assigned-kinds)
+    × (Each OfRun unset-fields)
+    × (Each OfRun field-numbers)
+    × (Each OfRun match-marks)
+    × (Each OfRun joined-records)
+    × (Each OfRun separators-in-force)
+    × (Each OfRun first-and-last-records)
+    × (Each OfRun first-values)
+    × (Each OfRun unset-users)
+    × (Each OfRun record-ends)
+    × (Each OfRun read-stops)
+    × (Each OfRun stopped-steps)
+    × (Each OfRun section-order)
+    × (Each OfRun exits)
+    × (Each OfRun budgets)
+    × (Each OfRun prints)
+    × (Each OfRun arithmetic-codes)
+    × (Each OfRun comparison-codes)
+    × (Each OfRun text-codes)
+    × (Each OfRun jumps)
+    × (Each OfRun kept-operands)
+    × (Each OfRun missing-things)
+    × (Each OfRun no-rules)
 unfolding lists-nth lists-oneOf lists-leading lists-many buffer-firstByte buffer-startsWith buffer-firstPart
     buffer-ordering buffer-equalBytes buffer-part number-sumOf number-differenceOf number-productOf
     number-quotientOf number-remainderOf number-negationOf number-ranged numeral-digitsWithin
@@ -63,44 +107,50 @@ unfolding lists-nth lists-oneOf lists-leading lists-many buffer-firstByte buffer
     semantics-full semantics-execute semantics-fromBetween semantics-move semantics-runFor semantics-run
     semantics-assignable semantics-valueAt semantics-splitBy semantics-readRecord
 computed = (
-  refl and refl and refl and refl
-      and (refl, refl)
-      and (refl, refl)
-      and record { read = refl; written = refl; checked = refl }
-      and (refl, refl)
-      and tt,
-  (
-    (refl and refl and refl and refl and refl and refl and refl and refl and refl and refl
-        and refl and refl and refl and refl and refl and refl and refl and refl and refl and refl
-        and refl and refl and refl and refl and refl and refl and refl and refl and refl and refl
-        and refl and refl and refl and refl and refl and refl and refl and refl and refl and refl
-        and refl and refl and refl and refl and refl and refl and refl and refl and refl and refl
-        and refl and refl and refl and refl and refl and refl and refl and refl and refl and refl
-        and refl and refl and refl and refl and refl and refl and refl and refl and refl and refl
-        and refl and refl and refl and refl and refl and refl and refl and refl and refl and refl
-        and refl and refl and refl and refl and refl and refl and refl and refl and refl and refl
-        and refl and refl and refl and refl and refl
-        and tt),
-    (refl and refl and refl and refl and refl and refl and refl and refl and refl and refl
-        and refl and refl and refl and refl and refl and refl and refl and refl and refl and refl
-        and refl and refl and refl and refl and refl and refl and refl and refl and refl and refl
-        and refl and refl and refl and refl and refl and refl and refl and refl and refl and refl
-        and refl and refl and refl and refl and refl and refl and refl and refl and refl and refl
-        and refl and refl and refl and refl and refl and refl and refl and refl and refl and refl
-        and refl and refl and refl and refl and refl and refl and refl and refl and refl and refl
-        and refl and refl and refl
-        and tt),
-  ),
+  (refl, (refl, (refl, (refl, ((refl, refl), ((refl, refl), (record { read = refl; written = refl; checked = refl }, ((refl, refl), tt)))))))),
+  (refl, (refl, (refl, (refl, (refl, (refl, (refl, tt))))))),
+  (refl, (refl, (refl, (refl, tt)))),
+  (refl, (refl, (refl, (refl, tt)))),
+  (refl, (refl, (refl, (refl, (refl, (refl, (refl, (refl, tt)))))))),
+  (refl, (refl, (refl, (refl, (refl, (refl, (refl, (refl, tt)))))))),
+  (refl, (refl, (refl, (refl, tt)))),
+  (refl, (refl, (refl, (refl, tt)))),
+  (refl, (refl, (refl, (refl, (refl, (refl, tt)))))),
+  (refl, (refl, tt)),
+  (refl, (refl, (refl, tt))),
+  (refl, (refl, (refl, (refl, (refl, (refl, (refl, tt))))))),
+  (refl, (refl, (refl, (refl, (refl, (refl, (refl, (refl, (refl, (refl, (refl, (refl, tt)))))))))))),
+  (refl, (refl, (refl, (refl, tt)))),
+  (refl, (refl, (refl, (refl, tt)))),
+  (refl, (refl, (refl, (refl, (refl, (refl, tt)))))),
+  (refl, (refl, (refl, (refl, (refl, (refl, (refl, tt))))))),
+  (refl, (refl, (refl, (refl, (refl, tt))))),
+  (refl, (refl, (refl, (refl, tt)))),
+  (refl, tt),
+  (refl, (refl, tt)),
+  (refl, (refl, (refl, tt))),
+  (refl, (refl, (refl, tt))),
+  (refl, (refl, (refl, (refl, tt)))),
+  (refl, (refl, tt)),
+  (refl, (refl, tt)),
+  (refl, tt),
+  (refl, tt),
+  (refl, (refl, tt)),
+  (refl, (refl, (refl, (refl, (refl, (refl, (refl, (refl, tt)))))))),
+  (refl, (refl, tt)),
+  (refl, (refl, (refl, (refl, tt)))),
+  (refl, (refl, (refl, tt))),
+  (refl, (refl, (refl, (refl, (refl, (refl, (refl, tt))))))),
+  (refl, (refl, (refl, tt))),
+  (refl, tt),
+  (refl, tt),
+  (refl, tt),
+  (refl, (refl, tt)),
+  (refl, (refl, tt)),
+  (refl, (refl, (refl, (refl, (refl, (refl, (refl, (refl, tt)))))))),
+  (refl, (refl, (refl, (refl, (refl, (refl, tt)))))),
 )
 
 -- document 01's eight cases, one statement over their table
 pub eight-cases : Each OfCase eightCases
 eight-cases = computed .0
-
--- the table of operations on values
-pub values-computed : Each OfValues valueRows
-values-computed = computed .1 .0
-
--- the table of runs
-pub runs-computed : Each OfRun runRows
-runs-computed = computed .1 .1

@@ -6,9 +6,7 @@ use mathlib.Core.Option.{Option, some, none}
 use Prim.Native.Nat.{ℕ}
 use Prim.Native.String.{String}
 use lib.IntN.{ℤ, pos}
-use Rattle.edition.specs.Limits.{numberBound}
 use Rattle.edition.specs.Outcomes.{done, budgetSpent, numberOutOfRange}
-use Rattle.ere_meaning.specs.Tree.{Class, accepts, Ere}
 use Rattle.ere_grammar.specs.Read.{readEre}
 use Rattle.splitting.specs.Splitting.{Split, fields, long-record, bad-separator, many-fields, splitOf, textOf as spanText}
 use Rattle.splitting.specs.Field.{Span}
@@ -20,7 +18,7 @@ use Rattle.values.specs.Value.{Value, number, text, stop, Result, gives, stops}
 use Rattle.values.specs.Operations.{arithmeticOf}
 use Rattle.semantics.specs.Feed.{oneFeed}
 use Rattle.semantics.specs.Variables.{RSTART, RLENGTH}
-use Rattle.semantics.specs.World.{World, startOf, valueAt}
+use Rattle.semantics.specs.World.{startOf, valueAt}
 use Rattle.semantics.specs.Operations.{Effect, byEre, matchMarked}
 use Rattle.semantics.specs.Check.{check}
 use Rattle.semantics.specs.Run.{Answer, answerOf, run}
