@@ -1,12 +1,13 @@
 #!/usr/bin/env python3
-"""Tries wrong definitions of values and runs, one at a time: each must be refused by a theorem or by a table of the crates.
+"""Tries wrong definitions of values and runs, one at a time: each must be refused by a theorem or by a table.
 
     tests/wrong_definitions.py [--tables] [WORD..]
 
-The script copies crates.txt, crates/ and what is proved of them in target/ to a temporary folder, applies one wrong definition there, runs
-`rt check sound`, which proves the crate of the definition, those above it and the tables of `sound`, and prints which crate refuses it, and
-where first. Exit status: 0 if each is refused; 1 if one is accepted, or is no definition (the checker refuses it in specs/, not in a proof);
-2 if a text to be replaced is not there.
+The script copies crates.txt, crates/ and what is proved of them in target/ to a temporary folder, applies one wrong
+definition there and runs `rt check sound`: that proves the definition's crate, those above it, and the tables of `sound`.
+It prints which crate refuses the definition, and where first. Exit status: 0 if each is refused; 1 if one is accepted, or
+is no definition at all (the checker refuses it in specs/, not in a proof); 2 if a text to be replaced is not there, or the
+crates don't pass as they are.
 
 --tables leaves the theorems of `values` and `semantics` out, so that the tables alone judge.
 WORD.. tries only those whose description has one of the words.
@@ -32,18 +33,24 @@ ACTION = ('semantics', 'Operations.antt')
 MOVES = ('semantics', 'Moves.antt')
 RUN = ('semantics', 'Run.antt')
 
-# what is wrong; the file; the texts and what stands for them: [(old, new), ..]
+# what is wrong; the file; the texts, and what replaces them: [(old, new), ..]
 WRONG = [
     # ---- comparison
     ('`<=` is `<`', OPERATION, [('holds at-most = among true true false', 'holds at-most = among true false false')]),
-    ('`!=` is `<`', OPERATION, [('holds different = among true false true', 'holds different = among true false false')]),
-    ('plain text that looks numeric is compared as a number', VALUE, [('numeric (text l) = false', 'numeric (text l) = looksNumeric l')]),
-    ('field text is compared as a number whatever it looks like', VALUE, [('numeric (field-text l) = looksNumeric l', 'numeric (field-text l) = true')]),
+    ('`!=` is `<`', OPERATION,
+     [('holds different = among true false true', 'holds different = among true false false')]),
+    ('plain text that looks numeric is compared as a number', VALUE,
+     [('numeric (text l) = false', 'numeric (text l) = looksNumeric l')]),
+    ('field text is compared as a number whatever it looks like', VALUE,
+     [('numeric (field-text l) = looksNumeric l', 'numeric (field-text l) = true')]),
     ('unset is compared as a text', VALUE, [('numeric unset = true', 'numeric unset = false')]),
-    ('one number is enough for a comparison of numbers', OPERATION, [('cond (numeric a && numeric b)', 'cond (not (not (numeric a) && not (numeric b)))')]),
+    ('one number is enough for a comparison of numbers', OPERATION,
+     [('cond (numeric a && numeric b)', 'cond (not (not (numeric a) && not (numeric b)))')]),
     ('the right side of a comparison is converted first', OPERATION,
-     [('(bind (numberOf a) (λ x. bind (numberOf b) (λ y. gives (truthValue', '(bind (numberOf b) (λ y. bind (numberOf a) (λ x. gives (truthValue')]),
-    ('texts are compared from the other side', OPERATION, [('ordering (textOf a) (textOf b)', 'ordering (textOf b) (textOf a)')]),
+     [('(bind (numberOf a) (λ x. bind (numberOf b) (λ y. gives (truthValue',
+       '(bind (numberOf b) (λ y. bind (numberOf a) (λ x. gives (truthValue')]),
+    ('texts are compared from the other side', OPERATION,
+     [('ordering (textOf a) (textOf b)', 'ordering (textOf b) (textOf a)')]),
     ('numbers are compared from the other side', OPERATION, [('holds o (orderOf x y)', 'holds o (orderOf y x)')]),
     ('true is 2', VALUE, [('number (pos (cond b 1 0))', 'number (pos (cond b 2 0))')]),
     # ---- truth, and numbers of values
@@ -51,30 +58,39 @@ WRONG = [
     ('zero is true', VALUE, [('gives (not (isZero z))', 'gives (not (isZero (pos 1)))')]),
     ('not without negation', OPERATION, [('gives (truthValue (not b))', 'gives (truthValue b)')]),
     ('unset is 1', VALUE, [('numberOf unset = gives (pos 0)', 'numberOf unset = gives (pos 1)')]),
-    ('the number of plain text is 0', VALUE, [('numberOf (text l) = result (textNumber l)', 'numberOf (text l) = gives (pos 0)')]),
+    ('the number of plain text is 0', VALUE,
+     [('numberOf (text l) = result (textNumber l)', 'numberOf (text l) = gives (pos 0)')]),
     ('the text of unset is 0', VALUE, [('textOf unset = []', 'textOf unset = decimalText (pos 0)')]),
     # ---- arithmetic
     ('the right operand is converted first', OPERATION,
-     [('arithmeticOf o a b = bind (numberOf a) (λ x. bind (numberOf b) (λ y.', 'arithmeticOf o a b = bind (numberOf b) (λ y. bind (numberOf a) (λ x.')]),
-    ('`-` from the other side', OPERATION, [('computed subtract x y = differenceOf x y', 'computed subtract x y = differenceOf y x')]),
-    ('`%` is `/`', OPERATION, [('computed remainder x y = remainderOf x y', 'computed remainder x y = quotientOf x y')]),
+     [('arithmeticOf o a b = bind (numberOf a) (λ x. bind (numberOf b) (λ y.',
+       'arithmeticOf o a b = bind (numberOf b) (λ y. bind (numberOf a) (λ x.')]),
+    ('`-` from the other side', OPERATION,
+     [('computed subtract x y = differenceOf x y', 'computed subtract x y = differenceOf y x')]),
+    ('`%` is `/`', OPERATION,
+     [('computed remainder x y = remainderOf x y', 'computed remainder x y = quotientOf x y')]),
     ('negate without negation', OPERATION, [('aNumber (result (negationOf x))', 'aNumber (gives x)')]),
     ('to number leaves the value', OPERATION, [('toNumberOf a = aNumber (numberOf a)', 'toNumberOf a = gives a')]),
     # ---- texts
-    ('the operands of `index` turned round', OPERATION, [('firstPart (textOf b) (textOf a)', 'firstPart (textOf a) (textOf b)')]),
+    ('the operands of `index` turned round', OPERATION,
+     [('firstPart (textOf b) (textOf a)', 'firstPart (textOf a) (textOf b)')]),
     ('`index` counts from 0', OPERATION, [('placeOf (some k) = suc k', 'placeOf (some k) = k')]),
-    ('`index` finds the empty text at 1', OPERATION, [('cond (eqb (length (textOf b)) 0) 0 (placeOf', 'cond (eqb (length (textOf b)) 0) 1 (placeOf')]),
+    ('`index` finds the empty text at 1', OPERATION,
+     [('cond (eqb (length (textOf b)) 0) 0 (placeOf', 'cond (eqb (length (textOf b)) 0) 1 (placeOf')]),
     ('`substr` with m < p', OPERATION, [('cond (atMost m (pos p) && not', 'cond (not (atMost (pos p) m) && not')]),
     ('`substr` a byte too long', OPERATION, [('not (atMost e (pos p))', 'atMost (pos p) e')]),
     ('`substr` ends at n', OPERATION, [('between x (x +ℤ y) 1', 'between x y 1')]),
     ('`substr` counts from 0', OPERATION, [('between x (x +ℤ y) 1', 'between x (x +ℤ y) 0')]),
     ('n of `substr` is converted first', OPERATION,
-     [('substrOf a m n = bind (numberOf m) (λ x. bind (numberOf n) (λ y.', 'substrOf a m n = bind (numberOf n) (λ y. bind (numberOf m) (λ x.')]),
+     [('substrOf a m n = bind (numberOf m) (λ x. bind (numberOf n) (λ y.',
+       'substrOf a m n = bind (numberOf n) (λ y. bind (numberOf m) (λ x.')]),
     ('join from the other side', OPERATION, [('limited (textOf a ++ textOf b)', 'limited (textOf b ++ textOf a)')]),
-    ('a text of 513 bytes is taken', OPERATION, [('cond (leb (length l) textBytes)', 'cond (leb (length l) (suc textBytes))')]),
+    ('a text of 513 bytes is taken', OPERATION,
+     [('cond (leb (length l) textBytes)', 'cond (leb (length l) (suc textBytes))')]),
     ('length is one more', OPERATION, [('number (pos (length (textOf a)))', 'number (pos (suc (length (textOf a))))')]),
     ('field 129 is taken', OPERATION, [('cond (leb k fieldCount)', 'cond (leb k (suc fieldCount))')]),
-    ('field -1 is field 0', OPERATION, [('fieldIn (negsuc k) = stops (stop badFieldNumber)', 'fieldIn (negsuc k) = gives 0')]),
+    ('field -1 is field 0', OPERATION,
+     [('fieldIn (negsuc k) = stops (stop badFieldNumber)', 'fieldIn (negsuc k) = gives 0')]),
     # ---- the codes
     ('codes 10 and 11 swapped', CODES,
      [('∷ code (action (arithmetic divide)) 2 1 []\n    ∷ code (action (arithmetic remainder)) 2 1 []',
@@ -82,10 +98,13 @@ WRONG = [
     ('codes 22 and 23 swapped', CODES,
      [('∷ code (action matches) 1 1 (an-ere ∷ [])\n    ∷ code (action match) 1 1 (an-ere ∷ [])',
        '∷ code (action match) 1 1 (an-ere ∷ [])\n    ∷ code (action matches) 1 1 (an-ere ∷ [])')]),
-    ('codes 30 and 31 swapped', CODES, [('∷ code (flow next) 0 0 []\n    ∷ code (flow exit) 0 0 []', '∷ code (flow exit) 0 0 []\n    ∷ code (flow next) 0 0 []')]),
+    ('codes 30 and 31 swapped', CODES,
+     [('∷ code (flow next) 0 0 []\n    ∷ code (flow exit) 0 0 []',
+       '∷ code (flow exit) 0 0 []\n    ∷ code (flow next) 0 0 []')]),
     ('the operands of code 25 turned round', MOVES, [('only w (indexOf a b)', 'only w (indexOf b a)')]),
     ('m and n of code 26 turned round', MOVES, [('only w (substrOf a m n)', 'only w (substrOf a n m)')]),
-    ('the index of code 5 above the value', MOVES, [('binary vs (λ k a. some (setField', 'binary vs (λ a k. some (setField')]),
+    ('the index of code 5 above the value', MOVES,
+     [('binary vs (λ k a. some (setField', 'binary vs (λ a k. some (setField')]),
     # ---- variables
     ('RSTART from -1', VARIABLES, [('stored (number (pos 0))', 'stored (number (negsuc 0))')]),
     ('RLENGTH from 0', VARIABLES, [('stored (number (negsuc 0))', 'stored (number (pos 0))')]),
@@ -94,64 +113,108 @@ WRONG = [
     ('RSTART can be assigned', VARIABLES, [('(stored (number (pos 0))) false', '(stored (number (pos 0))) true')]),
     ('NF can be assigned', VARIABLES, [('variable field-count false', 'variable field-count true')]),
     ('users start as field text', WORLD, [('replicate (i .users) unset', 'replicate (i .users) (field-text [])')]),
-    ('NR counts the fields', WORLD, [('some (number (pos (w .feed .count)))', 'some (number (pos (length (w .current .fields))))')]),
-    ('a text constant is field text', ACTION, [('constantValue (bytes l) = text l', 'constantValue (bytes l) = field-text l')]),
+    ('NR counts the fields', WORLD,
+     [('some (number (pos (w .feed .count)))', 'some (number (pos (length (w .current .fields))))')]),
+    ('a text constant is field text', ACTION,
+     [('constantValue (bytes l) = text l', 'constantValue (bytes l) = field-text l')]),
     # ---- the record and its fields
-    ('`$0` as plain text', ACTION, [('fieldAt w zero = field-text (w .current .line)', 'fieldAt w zero = text (w .current .line)')]),
-    ('split fields as plain text', WORLD, [('field-text, stop, Result', 'field-text, text as plain, stop, Result'), ('(λ (f : Span). field-text (spanText text f))', '(λ (f : Span). plain (spanText text f))')]),
-    ('an assigned field as field text', ACTION, [('(w .current .fields)) k a)', '(w .current .fields)) k (field-text (textOf a)))')]),
-    ('set field leaves field text', ACTION, [('(λ w. gives (effect (a ∷ []) w)))', '(λ w. gives (effect (field-text (textOf a) ∷ []) w)))')]),
-    ('fields above NF are the empty text', ACTION, [('getD (w .current .fields) k unset', 'getD (w .current .fields) k (text [])')]),
-    ('gaps filled by growth as text', ACTION, [('replicate (k - length fs) unset', 'replicate (k - length fs) (text [])')]),
-    ('fields joined with ORS', ACTION, [('let line = joined (special w OFS) fs in', 'let line = joined (special w ORS) fs in')]),
-    ('an assigned field does not change `$0`', ACTION, [('gives (withRecord w line fs)', 'gives (withRecord w (w .current .line) fs)')]),
+    ('`$0` as plain text', ACTION,
+     [('fieldAt w zero = field-text (w .current .line)', 'fieldAt w zero = text (w .current .line)')]),
+    ('split fields as plain text', WORLD,
+     [('field-text, stop, Result', 'field-text, text as plain, stop, Result'),
+      ('(λ (f : Span). field-text (spanText text f))', '(λ (f : Span). plain (spanText text f))')]),
+    ('an assigned field as field text', ACTION,
+     [('(w .current .fields)) k a)', '(w .current .fields)) k (field-text (textOf a)))')]),
+    ('set field leaves field text', ACTION,
+     [('(λ w. gives (effect (a ∷ []) w)))', '(λ w. gives (effect (field-text (textOf a) ∷ []) w)))')]),
+    ('fields above NF are the empty text', ACTION,
+     [('getD (w .current .fields) k unset', 'getD (w .current .fields) k (text [])')]),
+    ('gaps filled by growth as text', ACTION,
+     [('replicate (k - length fs) unset', 'replicate (k - length fs) (text [])')]),
+    ('fields joined with ORS', ACTION,
+     [('let line = joined (special w OFS) fs in', 'let line = joined (special w ORS) fs in')]),
+    ('an assigned field does not change `$0`', ACTION,
+     [('gives (withRecord w line fs)', 'gives (withRecord w (w .current .line) fs)')]),
     ('an assigned field splits `$0` again', ACTION,
      [('assigned edition w (suc k) a = rebuilt w (set (grown (suc k) (w .current .fields)) k a)',
-       'assigned edition w (suc k) a = bind (rebuilt w (set (grown (suc k) (w .current .fields)) k a))'
-       ' (λ v. bind (splitBy edition w (v .current .line)) (λ fs. gives (withRecord w (v .current .line) fs)))')]),
-    ('`$0` rebuilt may have 513 bytes', ACTION, [('cond (leb (length line) textBytes)', 'cond (leb (length line) (suc textBytes))')]),
-    ('assigning `$0` keeps the fields', ACTION, [('gives (withRecord w (textOf a) fs)', 'gives (withRecord w (textOf a) (w .current .fields))')]),
+       'assigned edition w (suc k) a = bind (rebuilt w (set (grown (suc k) (w .current .fields)) k a)) (λ v. bind '
+       '(splitBy edition w (v .current .line)) (λ fs. gives (withRecord w (v .current .line) fs)))')]),
+    ('`$0` rebuilt may have 513 bytes', ACTION,
+     [('cond (leb (length line) textBytes)', 'cond (leb (length line) (suc textBytes))')]),
+    ('assigning `$0` keeps the fields', ACTION,
+     [('gives (withRecord w (textOf a) fs)', 'gives (withRecord w (textOf a) (w .current .fields))')]),
     ('BEGIN sees a field', WORLD, [('(recordOf [] [])', '(recordOf [] (replicate 1 unset))')]),
     # ---- match
-    ('no match sets 7 and 7', ACTION, [('marked w (number (pos 0)) (number (negsuc 0))', 'marked w (number (pos 7)) (number (pos 7))')]),
+    ('no match sets 7 and 7', ACTION,
+     [('marked w (number (pos 0)) (number (negsuc 0))', 'marked w (number (pos 7)) (number (pos 7))')]),
     ('RSTART counts from 0', ACTION, [('marked w (number (pos (suc s)))', 'marked w (number (pos s))')]),
     ('`match` answers RLENGTH', ACTION, [('effect (start ∷ []) (withVariable', 'effect (size ∷ []) (withVariable')]),
-    ('`match` sets RLENGTH alone', ACTION, [('withVariable (withVariable w RSTART start) RLENGTH size', 'withVariable w RLENGTH size')]),
+    ('`match` sets RLENGTH alone', ACTION,
+     [('withVariable (withVariable w RSTART start) RLENGTH size', 'withVariable w RLENGTH size')]),
     # ---- print
-    ('OFS and ORS of print swapped', ACTION, [('joined (special w OFS) values ++ special w ORS', 'joined (special w ORS) values ++ special w OFS')]),
-    ('print needs a byte more than it writes', ACTION, [('cond (leb (length l) room)', 'cond (leb (suc (length l)) room)')]),
+    ('OFS and ORS of print swapped', ACTION,
+     [('joined (special w OFS) values ++ special w ORS', 'joined (special w ORS) values ++ special w OFS')]),
+    ('print needs a byte more than it writes', ACTION,
+     [('cond (leb (length l) room)', 'cond (leb (suc (length l)) room)')]),
     ('print writes its values from the last', MOVES, [('printValues (reverse vs) w', 'printValues vs w')]),
-    ('print stops with 14', ACTION, [('(shortBy (length l - room) outputRoomTooSmall)', '(shortBy (length l - room) textTooLong)')]),
+    ('print stops with 14', ACTION,
+     [('(shortBy (length l - room) outputRoomTooSmall)', '(shortBy (length l - room) textTooLong)')]),
     # ---- records
-    ('records ended by CR', FEED, [('lineOf f = take (firstByte 10 (f .input))', 'lineOf f = take (firstByte 13 (f .input))'),
-                                   ('drop (suc (firstByte 10 (f .input)))', 'drop (suc (firstByte 13 (f .input)))')]),
-    ('a last record without newline does not count', FEED, [('over f = eqb (length (f .input)) 0', 'over f = eqb (firstByte 10 (f .input)) (length (f .input))')]),
-    ('NR may pass 2^53 by one', FEED, [('full f = ltb numberBound (suc (f .count))', 'full f = ltb numberBound (f .count)')]),
+    ('records ended by CR', FEED,
+     [('lineOf f = take (firstByte 10 (f .input))', 'lineOf f = take (firstByte 13 (f .input))'),
+      ('drop (suc (firstByte 10 (f .input)))', 'drop (suc (firstByte 13 (f .input)))')]),
+    ('a last record without newline does not count', FEED,
+     [('over f = eqb (length (f .input)) 0', 'over f = eqb (firstByte 10 (f .input)) (length (f .input))')]),
+    ('NR may pass 2^53 by one', FEED,
+     [('full f = ltb numberBound (suc (f .count))', 'full f = ltb numberBound (f .count)')]),
     ('18 and 16 swapped at a read', WORLD,
-     [('bad-separator = stops (stop badSeparator)', 'bad-separator = stops (stop badFieldNumber)'), ('many-fields = stops (stop badFieldNumber)', 'many-fields = stops (stop badSeparator)')]),
+     [('bad-separator = stops (stop badSeparator)', 'bad-separator = stops (stop badFieldNumber)'),
+      ('many-fields = stops (stop badFieldNumber)', 'many-fields = stops (stop badSeparator)')]),
     ('11 and 15 swapped at a read', WORLD,
-     [('(stops (stop numberOutOfRange))', '(stops (stop recordTooLong))'), ('long-record = stops (stop recordTooLong)', 'long-record = stops (stop numberOutOfRange)')]),
-    ('a record read keeps the fields of the last one', WORLD, [('(lineOf (w .feed)) fields\') (passed', '(lineOf (w .feed)) (w .current .fields)) (passed')]),
+     [('(stops (stop numberOutOfRange))', '(stops (stop recordTooLong))'),
+      ('long-record = stops (stop recordTooLong)', 'long-record = stops (stop numberOutOfRange)')]),
+    ('a record read keeps the fields of the last one', WORLD,
+     [("(lineOf (w .feed)) fields') (passed", '(lineOf (w .feed)) (w .current .fields)) (passed')]),
     # ---- moves
     ('END with an empty record', MOVES,
      [('World.{World, startOf, readRecord}', 'World.{World, withRecord, startOf, readRecord}'),
       ('toEnd c = continues (config (at end 0) (c .control .operands) (c .control .steps) (c .world))',
-       'toEnd c = continues (config (at end 0) (c .control .operands) (c .control .steps) (withRecord (c .world) [] []))')]),
+       'toEnd c = continues (config (at end 0) (c .control .operands) (c .control .steps) (withRecord (c .world) '
+       '[] []))')]),
     ('one lone 0 is enough for silence', MOVES,
-     [('silent i = lone (i .edition) (i .main) && lone (i .edition) (i .end)', 'silent i = not (not (lone (i .edition) (i .main)) && not (lone (i .edition) (i .end)))')]),
-    ('input is read whatever the sections are', MOVES, [('cond (silent i) (toEnd c)', 'cond (silent i && false) (toEnd c)')]),
-    ('BEGIN goes to END', MOVES, [('(ended c o) (advance c between o (c .world))', '(ended c o) (cond (inMain s) (advance c between o (c .world)) (advance c (at end 0) o (c .world)))')]),
-    ('exit ends the run', MOVES, [('applyFlow exit ns vs o = cond (inEnd s) (ended c o) (advance c (at end 0) o (c .world))', 'applyFlow exit ns vs o = ended c o')]),
-    ('exit is next', MOVES, [('applyFlow exit ns vs o = cond (inEnd s) (ended c o) (advance c (at end 0) o (c .world))',
-                              'applyFlow exit ns vs o = cond (inEnd s) (ended c o) (advance c between o (c .world))')]),
-    ('next goes to END', MOVES, [('cond (inMain s) (advance c between o (c .world)) stuck', 'cond (inMain s) (advance c (at end 0) o (c .world)) stuck')]),
-    ('28 jumps if true', MOVES, [('branched t o (gives true) = advance c (at s (suc n)) o (c .world)', 'branched t o (gives true) = advance c (at s t) o (c .world)'),
-                                 ('branched t o (gives false) = advance c (at s t) o (c .world)', 'branched t o (gives false) = advance c (at s (suc n)) o (c .world)')]),
-    ('operands are dropped between sections', MOVES, [('toEnd c = continues (config (at end 0) (c .control .operands)', 'toEnd c = continues (config (at end 0) []')]),
-    ('print 0 prints an empty line', MOVES, [('cond (eqb (length vs) 0) none', 'cond (eqb (length vs) 0 && false) none')]),
-    ('an instruction that stops is no step', MOVES, [('(c .control .operands) (suc (c .control .steps)) (c .world))', '(c .control .operands) (c .control .steps) (c .world))')]),
-    ('a record read is a step', MOVES, [('(config (at main 0) (c .control .operands) (c .control .steps) w)', '(config (at main 0) (c .control .operands) (suc (c .control .steps)) w)')]),
-    ('a budget has one step more', RUN, [('cond (eqb (c .control .steps) budget)', 'cond (eqb (c .control .steps) (suc budget))')]),
+     [('silent i = lone (i .edition) (i .main) && lone (i .edition) (i .end)',
+       'silent i = not (not (lone (i .edition) (i .main)) && not (lone (i .edition) (i .end)))')]),
+    ('input is read whatever the sections are', MOVES,
+     [('cond (silent i) (toEnd c)', 'cond (silent i && false) (toEnd c)')]),
+    ('BEGIN goes to END', MOVES,
+     [('(ended c o) (advance c between o (c .world))',
+       '(ended c o) (cond (inMain s) (advance c between o (c .world)) (advance c (at end 0) o (c .world)))')]),
+    ('exit ends the run', MOVES,
+     [('applyFlow exit ns vs o = cond (inEnd s) (ended c o) (advance c (at end 0) o (c .world))',
+       'applyFlow exit ns vs o = ended c o')]),
+    ('exit is next', MOVES,
+     [('applyFlow exit ns vs o = cond (inEnd s) (ended c o) (advance c (at end 0) o (c .world))',
+       'applyFlow exit ns vs o = cond (inEnd s) (ended c o) (advance c between o (c .world))')]),
+    ('next goes to END', MOVES,
+     [('cond (inMain s) (advance c between o (c .world)) stuck',
+       'cond (inMain s) (advance c (at end 0) o (c .world)) stuck')]),
+    ('28 jumps if true', MOVES,
+     [('branched t o (gives true) = advance c (at s (suc n)) o (c .world)',
+       'branched t o (gives true) = advance c (at s t) o (c .world)'),
+      ('branched t o (gives false) = advance c (at s t) o (c .world)',
+       'branched t o (gives false) = advance c (at s (suc n)) o (c .world)')]),
+    ('operands are dropped between sections', MOVES,
+     [('toEnd c = continues (config (at end 0) (c .control .operands)', 'toEnd c = continues (config (at end 0) []')]),
+    ('print 0 prints an empty line', MOVES,
+     [('cond (eqb (length vs) 0) none', 'cond (eqb (length vs) 0 && false) none')]),
+    ('an instruction that stops is no step', MOVES,
+     [('(c .control .operands) (suc (c .control .steps)) (c .world))',
+       '(c .control .operands) (c .control .steps) (c .world))')]),
+    ('a record read is a step', MOVES,
+     [('(config (at main 0) (c .control .operands) (c .control .steps) w)',
+       '(config (at main 0) (c .control .operands) (suc (c .control .steps)) w)')]),
+    ('a budget has one step more', RUN,
+     [('cond (eqb (c .control .steps) budget)', 'cond (eqb (c .control .steps) (suc budget))')]),
 ]
 
 
@@ -169,6 +232,10 @@ def copied(tables):
             shutil.rmtree(os.path.join(scratch, 'crates', crate, 'proofs'))
             shutil.rmtree(os.path.join(scratch, 'crates', crate, 'must-fail'))
     return scratch
+
+
+def specs(folder, crate, name):
+    return os.path.join(folder, 'crates', crate, 'specs', name)
 
 
 def read(path):
@@ -207,7 +274,7 @@ def main():
     parser.add_argument('words', nargs='*')
     options = parser.parse_args()
     chosen = [row for row in WRONG if not options.words or any(word in row[0] for word in options.words)]
-    stale = [what for what, (crate, name), edits in chosen if edited(read(os.path.join(ROOT, 'crates', crate, 'specs', name)), edits) is None]
+    stale = [what for what, place, edits in chosen if edited(read(specs(ROOT, *place)), edits) is None]
     if stale:
         print('wrong_definitions.py: the text to be replaced is not there: ' + '; '.join(stale))
         sys.exit(2)
@@ -219,7 +286,7 @@ def main():
             print('wrong_definitions.py: without an edit, %s is refused: %s' % first)
             sys.exit(2)
         for what, (crate, name), edits in chosen:
-            path = os.path.join(scratch, 'crates', crate, 'specs', name)
+            path = specs(scratch, crate, name)
             right = read(path)
             write(path, edited(right, edits))
             refusal = checked(scratch)

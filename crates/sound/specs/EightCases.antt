@@ -1,4 +1,5 @@
--- Document 01, "Eight cases": the table, row by row, and what each row claims. Texts are quoted, bytes of an image are numbers.
+-- Document 01, "Eight cases": the table, row by row, and what each row claims. Texts are quoted, bytes of an image
+-- are numbers.
 use mathlib.Core.Path.{_≡_}
 use mathlib.Core.Bool.{true}
 use mathlib.Core.List.{List, [], _∷_, map}
@@ -8,7 +9,8 @@ use Prim.Native.String.{String}
 use lib.IntN.{ℤ, pos}
 use Rattle.edition.specs.Outcomes.{done, budgetSpent, numberOutOfRange}
 use Rattle.ere_grammar.specs.Read.{readEre}
-use Rattle.splitting.specs.Splitting.{Split, fields, long-record, bad-separator, many-fields, splitOf, textOf as spanText}
+use Rattle.splitting.specs.Splitting.{Split, fields, long-record, bad-separator, many-fields, splitOf}
+use Rattle.splitting.specs.Splitting.{textOf as spanText}
 use Rattle.splitting.specs.Field.{Span}
 use Rattle.image_format.specs.Codes.{add, remainder}
 use Rattle.image_format.specs.Image.{Image}
@@ -45,7 +47,9 @@ marksAfter (some (stops s)) = none
 marksAfter (some (gives e)) = some (record { start = valueAt 1 (e .world) RSTART; size = valueAt 1 (e .world) RLENGTH })
 
 abbrev pub marksOf : List ℕ → List ℕ → Option Marks
-marksOf ere line = marksAfter (byEre matchMarked (readEre 1 ere) (text line) (startOf (image 0 [] [] [] [] []) (oneFeed []) 0))
+marksOf ere line =
+    let start = startOf (image 0 [] [] [] [] []) (oneFeed []) 0 in
+    marksAfter (byEre matchMarked (readEre 1 ere) (text line) start)
 
 -- a run of an image that reads, in a room of 100 bytes
 abbrev pub ranOf : Option Image → List ℕ → ℕ → Option Answer
@@ -70,17 +74,16 @@ pub data Case : Type 0 where
   -- two cases of one row
   both : Case → Case → Case
 
--- the bytes are those of the image, read and written, and the image passes the check. (That the filter's translation is these bytes is a field of its own, when there
--- is a translator.)
-pub record Translates (filter : String) (hex : List ℕ) (i : Image) : Type 0 where
-  pub read : readImage fromBytes hex ≡ some i
-  pub written : bytesOf i ≡ hex
-  pub checked : check i ≡ true
+-- The bytes are those of the image, read and written, and the image passes the check. That the filter's translation is
+-- these bytes joins when there is a translator.
+abbrev pub Translates : String → List ℕ → Image → Type 0
+Translates filter hex i = (readImage fromBytes hex ≡ some i) × (bytesOf i ≡ hex) × (check i ≡ true)
 
 abbrev pub Claim : Case → Type 0
 Claim (splits fs line texts) = fieldTexts (bytes line) (splitOf 1 (bytes fs) (bytes line)) ≡ some (map bytes texts)
 Claim (matches ere line start size) =
-    marksOf (bytes ere) (bytes line) ≡ some (record { start = some (number (pos start)); size = some (number (pos size)) })
+    marksOf (bytes ere) (bytes line)
+    ≡ some (record { start = some (number (pos start)); size = some (number (pos size)) })
 Claim (remains x y r) = arithmeticOf remainder (number x) (number y) ≡ gives (number r)
 Claim (adds t n r) = arithmeticOf add (text (bytes t)) (number (pos n)) ≡ r
 Claim (translates filter hex i) = Translates filter hex i
@@ -92,7 +95,8 @@ Claim (both c d) = (Claim c) × (Claim d)
 -- "01 00 01 00 00 00 01 00 00 04 01 00 00 04 01 1D 01 01 00 00 01 00 00"
 abbrev pub printImage : List ℕ
 printImage =
-    0x01 ∷ 0x00 ∷ 0x01 ∷ 0x00 ∷ 0x00 ∷ 0x00 ∷ 0x01 ∷ 0x00 ∷ 0x00 ∷ 0x04 ∷ 0x01 ∷ 0x00 ∷ 0x00 ∷ 0x04 ∷ 0x01 ∷ 0x1D ∷ 0x01 ∷ 0x01 ∷ 0x00 ∷ 0x00 ∷ 0x01 ∷ 0x00 ∷ 0x00 ∷ []
+    0x01 ∷ 0x00 ∷ 0x01 ∷ 0x00 ∷ 0x00 ∷ 0x00 ∷ 0x01 ∷ 0x00 ∷ 0x00 ∷ 0x04 ∷ 0x01 ∷ 0x00
+    ∷ 0x00 ∷ 0x04 ∷ 0x01 ∷ 0x1D ∷ 0x01 ∷ 0x01 ∷ 0x00 ∷ 0x00 ∷ 0x01 ∷ 0x00 ∷ 0x00 ∷ []
 
 -- the table: input, and result
 abbrev pub eightCases : List Case

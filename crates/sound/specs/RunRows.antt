@@ -1,4 +1,5 @@
--- Document 01, "Running", and those sentences of "Values", "Splitting" and "Outcomes" that show in runs: a table of runs, to be read beside them. The rows that follow a
+-- Document 01, "Running", and those sentences of "Values", "Splitting" and "Outcomes" that show in runs: a table of
+-- runs, to be read beside them. The rows that follow a
 -- sentence break where it is read in another way.
 use mathlib.Core.Path.{_≡_}
 use mathlib.Core.Bool.{Bool, true, false}
@@ -13,8 +14,10 @@ use Rattle.semantics.specs.Check.{check}
 use Rattle.semantics.specs.Run.{Answer, answerOf, run}
 use Rattle.sound.specs.Text.{bytes}
 use Rattle.sound.specs.Assembler.{whole, quoted, image}
-use Rattle.sound.specs.Assembler.{constant, get, set, field, set-field, drop, plus, minus, times, divide, remainder, negate, to-number, not}
-use Rattle.sound.specs.Assembler.{less, at-most, equal, different, greater, at-least, join, matches, match, length, index, substr}
+use Rattle.sound.specs.Assembler.{constant, get, set, field, set-field, drop, plus, minus, times, divide}
+use Rattle.sound.specs.Assembler.{remainder, negate, to-number, not}
+use Rattle.sound.specs.Assembler.{less, at-most, equal, different, greater, at-least, join, matches, match}
+use Rattle.sound.specs.Assembler.{length, index, substr}
 use Rattle.sound.specs.Assembler.{jump, jump-if-false, print, next, exit, NF, NR, FS, OFS, ORS, RSTART, RLENGTH}
 
 -- ---- rows
@@ -41,10 +44,23 @@ ends outcome steps records output =
 abbrev pub stuck : Option Answer
 stuck = none
 
+-- whether it checks, budget, output room, records begun, filter, image, input, answer
+abbrev pub row : Bool → ℕ → ℕ → ℕ → String → Image → List ℕ → Option Answer → Row
+row checks budget room begun filter i input answer =
+    record {
+      filter = filter;
+      image = i;
+      checks = checks;
+      budget = budget;
+      room = room;
+      begun = begun;
+      input = input;
+      answer = answer;
+    }
+
 -- budget, output room, filter, image, input, answer
 abbrev pub runs-in : ℕ → ℕ → String → Image → List ℕ → Option Answer → Row
-runs-in budget room filter i input answer =
-    record { filter = filter; image = i; checks = true; budget = budget; room = room; begun = 0; input = input; answer = answer }
+runs-in budget room = row true budget room 0
 
 -- a budget of 100 steps and a room of 100 bytes
 abbrev pub runs : String → Image → List ℕ → Option Answer → Row
@@ -52,13 +68,11 @@ runs = runs-in 100 100
 
 -- after so many records
 abbrev pub runs-from : ℕ → String → Image → List ℕ → Option Answer → Row
-runs-from begun filter i input answer =
-    record { filter = filter; image = i; checks = true; budget = 100; room = 100; begun = begun; input = input; answer = answer }
+runs-from = row true 100 100
 
 -- an image that fails the check
 abbrev pub unchecked : String → Image → List ℕ → Option Answer → Row
-unchecked what i input answer =
-    record { filter = what; image = i; checks = false; budget = 100; room = 100; begun = 0; input = input; answer = answer }
+unchecked = row false 100 100 0
 
 -- whether the image passes the check, and the answer
 abbrev pub seen : Row → Bool × (Option Answer)
@@ -178,7 +192,8 @@ match-marks =
     (bytes "abbb\n") (ends 0 13 1 "1 0 0 -1\n")
     ∷ []
 
--- "Assigning `$k`, k >= 1, grows NF if needed and joins all fields with the present OFS into `$0`, without splitting again."
+-- "Assigning `$k`, k >= 1, grows NF if needed and joins all fields with the present OFS into `$0`, without splitting
+-- again."
 abbrev pub joined-records : List Row
 joined-records =
     runs "{ OFS = \"-\"; $3 = \"p q\"; print $0; print NF }"

@@ -1,4 +1,5 @@
--- Document 01, "Values": a table of operations on values, to be read beside its sentences. The rows that follow a sentence break where it is read in another way.
+-- Document 01, "Values": a table of operations on values, to be read beside its sentences. The rows that follow a
+-- sentence break where it is read in another way.
 use mathlib.Core.Path.{_≡_}
 use mathlib.Core.Bool.{Bool, true, false}
 use mathlib.Core.List.{List, [], _∷_, map}
@@ -8,7 +9,8 @@ use lib.IntN.{pos}
 use Rattle.image_format.specs.Codes.{Comparison, less, at-most, equal, different, greater, at-least}
 use Rattle.image_format.specs.Codes.{add, subtract, multiply, divide, remainder}
 use Rattle.values.specs.Value.{Value, unset, number, text, field-text, stop, Result, gives, stops, truthOf}
-use Rattle.values.specs.Operations.{arithmeticOf, negateOf, toNumberOf, notOf, compareOf, joinOf, lengthOf, indexOf, substrOf, fieldNumber}
+use Rattle.values.specs.Operations.{arithmeticOf, negateOf, toNumberOf, notOf, compareOf, joinOf, lengthOf, indexOf}
+use Rattle.values.specs.Operations.{substrOf, fieldNumber}
 use Rattle.sound.specs.Text.{bytes, minus}
 
 -- ---- values, and what operations give
@@ -76,7 +78,8 @@ isEqual = 0 ∷ 1 ∷ 1 ∷ 0 ∷ 0 ∷ 1 ∷ []
 abbrev pub isGreater : List ℕ
 isGreater = 0 ∷ 0 ∷ 0 ∷ 1 ∷ 1 ∷ 1 ∷ []
 
--- "Field text looks numeric if, without outer blanks (space, tab), it is: optional sign, digits with an optional point, at least one digit."
+-- "Field text looks numeric if, without outer blanks (space, tab), it is: optional sign, digits with an optional
+-- point, at least one digit."
 abbrev pub looks : List Row
 looks =
     compares (field " \t+10. \t") (num 10) isEqual

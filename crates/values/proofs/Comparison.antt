@@ -1,4 +1,5 @@
--- "Comparison is of numbers if both sides are numbers, unset, or numeric-looking field text; else of unsigned bytes, the shorter first."
+-- "Comparison is of numbers if both sides are numbers, unset, or numeric-looking field text; else of unsigned bytes,
+-- the shorter first."
 use mathlib.Core.Path.{_≡_, refl, sym}
 use mathlib.Core.Bool.{true, _&&_}
 use lib.IntN.{ℤ}
@@ -7,7 +8,8 @@ use Rattle.buffer.specs.Order.{Before}
 use Rattle.buffer.proofs.Order.{unless}
 use Rattle.numeral.proofs.Look.{looks-true, true-looks}
 use Rattle.image_format.specs.Codes.{Comparison}
-use Rattle.values.specs.Value.{Value, unset, number, text, field-text, Stop, gives, stops, textOf, numberOf, numeric}
+use Rattle.values.specs.Value.{Value, unset, number, text, field-text, Stop, gives, stops, textOf, numberOf}
+use Rattle.values.specs.Value.{numeric}
 use Rattle.values.specs.Operations.{compareOf}
 use Rattle.values.specs.Explained.{OneIf, Below, Numeric, an-unset, a-number, a-look, Says}
 use Rattle.values.proofs.Orders.{ordered-says, texts-ordered, numbers-ordered}
@@ -33,7 +35,8 @@ both-numeric a b ha hb = and-of (numeric a) (numeric b) (true-numeric ha) (true-
 -- ---- of numbers: left operand before right
 
 module _ (o : Comparison) (a b : Value) (ha : Numeric a) (hb : Numeric b) where
-  pub compare-numbers : {x y : ℤ} → numberOf a ≡ gives x → numberOf b ≡ gives y → OneIf (Says Below o x y) (compareOf o a b)
+  pub compare-numbers : {x y : ℤ} → numberOf a ≡ gives x → numberOf b ≡ gives y
+      → OneIf (Says Below o x y) (compareOf o a b)
   unfolding compareOf
   compare-numbers {x} {y} p q = rw (both-numeric a b ha hb, p, q) (ordered-says Below x y (numbers-ordered x y) o)
 
@@ -50,7 +53,10 @@ module _ (o : Comparison) (a b : Value) (ha : Numeric a) (hb : Numeric b) where
 pub compare-texts : (o : Comparison) (a b : Value) → ((Numeric a) × (Numeric b) → ⊥)
     → OneIf (Says Before o (textOf a) (textOf b)) (compareOf o a b)
 unfolding compareOf
-compare-texts o a b n = rw (unless (numeric a && numeric b) no) (ordered-says Before (textOf a) (textOf b) (texts-ordered (textOf a) (textOf b)) o)
+compare-texts o a b n =
+    let s = textOf a in
+    let t = textOf b in
+    rw (unless (numeric a && numeric b) no) (ordered-says Before s t (texts-ordered s t) o)
   where
     no : (numeric a && numeric b) ≡ true → ⊥
     no h = let (p, q) = and-true (numeric a) (numeric b) h in n (numeric-true a p, numeric-true b q)

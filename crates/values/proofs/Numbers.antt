@@ -9,11 +9,13 @@ use Rattle.edition.specs.Outcomes.{numberNotWhole, divisorZero, badFieldNumber}
 use Rattle.number.specs.Range.{InRange, ranged}
 use Rattle.number.specs.Arithmetic.{Division, sumOf, differenceOf, productOf}
 use Rattle.number.proofs.Bias.{ranged-in, ranged-out}
-use Rattle.number.proofs.Division.{divide-exact, divide-inexact, remainder-is, divide-by-zero, remainder-by-zero, negation-is}
+use Rattle.number.proofs.Division.{divide-exact, divide-inexact, remainder-is, divide-by-zero, remainder-by-zero}
+use Rattle.number.proofs.Division.{negation-is}
 use Rattle.numeral.specs.Judgement.{numberOf as textNumber}
 use Rattle.numeral.specs.Decimal.{decimalText}
 use Rattle.image_format.specs.Codes.{Arithmetic, add, subtract, multiply, divide, remainder}
-use Rattle.values.specs.Value.{Value, unset, number, text, field-text, Stop, gives, stops, result, textOf, numberOf}
+use Rattle.values.specs.Value.{Value, unset, number, text, field-text, Stop, gives, stops, result, textOf}
+use Rattle.values.specs.Value.{numberOf}
 use Rattle.values.specs.Operations.{computed, arithmeticOf, negateOf, toNumberOf, fieldNumber}
 use Rattle.values.specs.Explained.{stopsWith, Ranged}
 
@@ -42,7 +44,8 @@ module _ (o : Arithmetic) (a b : Value) where
   unfolding arithmeticOf
   arithmetic-stops-left p = rw p
 
-  pub arithmetic-stops-right : {x : ℤ} {s : Stop} → numberOf a ≡ gives x → numberOf b ≡ stops s → arithmeticOf o a b ≡ stops s
+  pub arithmetic-stops-right : {x : ℤ} {s : Stop} → numberOf a ≡ gives x → numberOf b ≡ stops s
+      → arithmeticOf o a b ≡ stops s
   unfolding arithmeticOf
   arithmetic-stops-right p q = rw (p, q)
 
@@ -69,7 +72,8 @@ module _ (a b : Value) {x y : ℤ} (p : numberOf a ≡ gives x) (q : numberOf b 
   unfolding productOf
   multiply-is = ranged-is multiply (x *ℤ y) refl
 
-  -- ---- "Inexact `/`: 12. `%` takes the sign of the left operand, or is 0.": the quotient and the remainder of the one division there is
+  -- ---- "Inexact `/`: 12. `%` takes the sign of the left operand, or is 0.": the quotient and the remainder of
+  -- the one division there is
 
   module _ {m r : ℤ} (d : Division x y m r) where
     pub quotient-exact : InRange x → r ≡ pos 0 → arithmeticOf divide a b ≡ gives (number m)
@@ -117,7 +121,8 @@ module _ (a : Value) where
   unfolding fieldNumber
   field-number-is {k} p h = rw (p, le-leb k fieldCount h)
 
-  pub field-number-over : {k : ℕ} → numberOf a ≡ gives (pos k) → fieldCount < k → fieldNumber a ≡ stopsWith badFieldNumber
+  pub field-number-over : {k : ℕ} → numberOf a ≡ gives (pos k) → fieldCount < k
+      → fieldNumber a ≡ stopsWith badFieldNumber
   unfolding fieldNumber
   field-number-over {k} p h = rw (p, lt-leb k fieldCount h)
 

@@ -5,12 +5,14 @@ use mathlib.Core.Bool.{Bool, true, false}
 use mathlib.Core.List.{List}
 use Prim.Native.Nat.{ℕ, zero, suc}
 use native.Mathlib.Omega.{arith}
-use lib.IntN.{ℤ, pos, negsuc, negℤ, natAbs, _+ℤ_, _-ℤ_, +ℤ-comm, +ℤ-assoc, +ℤ-idr, +ℤ-invr, negℤ-negℤ, negℤ-+ℤ, -ℤ-+ℤ-cancel, pos-ne-negsuc}
+use lib.IntN.{ℤ, pos, negsuc, negℤ, natAbs, _+ℤ_, _-ℤ_, +ℤ-comm, +ℤ-assoc, +ℤ-idr, +ℤ-invr, negℤ-negℤ, negℤ-+ℤ}
+use lib.IntN.{pos-ne-negsuc, -ℤ-+ℤ-cancel}
 use borrow.Author.Tests.{ne-eqb}
 use Rattle.buffer.specs.Order.{ordering, swapped, Before}
 use Rattle.buffer.specs.declared.search.Order.{Order}
 use Rattle.buffer.specs.declared.search.Order.the-variants.{Less, Equal, Greater}
-use Rattle.buffer.proofs.Order.{less-not-equal, more-not-equal, more-not-less, ordering-same, same-ordering, ordering-swap, less-before, before-less}
+use Rattle.buffer.proofs.Order.{less-not-equal, more-not-equal, more-not-less, ordering-same, same-ordering}
+use Rattle.buffer.proofs.Order.{ordering-swap, less-before, before-less}
 use Rattle.image_format.specs.Codes.{Comparison, less, at-most, equal, different, greater, at-least}
 use Rattle.values.specs.Value.{gives, truthValue}
 use Rattle.values.specs.Operations.{orderOf, holds, atMost}
@@ -25,7 +27,8 @@ module _ {A : Type 0} (Before : A → A → Type 0) (x y : A) where
     is-equal : (Before x y → ⊥) → x ≡ y → (Before y x → ⊥) → Ordered Equal
     is-greater : (Before x y → ⊥) → (x ≡ y → ⊥) → Before y x → Ordered Greater
 
-  pub ordered-says : {r : Order} → Ordered r → (o : Comparison) → OneIf (Says Before o x y) (gives (truthValue (holds o r)))
+  pub ordered-says : {r : Order} → Ordered r → (o : Comparison)
+      → OneIf (Says Before o x y) (gives (truthValue (holds o r)))
   ordered-says (is-less l e g) less = so l
   ordered-says (is-less l e g) at-most = so (inl l)
   ordered-says (is-less l e g) equal = not-so e

@@ -15,7 +15,8 @@ use Rattle.buffer.specs.First.{firstPart, IsFirst}
 use Rattle.buffer.proofs.First.{first-part-right}
 use Rattle.values.specs.Value.{Value, number, text, Stop, gives, stops, textOf, numberOf}
 use Rattle.values.specs.Operations.{joinOf, lengthOf, indexOf, placeOf, between, substrOf}
-use Rattle.values.specs.Explained.{stopsWith, Selects, ended, taken, passed, Position, Index, empty, nowhere, first}
+use Rattle.values.specs.Explained.{stopsWith, Selects, ended, taken, passed, Position, Index, empty, nowhere}
+use Rattle.values.specs.Explained.{first}
 use Rattle.values.proofs.Orders.{Sides, within, above, sides}
 
 -- ---- join: both texts, or 14 exactly if they have over 512 bytes

@@ -1,4 +1,5 @@
--- "Truth: numbers and numeric-looking field text nonzero, other texts nonempty, unset false; a numeric look takes the number here too (11, 12)."
+-- "Truth: numbers and numeric-looking field text nonzero, other texts nonempty, unset false; a numeric look takes
+-- the number here too (11, 12)."
 use mathlib.Core.Path.{_≡_, refl, sym, ap}
 use mathlib.Core.Bool.{true, false, not}
 use mathlib.Core.List.{List, [], _∷_}
@@ -11,7 +12,8 @@ use Rattle.buffer.proofs.Order.{unless}
 use Rattle.number.specs.Arithmetic.{isZero}
 use Rattle.numeral.specs.Form.{looksNumeric, Looks}
 use Rattle.numeral.proofs.Look.{looks-true, true-looks}
-use Rattle.values.specs.Value.{Value, unset, number, text, field-text, Stop, gives, stops, numberOf, nonempty, truthOf}
+use Rattle.values.specs.Value.{Value, unset, number, text, field-text, Stop, gives, stops, numberOf, nonempty}
+use Rattle.values.specs.Value.{truthOf}
 use Rattle.values.specs.Operations.{notOf}
 use Rattle.values.specs.Explained.{so, not-so, TrueIf}
 

@@ -1,4 +1,5 @@
--- What the operations give, in relations that name no computation. proofs/ shows of each operation that it gives this and nothing else.
+-- What the operations give, in relations that name no computation. proofs/ shows of each operation that it gives
+-- this and nothing else.
 use mathlib.Core.Path.{_≡_}
 use mathlib.Core.Logic.{_⊎_}
 use mathlib.Core.Bool.{Bool, true, false}
