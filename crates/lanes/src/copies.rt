@@ -5,6 +5,7 @@ ghost use mathlib.Core.Path.{_≡_};
 ghost use Prim.Native.Nat.{_+_, _≤_, _<_};
 ghost use lib.ListN.{length};
 ghost use Rattle.buffer.specs.Parts.{part, put};
+ghost use Rattle.lanes.specs.Block.{blocks};
 
 // Copies the 16 bytes of `src` from index `from` on into `dst` from index `to` on. All are read before one is written.
 fn copy_16(dst: &mut [u8], to: usize, src: &[u8], from: usize)
@@ -55,4 +56,16 @@ pub fn copy(dst: &mut [u8], at: usize, src: &[u8])
         k += 16;
     }
     copy_16(dst, at + last, src, last);
+}
+
+// Copies `n` bytes of `src` from index `from` on into `dst` from index `at` on, and those after them up to a multiple of 16.
+pub fn copy_over(dst: &mut [u8], at: usize, src: &[u8], from: usize, n: usize)
+    requires { ⌜ (at + n + 15 ≤ length (now dst)) × (from + n + 15 ≤ length (now src)) ⌝ }
+    ensures { λ _. ⌜ now (dst .exit) ≡ put (now (dst .entry)) at (part from (blocks n) (now (src .entry))) ⌝ }
+{
+    let mut k = 0;
+    while k < n {
+        copy_16(dst, at + k, src, from + k);
+        k += 16;
+    }
 }

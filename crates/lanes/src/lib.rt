@@ -7,6 +7,7 @@ mod words;
 
 pub use blocks::any_in_32;
 pub use copies::copy;
+pub use copies::copy_over;
 pub use pairs::first_of_two;
 pub use pairs::past_two;
 pub use search::first_byte;

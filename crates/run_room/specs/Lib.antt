@@ -1,0 +1,4 @@
+-- The working room.
+pub mod Layout
+pub mod Room
+pub mod Held

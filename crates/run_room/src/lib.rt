@@ -1,0 +1,37 @@
+// The working room: values in slots of bytes, the record, and its fields. Document 01 leaves its layout open.
+mod blocks;
+mod entries;
+mod layout;
+mod lines;
+mod slots;
+mod texts;
+
+pub use blocks::copy_blocks;
+pub use entries::Entry;
+pub use entries::put_entry;
+pub use entries::read_entry;
+pub use layout::BASE_END;
+pub use layout::BLOCK;
+pub use layout::ENTRIES;
+pub use layout::ENTRY;
+pub use layout::FIELD;
+pub use layout::HEAD;
+pub use layout::NUMBER;
+pub use layout::OPERANDS;
+pub use layout::SLOT;
+pub use layout::SLOTS;
+pub use layout::TEXT;
+pub use layout::UNSET;
+pub use lines::Line;
+pub use lines::record_start;
+pub use slots::copy_slot;
+pub use slots::set_number;
+pub use slots::set_unset;
+pub use slots::set_value;
+pub use slots::slot_kind;
+pub use slots::slot_number;
+pub use texts::set_constant;
+pub use texts::set_text;
+pub use texts::show;
+pub use texts::slot_text;
+pub use texts::text_size;
