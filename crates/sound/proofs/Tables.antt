@@ -62,6 +62,9 @@ use Rattle.semantics.specs.Run.{runFor as semantics-runFor, run as semantics-ru
 use Rattle.semantics.specs.Variables.{assignable as semantics-assignable}
 use Rattle.semantics.specs.World.{valueAt as semantics-valueAt, splitBy as semantics-splitBy}
 use Rattle.semantics.specs.World.{readRecord as semantics-readRecord}
+use Rattle.image_format.specs.Codes.{codes as image_format-codes, codeCount as image_format-codeCount}
+use Rattle.semantics.specs.Variables.{specials as semantics-specials, specialCount as semantics-specialCount}
+use Rattle.semantics.specs.Variables.{specialOf as semantics-specialOf}
 use Rattle.sound.specs.Text.{Each}
 use Rattle.sound.specs.EightCases.{Claim as OfCase, eightCases}
 use Rattle.sound.specs.ValueRows.{Claim as OfValues}
@@ -119,7 +122,8 @@ pub computed : (Each OfCase eightCases)
     × (Each OfRun kept-operands)
     × (Each OfRun missing-things)
     × (Each OfRun no-rules)
-unfolding lists-nth lists-oneOf lists-leading lists-many buffer-firstByte buffer-startsWith buffer-firstPart
+unfolding image_format-codes image_format-codeCount semantics-specials semantics-specialCount semantics-specialOf
+    lists-nth lists-oneOf lists-leading lists-many buffer-firstByte buffer-startsWith buffer-firstPart
     buffer-ordering buffer-equalBytes buffer-part number-sumOf number-differenceOf number-productOf
     number-quotientOf number-remainderOf number-negationOf number-ranged numeral-digitsWithin
     numeral-decimalDigits numeral-decimalText numeral-digitsFrom numeral-signLength numeral-wholeDigits
