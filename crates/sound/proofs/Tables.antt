@@ -41,6 +41,7 @@ use Rattle.splitting.specs.Field.{nextField as splitting-nextField, fieldsIn as
 use Rattle.splitting.specs.Field.{fieldsFrom as splitting-fieldsFrom, fieldsOf as splitting-fieldsOf}
 use Rattle.splitting.specs.Separator.{blanks as splitting-blanks, separatorOf as splitting-separatorOf}
 use Rattle.splitting.specs.Splitting.{splitOf as splitting-splitOf}
+use Rattle.image_format.specs.Codes.{codes as image_format-codes, codeCount as image_format-codeCount}
 use Rattle.image_format.specs.Codes.{codeOf as image_format-codeOf}
 use Rattle.image_format.specs.Numbers.{coded as image_format-coded, takeGroups as image_format-takeGroups}
 use Rattle.image_format.specs.Numbers.{takeNumber as image_format-takeNumber}
@@ -59,12 +60,10 @@ use Rattle.semantics.specs.Feed.{full as semantics-full}
 use Rattle.semantics.specs.Moves.{execute as semantics-execute, fromBetween as semantics-fromBetween}
 use Rattle.semantics.specs.Moves.{move as semantics-move}
 use Rattle.semantics.specs.Run.{runFor as semantics-runFor, run as semantics-run}
-use Rattle.semantics.specs.Variables.{assignable as semantics-assignable}
+use Rattle.semantics.specs.Variables.{specials as semantics-specials, specialCount as semantics-specialCount}
+use Rattle.semantics.specs.Variables.{specialOf as semantics-specialOf, assignable as semantics-assignable}
 use Rattle.semantics.specs.World.{valueAt as semantics-valueAt, splitBy as semantics-splitBy}
 use Rattle.semantics.specs.World.{readRecord as semantics-readRecord}
-use Rattle.image_format.specs.Codes.{codes as image_format-codes, codeCount as image_format-codeCount}
-use Rattle.semantics.specs.Variables.{specials as semantics-specials, specialCount as semantics-specialCount}
-use Rattle.semantics.specs.Variables.{specialOf as semantics-specialOf}
 use Rattle.sound.specs.Text.{Each}
 use Rattle.sound.specs.EightCases.{Claim as OfCase, eightCases}
 use Rattle.sound.specs.ValueRows.{Claim as OfValues}
@@ -122,8 +121,7 @@ pub computed : (Each OfCase eightCases)
     × (Each OfRun kept-operands)
     × (Each OfRun missing-things)
     × (Each OfRun no-rules)
-unfolding image_format-codes image_format-codeCount semantics-specials semantics-specialCount semantics-specialOf
-    lists-nth lists-oneOf lists-leading lists-many buffer-firstByte buffer-startsWith buffer-firstPart
+unfolding lists-nth lists-oneOf lists-leading lists-many buffer-firstByte buffer-startsWith buffer-firstPart
     buffer-ordering buffer-equalBytes buffer-part number-sumOf number-differenceOf number-productOf
     number-quotientOf number-remainderOf number-negationOf number-ranged numeral-digitsWithin
     numeral-decimalDigits numeral-decimalText numeral-digitsFrom numeral-signLength numeral-wholeDigits
@@ -137,12 +135,13 @@ unfolding image_format-codes image_format-codeCount semantics-specials semantics
     ere_grammar-readAtom ere_grammar-finished ere_grammar-repeated ere_grammar-afterAtom ere_grammar-afterGroup
     ere_grammar-afterBar ere_grammar-readGroup ere_grammar-readRest ere_grammar-whole ere_grammar-readEre
     splitting-nextField splitting-fieldsIn splitting-fieldsFrom splitting-fieldsOf splitting-blanks
-    splitting-separatorOf splitting-splitOf image_format-codeOf image_format-coded image_format-takeGroups
-    image_format-takeNumber image_format-readImage image_format-all image_format-written values-arithmeticOf
-    values-negateOf values-toNumberOf values-notOf values-compareOf values-joinOf values-lengthOf values-indexOf
-    values-between values-substrOf values-fieldNumber values-textOf values-numberOf values-numeric
-    values-truthOf semantics-holdsFor semantics-check semantics-over semantics-lineOf semantics-passed
-    semantics-full semantics-execute semantics-fromBetween semantics-move semantics-runFor semantics-run
+    splitting-separatorOf splitting-splitOf image_format-codes image_format-codeCount image_format-codeOf
+    image_format-coded image_format-takeGroups image_format-takeNumber image_format-readImage image_format-all
+    image_format-written values-arithmeticOf values-negateOf values-toNumberOf values-notOf values-compareOf
+    values-joinOf values-lengthOf values-indexOf values-between values-substrOf values-fieldNumber values-textOf
+    values-numberOf values-numeric values-truthOf semantics-holdsFor semantics-check semantics-over
+    semantics-lineOf semantics-passed semantics-full semantics-execute semantics-fromBetween semantics-move
+    semantics-runFor semantics-run semantics-specials semantics-specialCount semantics-specialOf
     semantics-assignable semantics-valueAt semantics-splitBy semantics-readRecord
 computed = (
   (refl, (refl, (refl, (refl, ((refl, refl), ((refl, refl), ((refl, refl, refl), ((refl, refl), tt)))))))),
