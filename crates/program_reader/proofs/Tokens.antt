@@ -110,7 +110,7 @@ module _ (edition : ℕ) (s : List ℕ) where
   pub after-true : (t : Token) → True (tokenAfter edition s t)
   unfolding tokenAfter rank among
   after-true t =
-      choose True (is user-name t && beginsWith (eqb 40) (drop (t .stop) s)) (token (t .stop) call-paren 1) (tokenAt edition s (t .stop)) (quiet (t .stop) call-paren 1 refl)
+      choose True (is user-name t && beginsWith (λ b. eqb b 40) (drop (t .stop) s)) (token (t .stop) call-paren 1) (tokenAt edition s (t .stop)) (quiet (t .stop) call-paren 1 refl)
       (at-true (t .stop))
 
   ere-true : (a n : ℕ) (m : Option (Ere Class)) → readEre edition (take n (drop (suc a) s)) ≡ m → True (ereRead a (2 + n) m)

@@ -126,7 +126,7 @@ tokenAt edition s p =
 -- the token after a token. "A `(` at once after a user name is 4": it has a kind of its own
 unfoldable pub tokenAfter : ℕ → List ℕ → Token → Token
 tokenAfter edition s t =
-    cond (is user-name t && beginsWith (eqb 40) (drop (t .stop) s))
+    cond (is user-name t && beginsWith (λ b. eqb b 40) (drop (t .stop) s))
     (token (t .stop) call-paren 1)
     (tokenAt edition s (t .stop))
 
