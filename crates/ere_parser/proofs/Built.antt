@@ -9,7 +9,7 @@ use Rattle.edition.specs.Limits.{erePlaces}
 use Rattle.ere_meaning.specs.Tree.{Class, accepts, Ere, place, bol, eol, cat, alt, star, plus, opt}
 use Rattle.ere_table.specs.Table.{tableWords}
 use Rattle.ere_table.specs.Wiring.{afterPlace}
-use Rattle.ere_table.specs.Build.{linkRows, withClass, stops, orStop}
+use Rattle.ere_table.specs.Build.{linkRows, withClass, accept, orStop}
 use Rattle.ere_table.proofs.Writes.{class-bit, length-class, row-class, linked-class}
 use Rattle.ere_table.proofs.Parts.{Kept, part-kept}
 use Rattle.ere_parser.specs.State.{joinEntry, linkEntry, stopEntry, noAlts, noSeq, placeEntry, bolEntry, eolEntry, leafTable}
@@ -106,5 +106,5 @@ module _ (t : List ℕ) (p : ℕ) (c : List ℕ) (full : length t ≡ tableWords
       record {
         tree = place p;
         rows = rows-place (withClass t p c) p small (omega (arith, length-class t p c));
-        agrees = at-place {p = p} (le-refl p) (omega arith) (λ b h. row-class (withClass t p c) (p + 2) stops p b (omega arith) ∙ class-bit t p c b full small h ∙ f b h);
+        agrees = at-place {p = p} (le-refl p) (omega arith) (λ b h. row-class (withClass t p c) (p + 2) accept p b (omega arith) ∙ class-bit t p c b full small h ∙ f b h);
       }

@@ -16,7 +16,7 @@ use Rattle.buffer.proofs.Parts.{drop-next}
 use Rattle.ere_meaning.specs.Tree.{Class, Ere, place, bol, eol, places}
 use Rattle.ere_grammar.specs.Read.{begins, tail, andThen, Tree, afterGroup, readGroup, repeated, afterAtom, readAtom, finished, orElse}
 use Rattle.ere_table.specs.Table.{tableWords}
-use Rattle.ere_table.specs.Build.{withClass, stops}
+use Rattle.ere_table.specs.Build.{withClass, accept}
 use Rattle.ere_bracket.specs.declared.brackets.Bracket.{Bracket}
 use Rattle.ere_table.proofs.Rows.{length-row}
 use Rattle.ere_table.proofs.Writes.{length-class}
@@ -259,7 +259,7 @@ module _ {l : List ℕ} (n : ℕ) (s : State) (safe : Safe l s) (h : s .at < len
     moves-atom =
         let u = leafTable (s .hi) (r .words) t in
         let small : s .hi < erePlaces = omega (arith, safe .fewer) in
-        let lu : length u ≡ tableWords = length-row (withClass t (s .hi) (r .words)) (s .hi + 2) stops ∙ length-class t (s .hi) (r .words) ∙ full in
+        let lu : length u ≡ tableWords = length-row (withClass t (s .hi) (r .words)) (s .hi + 2) accept ∙ length-class t (s .hi) (r .words) ∙ full in
         let ends = repeat-ends l leaf (q .inside) in
         let e : Ere Class = place (q .class) in
         let eh = repeat-hi behind leaf e in

@@ -18,7 +18,7 @@ use Rattle.ere_meaning.specs.Tree.{Class, Ere, star, plus, opt, places}
 use Rattle.ere_grammar.specs.Read.{begins, tail, andThen, orElse, afterBar, repeated}
 use Rattle.ere_table.specs.Table.{tableWords}
 use Rattle.ere_table.specs.Wiring.{afterPlace}
-use Rattle.ere_table.specs.Build.{linkRows, withClass, stops, orStop}
+use Rattle.ere_table.specs.Build.{linkRows, withClass, accept, orStop}
 use Rattle.ere_table.proofs.Rows.{linked-out, row-other, length-linked}
 use Rattle.ere_table.proofs.Parts.{Kept}
 use Rattle.ere_parser.specs.Reading.{restFrom}
@@ -52,8 +52,8 @@ below-linked t lo n y h =
 pub below-leaf : (t : List ℕ) (p : ℕ) (c : List ℕ) → length t ≡ tableWords → p < erePlaces → SameBelow p t (leafTable p c t)
 below-leaf t p c full h =
     record {
-      rows = λ r k. row-other (withClass t p c) (p + 2) stops r (λ e. omega arith) ∙ class-row t p c r (omega arith);
-      classes = λ q b k m. row-class (withClass t p c) (p + 2) stops q b (omega arith) ∙ class-other t p c q b (λ e. omega arith) m;
+      rows = λ r k. row-other (withClass t p c) (p + 2) accept r (λ e. omega arith) ∙ class-row t p c r (omega arith);
+      classes = λ q b k m. row-class (withClass t p c) (p + 2) accept q b (omega arith) ∙ class-other t p c q b (λ e. omega arith) m;
     }
 
 kept-below : {t u : List ℕ} (lo hi : ℕ) → SameBelow hi t u → Kept (afterPlace t) (afterPlace u) lo hi

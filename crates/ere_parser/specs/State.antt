@@ -6,7 +6,7 @@ use lib.ListN.{getD}
 use lib.Dec.{eqb, leb}
 use Rattle.edition.specs.Limits.{erePlaces}
 use Rattle.ere_table.specs.Table.{noPlace, join}
-use Rattle.ere_table.specs.Build.{link, orStop, stops, endStop, single, linkRows, withRow, withClass}
+use Rattle.ere_table.specs.Build.{link, orStop, accept, acceptAtEnd, single, linkRows, withRow, withClass}
 use Rattle.ere_parser.specs.declared.rows.Entry.{Entry}
 use Rattle.ere_parser.specs.declared.rows.Piece.{Piece}
 use Rattle.ere_parser.specs.declared.rows.State.{State}
@@ -28,16 +28,16 @@ abbrev pub noAlts : Entry
 noAlts = entry noPlace noPlace
 
 abbrev pub noSeq : Entry
-noSeq = entry stops stops
+noSeq = entry accept accept
 
 abbrev pub placeEntry : ℕ → Entry
 placeEntry p = entry (single p) (single p)
 
 abbrev pub bolEntry : Entry
-bolEntry = entry stops noPlace
+bolEntry = entry accept noPlace
 
 abbrev pub eolEntry : Entry
-eolEntry = entry endStop endStop
+eolEntry = entry acceptAtEnd acceptAtEnd
 
 -- the state with which a group is begun, and one in which it is refused
 abbrev pub startOf : ℕ → ℕ → ℕ → State
@@ -81,9 +81,9 @@ loopTable g lo t = linkRows t (lo + 2) (g .hi - lo) (orStop (g .entry .later))
 abbrev pub repeatedTable : ℕ → Piece → ℕ → List ℕ → List ℕ
 repeatedTable b g lo t = cond (eqb b 42) (loopTable g lo t) (cond (eqb b 43) (loopTable g lo t) t)
 
--- a place with a class: its row has the stop marks
+-- a place with a class: its row has the accept bits
 abbrev pub leafTable : ℕ → List ℕ → List ℕ → List ℕ
-leafTable p words t = withRow (withClass t p words) (p + 2) stops
+leafTable p words t = withRow (withClass t p words) (p + 2) accept
 
 -- an anchor more
 abbrev pub anchorPiece : State → Entry → Piece

@@ -11,6 +11,9 @@ use crate::rows::Piece;
 use crate::rows::State;
 use crate::turns;
 use edition::Edition;
+use ere_table::ACCEPT;
+use ere_table::ACCEPT_AT_END;
+use ere_table::NOTHING;
 
 // An atom more that is no group.
 fn atom(ere: &[u8], s: State, t: &mut [u64]) -> State
@@ -53,15 +56,15 @@ fn item(ere: &[u8], levels: usize, s: State, t: &mut [u64]) -> State
     }
     if b == b'^' {
         let bol = Entry {
-            first: [0, 0, 3],
-            later: [0, 0, 0],
+            first: ACCEPT,
+            later: NOTHING,
         };
         return turns::anchor(s, bol, t);
     }
     if b == b'$' {
         let eol = Entry {
-            first: [0, 0, 2],
-            later: [0, 0, 2],
+            first: ACCEPT_AT_END,
+            later: ACCEPT_AT_END,
         };
         return turns::anchor(s, eol, t);
     }

@@ -10,6 +10,8 @@ use crate::rows::Entry;
 use crate::rows::Piece;
 use crate::rows::State;
 use edition::Edition;
+use ere_table::ACCEPT;
+use ere_table::NOTHING;
 
 // The byte at an index, 0 past the end.
 pub fn byte_at(ere: &[u8], at: usize) -> u8
@@ -36,12 +38,12 @@ pub fn start(at: usize, lo: usize, count: usize) -> State
     ensures { λ r. ⌜ r ≡ startOf at lo count ⌝ }
 {
     let alts = Entry {
-        first: [0, 0, 0],
-        later: [0, 0, 0],
+        first: NOTHING,
+        later: NOTHING,
     };
     let seq = Entry {
-        first: [0, 0, 3],
-        later: [0, 0, 3],
+        first: ACCEPT,
+        later: ACCEPT,
     };
     State {
         over: false,
@@ -83,8 +85,8 @@ pub fn bar(s: State) -> State
     let q = s.seq;
     let alts = rows::joined(a, q);
     let seq = Entry {
-        first: [0, 0, 3],
-        later: [0, 0, 3],
+        first: ACCEPT,
+        later: ACCEPT,
     };
     State {
         over: false,
@@ -132,7 +134,7 @@ pub fn repeated(b: u8, g: Piece, lo: usize, t: &mut [u64]) -> Piece
 {
     let e = g.entry;
     let hi = g.hi;
-    if b == 42 {
+    if b == b'*' {
         let entry = rows::or_stop(e);
         let later = entry.later;
         ere_table::link_rows(t, lo + 2, hi - lo, later);
@@ -144,7 +146,7 @@ pub fn repeated(b: u8, g: Piece, lo: usize, t: &mut [u64]) -> Piece
             entry,
         };
     }
-    if b == 43 {
+    if b == b'+' {
         let again = rows::or_stop(e);
         let later = again.later;
         ere_table::link_rows(t, lo + 2, hi - lo, later);
@@ -156,7 +158,7 @@ pub fn repeated(b: u8, g: Piece, lo: usize, t: &mut [u64]) -> Piece
             entry: e,
         };
     }
-    if b == 63 {
+    if b == b'?' {
         let entry = rows::or_stop(e);
         return Piece {
             ok: true,
@@ -221,7 +223,7 @@ pub fn leaf(words: [u64; 4], next: usize, p: usize, count: usize, t: &mut [u64])
     ensures { λ r. ⌜ (r ≡ pieceOf next (p + 1) (count + 1) (placeEntry p)) × (now (t .exit) ≡ leafTable p words (now (t .entry))) ⌝ }
 {
     ere_table::put_class(t, p, words);
-    ere_table::put_row(t, p + 2, [0, 0, 3]);
+    ere_table::put_row(t, p + 2, ACCEPT);
     let first = ere_table::single(p);
     let later = first;
     let entry = Entry { first, later };

@@ -45,7 +45,7 @@ wired-same N (star a) K L h w = wired-same N a (Again a K) (Again a L) (λ s f r
 wired-same N (plus a) K L h w = wired-same N a (Again a K) (Again a L) (λ s f r. (⊎-map (λ x. x) (h s f r .0), ⊎-map (λ x. x) (h s f r .1))) w
 wired-same N (opt a) K L h w = wired-same N a K L h w
 
--- no span starts with the stop mark
+-- no span starts with the accept bit
 pub first-stop : (e : Ere ℕ) (s f : Bool) → First e s f stop → ⊥
 first-stop (place p) s f h = let z : _≡_ {A = ℕ} 0 1 = cc (h .1) in omega arith
 first-stop bol s f h = h
@@ -81,7 +81,7 @@ again-then e C K s f (go q) = (
   ⊎-elim (λ x. inl (inl x)) (⊎-elim (λ c. inl (inr c)) (λ t. inr (inr (t .0), t .1))),
 )
 
--- the places from lo up to hi have K put in place of their stop marks
+-- the places from lo up to hi have K put in place of their accept bits
 module _ (N M : Table) (lo hi : ℕ) (K : Nexts) (h : (p : ℕ) → lo ≤ p → p < hi → (f : Bool) (r : Next) → M p f r ↔ Then (N p f) (K false f) r) where
   then-cong : {X Y : Next → Type 0} (Z : Next → Type 0) → ((r : Next) → X r ↔ Y r) → (r : Next) → Then X Z r ↔ Then Y Z r
   then-cong Z g stop = (λ t. (g stop .0 (t .0), t .1), λ t. (g stop .1 (t .0), t .1))
@@ -135,7 +135,7 @@ last-then : (K : Nexts) → Same (Thens Last K) K
 last-then K s f stop = (λ t. t .1, λ k. (refl, k))
 last-then K s f (go q) = (⊎-elim (λ e. let z : _≡_ {A = ℕ} 0 1 = cc in absurd (omega arith)) (λ t. t .1), λ k. inr (refl, k))
 
--- K is put in place of the stop marks of the places from lo up to hi
+-- K is put in place of the accept bits of the places from lo up to hi
 abbrev pub Linked : Table → Table → ℕ → ℕ → Nexts → Type 0
 Linked N M lo hi K = (p : ℕ) → lo ≤ p → p < hi → (f : Bool) (r : Next) → M p f r ↔ Then (N p f) (K false f) r
 
@@ -172,7 +172,7 @@ part-cat N M lo mid hi X Y a b l h k m p q = record {
       (chain (enter-same a (Thens Last Y) (Enter b Last) (chain (last-then Y) (q .starts))) (enter-cat a b Last)));
 }
 
--- X or the stop mark
+-- X or the accept bit
 abbrev pub OrStop : Nexts → Nexts
 OrStop X s f r = (X s f r) ⊎ (r ≡ stop)
 

@@ -15,7 +15,7 @@ use Rattle.ere_table.specs.Nexts.{Next, stop, go, Nexts}
 use Rattle.lists.specs.Digit.{bit}
 use Rattle.ere_table.specs.Table.{mem, row, join, noPlace}
 use Rattle.ere_table.specs.Wiring.{nextIn, afterPlace}
-use Rattle.ere_table.specs.Build.{link, withRow, linkRows, orStop, stops, endStop, single}
+use Rattle.ere_table.specs.Build.{link, withRow, linkRows, orStop, accept, acceptAtEnd, single}
 use Rattle.ere_table.proofs.Sets.{mem-none}
 use Rattle.lists.proofs.Digits.{bit-zero, bit-pow, word-pow}
 use Rattle.ere_table.proofs.Rows.{link-next, join-next, row-same, row-other, linked-in, linked-out}
@@ -157,18 +157,18 @@ single-next p h false (go q) = (
       (λ t. absurd (t .0)),
 )
 
-stops-next : (f : Bool) (r : Next) → (nextIn stops f r ≡ true) ↔ (r ≡ stop)
-stops-next true stop = (λ x. refl, λ x. refl)
-stops-next false stop = (λ x. refl, λ x. refl)
-stops-next true (go q) = (λ x. absurd (true≢false (sym x)), λ e. let z : _≡_ {A = ℕ} 0 1 = cc in absurd (omega arith))
-stops-next false (go q) = (
+accept-next : (f : Bool) (r : Next) → (nextIn accept f r ≡ true) ↔ (r ≡ stop)
+accept-next true stop = (λ x. refl, λ x. refl)
+accept-next false stop = (λ x. refl, λ x. refl)
+accept-next true (go q) = (λ x. absurd (true≢false (sym x)), λ e. let z : _≡_ {A = ℕ} 0 1 = cc in absurd (omega arith))
+accept-next false (go q) = (
   λ x. let z = and-true (ltb q 128) _ x in absurd (true≢false (sym (z .1) ∙ stop-word noPlace q (ltb-true q 128 (z .0)) ∙ mem-none q)),
   λ e. let z : _≡_ {A = ℕ} 0 1 = cc in absurd (omega arith),
 )
 
-pub rows-place : (t : List ℕ) (p : ℕ) → p < 128 → 3 * (p + 3) ≤ length t → RowPart (withRow t (p + 2) stops) p (p + 1) (single p) (single p) (place p)
+pub rows-place : (t : List ℕ) (p : ℕ) → p < 128 → 3 * (p + 3) ≤ length t → RowPart (withRow t (p + 2) accept) p (p + 1) (single p) (single p) (place p)
 rows-place t p h g = record {
-  wired = λ f r. rw (row-same t (p + 2) stops (omega arith)) (stops-next f r);
+  wired = λ f r. rw (row-same t (p + 2) accept (omega arith)) (accept-next f r);
   within = (le-refl p, omega arith);
   starts = starts;
 }
@@ -177,8 +177,8 @@ rows-place t p h g = record {
     starts true f r = single-next p h f r
     starts false f r = single-next p h f r
 
-pub kept-leaf : (t : List ℕ) (p lo hi : ℕ) → (hi ≤ p) ⊎ (p < lo) → Kept (afterPlace t) (afterPlace (withRow t (p + 2) stops)) lo hi
-kept-leaf t p lo hi h q l g f r = rw (row-other t (p + 2) stops (q + 2) (λ e. ⊎-elim (λ k. omega arith) (λ k. omega arith) h)) ((λ x. x), (λ x. x))
+pub kept-leaf : (t : List ℕ) (p lo hi : ℕ) → (hi ≤ p) ⊎ (p < lo) → Kept (afterPlace t) (afterPlace (withRow t (p + 2) accept)) lo hi
+kept-leaf t p lo hi h q l g f r = rw (row-other t (p + 2) accept (q + 2) (λ e. ⊎-elim (λ k. omega arith) (λ k. omega arith) h)) ((λ x. x), (λ x. x))
 
 none-next : (f : Bool) (r : Next) → nextIn noPlace f r ≡ true → ⊥
 none-next true stop h = true≢false (sym h)
@@ -190,16 +190,16 @@ none-entry : (s f : Bool) (r : Next) → Entry noPlace noPlace s f r → ⊥
 none-entry true f r h = none-next f r h
 none-entry false f r h = none-next f r h
 
-seq-next : (x : List ℕ) (f : Bool) (r : Next) → (nextIn x f r ≡ true) ↔ (nextIn (link stops x) f r ≡ true)
-seq-next x true stop = (λ h. link-next stops x true stop .1 (refl, h), λ h. link-next stops x true stop .0 h .1)
-seq-next x false stop = (λ h. link-next stops x false stop .1 (refl, h), λ h. link-next stops x false stop .0 h .1)
+seq-next : (x : List ℕ) (f : Bool) (r : Next) → (nextIn x f r ≡ true) ↔ (nextIn (link accept x) f r ≡ true)
+seq-next x true stop = (λ h. link-next accept x true stop .1 (refl, h), λ h. link-next accept x true stop .0 h .1)
+seq-next x false stop = (λ h. link-next accept x false stop .1 (refl, h), λ h. link-next accept x false stop .0 h .1)
 seq-next x true (go q) = ((λ h. h), (λ h. h))
 seq-next x false (go q) = (
-  (λ h. link-next stops x false (go q) .1 (inr (refl, h))),
-  (λ h. ⊎-elim (λ y. absurd (no-place y)) (λ t. t .1) (link-next stops x false (go q) .0 h)),
+  (λ h. link-next accept x false (go q) .1 (inr (refl, h))),
+  (λ h. ⊎-elim (λ y. absurd (no-place y)) (λ t. t .1) (link-next accept x false (go q) .0 h)),
 )
   where
-    no-place : nextIn stops false (go q) ≡ true → ⊥
+    no-place : nextIn accept false (go q) ≡ true → ⊥
     no-place y =
         let z = and-true (ltb q 128) _ y in
         true≢false (sym (z .1) ∙ stop-word noPlace q (ltb-true q 128 (z .0)) ∙ mem-none q)
@@ -211,42 +211,42 @@ rows-alone t lo hi f₁ l₁ e p =
     (λ s f r. (λ x. entry-join noPlace noPlace f₁ l₁ s f r .0 (inr x), λ x. ⊎-elim (λ y. absurd (none-entry s f r y)) (λ y. y) (entry-join noPlace noPlace f₁ l₁ s f r .1 x))) p
 
 -- no items before
-pub rows-seq : (t : List ℕ) (lo hi : ℕ) (f₁ l₁ : List ℕ) (e : Ere ℕ) → RowPart t lo hi f₁ l₁ e → RowPart t lo hi (link stops f₁) (link stops l₁) e
-rows-seq t lo hi f₁ l₁ e p = part-same _ lo hi (Entry f₁ l₁) (Entry (link stops f₁) (link stops l₁)) e same p
+pub rows-seq : (t : List ℕ) (lo hi : ℕ) (f₁ l₁ : List ℕ) (e : Ere ℕ) → RowPart t lo hi f₁ l₁ e → RowPart t lo hi (link accept f₁) (link accept l₁) e
+rows-seq t lo hi f₁ l₁ e p = part-same _ lo hi (Entry f₁ l₁) (Entry (link accept f₁) (link accept l₁)) e same p
   where
-    same : Same (Entry f₁ l₁) (Entry (link stops f₁) (link stops l₁))
+    same : Same (Entry f₁ l₁) (Entry (link accept f₁) (link accept l₁))
     same true f r = seq-next f₁ f r
     same false f r = seq-next l₁ f r
 
--- ---- anchors: only stop marks
+-- ---- anchors: only accept bits
 
-end-next : (f : Bool) (r : Next) → ((f ≡ true) × (r ≡ stop)) ↔ (nextIn endStop f r ≡ true)
+end-next : (f : Bool) (r : Next) → ((f ≡ true) × (r ≡ stop)) ↔ (nextIn acceptAtEnd f r ≡ true)
 end-next true stop = (λ t. refl, λ h. (refl, refl))
 end-next false stop = (λ t. absurd (true≢false (sym (t .0))), λ h. absurd (true≢false (sym h)))
 end-next true (go q) = (λ t. let e = t .1 in let z : _≡_ {A = ℕ} 0 1 = cc in absurd (omega arith), λ h. absurd (true≢false (sym h)))
 end-next false (go q) = (λ t. absurd (true≢false (sym (t .0))), λ h. absurd (none-here h))
   where
-    word : (k : ℕ) → k < 2 → getD {A = ℕ} endStop k 0 ≡ 0
+    word : (k : ℕ) → k < 2 → getD {A = ℕ} acceptAtEnd k 0 ≡ 0
     word zero l = refl
     word (suc zero) l = refl
     word (suc (suc k)) l = absurd (omega arith)
 
-    none-here : nextIn endStop false (go q) ≡ true → ⊥
+    none-here : nextIn acceptAtEnd false (go q) ≡ true → ⊥
     none-here h =
         let z = and-true (ltb q 128) _ h in
         let l = ltb-true q 128 (z .0) in
         true≢false (sym (z .1) ∙ ap (λ (w : ℕ). bit w (q % 64)) (word (q / 64) (omega arith)) ∙ bit-zero (q % 64))
 
-pub rows-eol : (t : List ℕ) (lo hi : ℕ) → RowPart t lo hi endStop endStop eol
-rows-eol t lo hi = part-same _ lo hi (λ s f r. (f ≡ true) × (r ≡ stop)) (Entry endStop endStop) eol same (part-eol (afterPlace t) lo hi)
+pub rows-eol : (t : List ℕ) (lo hi : ℕ) → RowPart t lo hi acceptAtEnd acceptAtEnd eol
+rows-eol t lo hi = part-same _ lo hi (λ s f r. (f ≡ true) × (r ≡ stop)) (Entry acceptAtEnd acceptAtEnd) eol same (part-eol (afterPlace t) lo hi)
   where
-    same : Same (λ s f r. (f ≡ true) × (r ≡ stop)) (Entry endStop endStop)
+    same : Same (λ s f r. (f ≡ true) × (r ≡ stop)) (Entry acceptAtEnd acceptAtEnd)
     same true f r = end-next f r
     same false f r = end-next f r
 
-pub rows-bol : (t : List ℕ) (lo hi : ℕ) → RowPart t lo hi stops noPlace bol
-rows-bol t lo hi = part-same _ lo hi (λ s f r. (s ≡ true) × (r ≡ stop)) (Entry stops noPlace) bol same (part-bol (afterPlace t) lo hi)
+pub rows-bol : (t : List ℕ) (lo hi : ℕ) → RowPart t lo hi accept noPlace bol
+rows-bol t lo hi = part-same _ lo hi (λ s f r. (s ≡ true) × (r ≡ stop)) (Entry accept noPlace) bol same (part-bol (afterPlace t) lo hi)
   where
-    same : Same (λ s f r. (s ≡ true) × (r ≡ stop)) (Entry stops noPlace)
-    same true f r = (λ t. stops-next f r .1 (t .1), λ h. (refl, stops-next f r .0 h))
+    same : Same (λ s f r. (s ≡ true) × (r ≡ stop)) (Entry accept noPlace)
+    same true f r = (λ t. accept-next f r .1 (t .1), λ h. (refl, accept-next f r .0 h))
     same false f r = (λ t. absurd (true≢false (sym (t .0))), λ h. absurd (none-next f r h))

@@ -12,7 +12,7 @@ use Rattle.ere_meaning.specs.Tree.{Ere, place}
 use Rattle.ere_table.specs.Nexts.{Next, stop, go, Enter, Last}
 use Rattle.lists.specs.Digit.{bit}
 use Rattle.ere_table.specs.Table.{mem, row, acceptsAt, tableWords}
-use Rattle.ere_table.specs.Build.{withRow, withClass, sealed, single, stops}
+use Rattle.ere_table.specs.Build.{withRow, withClass, sealed, single, accept}
 use Rattle.ere_table.specs.Wiring.{nextIn, afterPlace, Tabled}
 use Rattle.ere_table.proofs.Rows.{row-same, row-other}
 use Rattle.ere_table.proofs.Parts.{wired-kept, part-kept}
@@ -101,8 +101,8 @@ rows-class t lo hi first later e p c l part = part-kept (afterPlace t) (afterPla
 
 -- the table of an ERE that is one place
 pub tabled-place : (t : List ℕ) (p : ℕ) (c : List ℕ) → length t ≡ tableWords → p < 128
-    → Tabled (finished (withClass (withRow t (p + 2) stops) p c) (single p) (single p)) (place p)
+    → Tabled (finished (withClass (withRow t (p + 2) accept) p c) (single p) (single p)) (place p)
 tabled-place t p c h l =
-    let n : length (withClass (withRow t (p + 2) stops) p c) ≡ tableWords = simp length-set h in
-    tabled (withClass (withRow t (p + 2) stops) p c) (single p) (single p) n p (p + 1) (place p) (omega arith)
-    (rows-class (withRow t (p + 2) stops) p (p + 1) (single p) (single p) (place p) p c (omega arith) (rows-place t p l (omega arith)))
+    let n : length (withClass (withRow t (p + 2) accept) p c) ≡ tableWords = simp length-set h in
+    tabled (withClass (withRow t (p + 2) accept) p c) (single p) (single p) n p (p + 1) (place p) (omega arith)
+    (rows-class (withRow t (p + 2) accept) p (p + 1) (single p) (single p) (place p) p c (omega arith) (rows-place t p l (omega arith)))

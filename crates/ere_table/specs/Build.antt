@@ -1,4 +1,4 @@
--- Building a table. A part's rows have the stop mark where the part may end; what follows it is put there.
+-- Building a table. A part's rows have the accept bit where the part may end; what follows it is put there.
 use mathlib.Core.Bool.{Bool, cond, _&&_}
 use mathlib.Core.List.{List, [], _∷_}
 use Prim.Native.Nat.{ℕ, zero, suc, _+_, _-_, _*_, _/_, _%_, _^_}
@@ -8,22 +8,26 @@ use lib.Dec.{eqb, ltb}
 use Rattle.ere_table.specs.Table.{placeCount, rowWords, classWords, mem, row}
 use Rattle.lists.specs.Digit.{bit}
 
--- the set x with y in place of its stop mark
+-- the set x with y in place of its accept bit
 abbrev pub link : List ℕ → List ℕ → List ℕ
 link x y =
     cond (mem x placeCount) (bitOr (getD x 0 0) (getD y 0 0) ∷ bitOr (getD x 1 0) (getD y 1 0) ∷ bitAnd (getD x 2 0) (getD y 2 0) ∷ [])
     (getD x 0 0 ∷ getD x 1 0 ∷ bitAnd (getD x 2 0) (getD y 2 0) ∷ [])
 
--- the set x with the stop marks
+-- the accept bits of a set's third word: before the text's end (1) and at it (2)
+abbrev pub acceptBits : ℕ
+acceptBits = 3
+
+-- the set x with the accept bits
 abbrev pub orStop : List ℕ → List ℕ
-orStop x = getD x 0 0 ∷ getD x 1 0 ∷ 3 ∷ []
+orStop x = getD x 0 0 ∷ getD x 1 0 ∷ acceptBits ∷ []
 
--- only the stop marks; only that of the text's end; only the place p
-abbrev pub stops : List ℕ
-stops = 0 ∷ 0 ∷ 3 ∷ []
+-- only the accept bits; only that of the text's end; only the place p
+abbrev pub accept : List ℕ
+accept = 0 ∷ 0 ∷ acceptBits ∷ []
 
-abbrev pub endStop : List ℕ
-endStop = 0 ∷ 0 ∷ 2 ∷ []
+abbrev pub acceptAtEnd : List ℕ
+acceptAtEnd = 0 ∷ 0 ∷ 2 ∷ []
 
 abbrev pub single : ℕ → List ℕ
 single p = cond (ltb p 64) (1 * 2 ^ p % 2 ^ 64 ∷ 0 ∷ 0 ∷ []) (0 ∷ 1 * 2 ^ (p - 64) % 2 ^ 64 ∷ 0 ∷ [])
@@ -32,7 +36,7 @@ single p = cond (ltb p 64) (1 * 2 ^ p % 2 ^ 64 ∷ 0 ∷ 0 ∷ []) (0 ∷ 1 * 2 
 abbrev pub withRow : List ℕ → ℕ → List ℕ → List ℕ
 withRow t r x = set (set (set t (3 * r) (getD x 0 0)) (3 * r + 1) (getD x 1 0)) (3 * r + 2) (getD x 2 0)
 
--- the rows from r on, n of them, with y in place of their stop marks
+-- the rows from r on, n of them, with y in place of their accept bits
 unfoldable pub linkRows : List ℕ → ℕ → ℕ → List ℕ → List ℕ
 linkRows t r zero y = t
 linkRows t r (suc n) y = withRow (linkRows t r n y) (r + n) (link (row (linkRows t r n y) (r + n)) y)
@@ -69,7 +73,7 @@ beginTo t (suc n) = gather t (beginTo t n) n
 abbrev pub beginOf : List ℕ → List ℕ
 beginOf t = beginTo t placeCount
 
--- 1 if an entry row has a stop mark
+-- 1 if an entry row has a accept bit
 abbrev pub emptyOf : List ℕ → ℕ
 emptyOf t = cond (eqb (getD t 2 0) 0 && eqb (getD t 5 0) 0) 0 1
 

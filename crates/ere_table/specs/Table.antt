@@ -19,7 +19,12 @@ classWords = 4 * placeCount
 abbrev pub tableWords : ℕ
 tableWords = rowWords + classWords + 5
 
--- q is in the set s, three words: a place, or as 128 that a walk may stop, as 129 that it may stop at the text's end
+-- bits of a set, in three words: one for each place, then the accept bits, that a walk may stop before the text's end
+-- and at it
+abbrev pub setBits : ℕ
+setBits = 3 * 64
+
+-- q is in the set s: a place, or an accept bit, placeCount before the text's end and placeCount + 1 at it
 abbrev pub mem : List ℕ → ℕ → Bool
 mem s q = bit (getD s (q / 64) 0) (q % 64)
 

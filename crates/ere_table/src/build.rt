@@ -6,12 +6,13 @@ ghost use Rattle.ere_table.specs.Table.{tableWords, placeCount, row, joi
 ghost use Rattle.ere_table.specs.Build.{withRow, linkRows, withClass, entered, beginOf, emptyOf, sealed};
 ghost use Rattle.ere_table.specs.Build.{link as linkOf, gather as gatherOf, single as singleOf, joinClass, orStop};
 use crate::layout;
+use crate::layout::ACCEPT_BITS;
 use crate::layout::BEGIN;
 use crate::layout::EMPTY;
 use crate::layout::PLACES;
 use crate::layout::ROWS;
 
-// The set x with y in place of its stop mark.
+// The set x with y in place of its accept bit.
 pub fn link(x: [u64; 3], y: [u64; 3]) -> [u64; 3]
     ensures { λ r. ⌜ r ≡ linkOf x y ⌝ }
 {
@@ -28,11 +29,11 @@ pub fn union(x: [u64; 3], y: [u64; 3]) -> [u64; 3]
     [x[0] | y[0], x[1] | y[1], x[2] | y[2]]
 }
 
-// The set x with the stop marks.
+// The set x with the accept bits.
 pub fn or_stop(x: [u64; 3]) -> [u64; 3]
     ensures { λ r. ⌜ r ≡ orStop x ⌝ }
 {
-    [x[0], x[1], 3]
+    [x[0], x[1], ACCEPT_BITS]
 }
 
 // The set of the place p.
@@ -56,7 +57,7 @@ pub fn put_row(t: &mut [u64], r: usize, x: [u64; 3])
     t[3 * r + 2] = x[2];
 }
 
-// Row r with y in place of its stop mark.
+// Row r with y in place of its accept bit.
 pub fn link_row(t: &mut [u64], r: usize, y: [u64; 3])
     requires { ⌜ (length (now t) ≡ tableWords) × (r < placeCount + 2) ⌝ }
     ensures { λ u. ⌜ now (t .exit) ≡ withRow (now (t .entry)) r (linkOf (row (now (t .entry)) r) y) ⌝ }
@@ -66,7 +67,7 @@ pub fn link_row(t: &mut [u64], r: usize, y: [u64; 3])
     put_row(t, r, z);
 }
 
-// The rows from r on, n of them, with y in place of their stop marks.
+// The rows from r on, n of them, with y in place of their accept bits.
 pub fn link_rows(t: &mut [u64], r: usize, n: usize, y: [u64; 3])
     requires { ⌜ (length (now t) ≡ tableWords) × (r + n ≤ placeCount + 2) ⌝ }
     ensures { λ u. ⌜ now (t .exit) ≡ linkRows (now (t .entry)) r n y ⌝ }
@@ -136,7 +137,7 @@ fn begin(t: &[u64]) -> [u64; 4]
     out
 }
 
-// 1 if an entry row has a stop mark.
+// 1 if an entry row has a accept bit.
 fn empty(t: &[u64]) -> u64
     requires { ⌜ length (now t) ≡ tableWords ⌝ }
     ensures { λ r. ⌜ r ≡ emptyOf (now (t .entry)) ⌝ }

@@ -2,7 +2,7 @@
 use mathlib.Core.Path.{ap, _∙_}
 use mathlib.Core.List.{List}
 use Prim.Native.Nat.{ℕ, _+_}
-use Rattle.ere_table.specs.Build.{withRow, stops}
+use Rattle.ere_table.specs.Build.{withRow, accept}
 use Rattle.ere_parser.specs.State.{pieceOf, entry}
 use borrow.Author.Needs.{needs}
 use Rattle.ere_parser.proofs.turns.leaf.Statement.{statement}
@@ -32,7 +32,7 @@ same-length c = search needs
 returns : tie.Need-returns
 returns c = (
   ap (λ (r : List ℕ). pieceOf (c .before .before .before .before .before .before .before .before .before .before .args .next) (c .before .before .before .before .before .before .before .before .before .before .args .p + 1) (c .before .before .before .before .before .before .before .before .before .before .args .count + 1) (entry r r)) (c .single .ensures),
-  c .before .before .before .put-row .ensures ∙ ap (λ (t : List ℕ). withRow t (c .before .before .before .before .before .before .before .before .before .before .args .p + 2) stops) (c .before .before .before .before .before .before .before .put-class .ensures),
+  c .before .before .before .put-row .ensures ∙ ap (λ (t : List ℕ). withRow t (c .before .before .before .before .before .before .before .before .before .before .args .p + 2) accept) (c .before .before .before .before .before .before .before .put-class .ensures),
 )
 
 pub leaf-spec : {M : Type 1} → statement M

@@ -1,6 +1,7 @@
 -- `put_span` meets its contract, by its tests.
 use mathlib.Core.Path.{sym}
 use Rattle.fields.proofs.Located.{no-room}
+use Rattle.edition.specs.Limits.{fieldCount}
 use Rattle.splitting.specs.Field.{span}
 use Prim.Native.Nat.{_+_, _-_, _*_}
 use lib.ListN.{length}
@@ -13,10 +14,10 @@ returns : tie.Need-returns
 returns c = sym (no-room (c .before .args .first) (c .before .args .spans .now) (c .before .args .k) (span (c .before .args .start) (c .before .args .size)) (c .if1 .taken))
 
 returns-2 : tie.Need-returns-2
-returns-2 c = rw (le-ltb (c .before .before .args .k) 128 (c .if2 .taken))
+returns-2 c = rw (le-ltb (c .before .before .args .k) fieldCount (c .if2 .taken))
 
 returns-3 : tie.Need-returns-3
-returns-3 c = rw (lt-ltb (c .before .before .before .args .k) 128 (c .before .if2 .left), lt-leb (c .before .before .before .args .first) (c .before .before .before .args .k) (c .if3 .taken))
+returns-3 c = rw (lt-ltb (c .before .before .before .args .k) fieldCount (c .before .if2 .left), lt-leb (c .before .before .before .args .first) (c .before .before .before .args .k) (c .if3 .taken))
 
 mul-i : tie.Need-mul-i
 mul-i c = search needs
@@ -43,10 +44,10 @@ same-length : tie.Need-same-length
 same-length c = search needs
 
 returns-4 : tie.Need-returns-4
-returns-4 c = rw (lt-ltb (c .before .before .before .before .args .k) 128 (c .before .before .if2 .left), le-leb (c .before .before .before .before .args .first) (c .before .before .before .before .args .k) (c .before .if3 .left), lt-ltb (2 * (c .before .before .before .before .args .k - c .before .before .before .before .args .first) + 1) (length (c .before .before .before .before .args .spans .now)) (c .if4 .taken))
+returns-4 c = rw (lt-ltb (c .before .before .before .before .args .k) fieldCount (c .before .before .if2 .left), le-leb (c .before .before .before .before .args .first) (c .before .before .before .before .args .k) (c .before .if3 .left), lt-ltb (2 * (c .before .before .before .before .args .k - c .before .before .before .before .args .first) + 1) (length (c .before .before .before .before .args .spans .now)) (c .if4 .taken))
 
 returns-5 : tie.Need-returns-5
-returns-5 c = rw (lt-ltb (c .before .before .before .before .args .k) 128 (c .before .before .if2 .left), le-leb (c .before .before .before .before .args .first) (c .before .before .before .before .args .k) (c .before .if3 .left), le-ltb (2 * (c .before .before .before .before .args .k - c .before .before .before .before .args .first) + 1) (length (c .before .before .before .before .args .spans .now)) (c .if4 .left))
+returns-5 c = rw (lt-ltb (c .before .before .before .before .args .k) fieldCount (c .before .before .if2 .left), le-leb (c .before .before .before .before .args .first) (c .before .before .before .before .args .k) (c .before .if3 .left), le-ltb (2 * (c .before .before .before .before .args .k - c .before .before .before .before .args .first) + 1) (length (c .before .before .before .before .args .spans .now)) (c .if4 .left))
 
 pub put-span-spec : {M : Type 1} → statement M
 put-span-spec =

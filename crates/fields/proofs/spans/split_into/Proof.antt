@@ -1,9 +1,10 @@
 -- `split_into` meets its contract: n fields are written, and those from `at` on are left.
 use mathlib.Core.List.{List}
 use borrow.Author.Needs.{needs}
-use Prim.Native.Nat.{ℕ, _+_, _-_, _≤_}
+use Prim.Native.Nat.{ℕ, suc, _+_, _-_, _≤_}
 use Rattle.fields.proofs.Spreading.{step-found, step-none, Held, held-start, held-more, spread-end, spread-many, spread-empty}
 use Rattle.separators.specs.Kinds.{Means}
+use Rattle.edition.specs.Limits.{fieldCount}
 use Rattle.splitting.specs.Field.{span}
 use Rattle.splitting.specs.Separator.{Separator}
 use lib.ListN.{length}
@@ -16,10 +17,10 @@ use Rattle.fields.proofs.spans.split_into.Tie as tie
 
 abbrev Inv-loop : tie.InvT-loop
 Inv-loop text kind edition t first spans₀ at₀ n₀ spans at n =
-    (length spans ≡ length spans₀) × (n ≤ 129) × ((s : Separator) → Means (edition .number) t kind s → Held text s spans₀ first at n spans)
+    (length spans ≡ length spans₀) × (n ≤ suc fieldCount) × ((s : Separator) → Means (edition .number) t kind s → Held text s spans₀ first at n spans)
 
 abbrev μ-loop : tie.MeasureT-loop
-μ-loop text kind edition t first spans₀ at₀ n₀ spans at n = 129 - n
+μ-loop text kind edition t first spans₀ at₀ n₀ spans at n = suc fieldCount - n
 
 returns : tie.Need-returns Inv-loop μ-loop
 returns c = λ s m. spread-empty (c .before .before .before .before .args .text .now) s (c .before .before .before .before .args .spans .now) (c .before .before .before .before .args .first) (c .if1 .taken)
