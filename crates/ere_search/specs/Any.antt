@@ -24,3 +24,7 @@ Exists t text r = (e : Ere ℕ) → Tabled t e → r ≡ isMatch (bestOf (accept
 -- the set has nothing in it, and no match begins with the byte b
 abbrev pub passes : List ℕ → List ℕ → ℕ → Bool → Bool
 passes t s b empty = cond (dead s) (cond (eqb (getD s 2 0) 0) (not (mayBegin t b empty)) false) false
+
+-- no match begins with the byte b
+abbrev pub noStart : List ℕ → Bool → ℕ → Bool
+noStart t empty b = not (mayBegin t b empty)

@@ -1,10 +1,11 @@
 // Whether there is a match at all, by one walk from all starts at once.
 ghost use mathlib.Core.Path.{_≡_};
-ghost use Prim.Native.Nat.{_<_, _^_};
-ghost use lib.ListN.{length};
+ghost use Prim.Native.Nat.{_+_, _≤_, _<_, _^_};
+ghost use lib.ListN.{length, drop};
+ghost use Rattle.lists.specs.Elements.{leading};
 ghost use Rattle.ere_table.specs.Table.{tableWords, row, join};
 ghost use Rattle.ere_search.specs.Walk.{entryRow};
-ghost use Rattle.ere_search.specs.Any.{Exists, passes};
+ghost use Rattle.ere_search.specs.Any.{Exists, passes, noStart};
 use crate::search;
 use crate::words;
 
@@ -32,7 +33,22 @@ fn passed(t: &[u64], s: [u64; 3], b: u8, empty: bool) -> bool
     false
 }
 
-// Whether a match stands in the text. `live` is what may come next at i after the starts before i: each byte is looked at once.
+// Returns the first place from `from` on whose byte may begin a match, or the text's end: an inner loop over the bytes that begin none.
+fn next_start(t: &[u64], text: &[u8], from: usize, empty: bool) -> usize
+    requires { ⌜ (length (now t) ≡ tableWords) × (from ≤ length (now text)) ⌝ }
+    ensures { λ r. ⌜ r ≡ from + leading (noStart (now (t .entry)) empty) (drop from (now (text .entry))) ⌝ }
+{
+    let mut i = from;
+    while i < text.len() {
+        if search::may_begin(t, text[i], empty) {
+            return i;
+        }
+        i += 1;
+    }
+    i
+}
+
+// Tells whether a match is in the text. `live` is what may come next at i after the starts before i: each byte is looked at once.
 pub fn exists(t: &[u64], text: &[u8]) -> bool
     requires { ⌜ (length (now t) ≡ tableWords) × (length (now text) < 2 ^ 63) ⌝ }
     ensures { λ r. ⌜ Exists (now (t .entry)) (now (text .entry)) r ⌝ }
@@ -43,6 +59,7 @@ pub fn exists(t: &[u64], text: &[u8]) -> bool
     while i < text.len() {
         if passed(t, live, text[i], empty) {
             live = [0u64; 3];
+            i = next_start(t, text, i + 1, empty);
         } else {
             let all = with_entry(t, live, i);
             if search::stops(all, false) {
@@ -50,8 +67,8 @@ pub fn exists(t: &[u64], text: &[u8]) -> bool
             }
             let next = words::step(t, all, text[i]);
             live = next;
+            i += 1;
         }
-        i += 1;
     }
     let all = with_entry(t, live, i);
     search::stops(all, true)

@@ -33,7 +33,7 @@ add-put-word-3 : tie.Need-add-put-word-3
 add-put-word-3 c = search needs
 
 put-word-requires-2 : tie.Need-put-word-requires-2
-put-word-requires-2 c κs = search needs
+put-word-requires-2 c κs = omega arith
 
 same-length : tie.Need-same-length
 same-length c = search needs
