@@ -1,0 +1,5 @@
+-- Laws on the lexer's runs of bytes, its searches for closing bytes, and its table of spellings.
+pub mod Runs
+pub mod Closing
+pub mod Packing
+pub mod Coding

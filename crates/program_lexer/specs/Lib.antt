@@ -1,0 +1,4 @@
+-- How the lexer's answers stand for tokens.
+pub mod Coded
+pub mod Spellings
+pub mod Closings

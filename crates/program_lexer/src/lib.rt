@@ -1,0 +1,11 @@
+// The lexer: the token at a place of a filter text, and an ERE read again from a slash.
+mod bytes;
+mod closings;
+mod kinds;
+mod spellings;
+mod tokens;
+
+pub use tokens::Token;
+pub use tokens::as_operand;
+pub use tokens::token_after;
+pub use tokens::token_at;
