@@ -45,6 +45,12 @@ EXPLAINED = {
     ('numeral', 'Form', 'looksNumeric'): (('numeral', 'Form', ['Looks']), 'looks-true true-looks'),
     ('numeral', 'Form', 'prefixLength'): (('numeral', 'Form', ['Numeral']), 'prefix-numeral prefix-longest none-taken'),
     ('numeral', 'Decimal', 'decimalDigits'): (('numeral', 'Decimal', ['Spells']), 'digits-spelled'),
+    ('image_format', 'Reading', 'readImage'): (('image_format', 'Formed', ['Formed']), 'read-written read-only'),
+    ('values', 'Operations', 'compareOf'): (('values', 'Explained', ['Numeric', 'Says', 'Below', 'OneIf']),
+                                            'compare-numbers compare-texts compare-stops-left compare-stops-right'),
+    ('values', 'Value', 'truthOf'): (('values', 'Explained', ['TrueIf']), 'truth-unset truth-number truth-text truth-plain truth-look truth-look-stops'),
+    ('values', 'Operations', 'substrOf'): (('values', 'Explained', ['Selects', 'Position']), 'substr-is substr-stops-left substr-stops-right'),
+    ('values', 'Operations', 'indexOf'): (('values', 'Explained', ['Index']), 'index-is index-one'),
     ('image_format', 'Numbers', 'coded'): (('image_format', 'Numbers', ['Coded']), 'coded-is coded-one'),
     ('image_format', 'Numbers', 'takeNumber'): (('image_format', 'Numbers', ['Coded']), 'number-back number-only'),
 }

@@ -8,6 +8,7 @@ pub mod Budget
 pub mod ImageSizes
 pub mod Walks
 pub mod Frames
+pub mod Records
 pub mod Outcomes
 pub mod Shapes
 pub mod StuckExactly
