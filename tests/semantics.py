@@ -60,11 +60,11 @@ def image_value(parts):
     users, constants, eres, sections = parts
 
     def instruction(i):
-        return record(code=str(i[0]), depth=str(i[1]), named=numbers([] if i[2] is None else [i[2]]))
+        return record(code=str(i[0]), depth=str(i[1]), immediates=numbers([] if i[2] is None else [i[2]]))
 
-    begins, records, ends = (listed(instruction(i) for i in s) for s in sections)
+    begin, main, end = (listed(instruction(i) for i in s) for s in sections)
     return record(edition='1', users=str(users), constants=listed('(number %d)' % v if kind == 0 else '(text %s)' % numbers(v) for kind, v in constants),
-                  eres=listed(numbers(e) for e in eres), begins=begins, records=records, ends=ends)
+                  eres=listed(numbers(e) for e in eres), begin=begin, main=main, end=end)
 
 
 def reading(source, data, outcome, image):
@@ -106,14 +106,17 @@ def small_image(r):
             return image
 
 
-@group('coding', '''use mathlib.Core.Path.{_≡_, refl}
+@group('image_format', '''use mathlib.Core.Path.{_≡_, refl}
 use mathlib.Core.List.{List, [], _∷_}
 use mathlib.Core.Option.{Option, some, none}
-use Rattle.coding.specs.Codes.{nth, codeOf}
-use Rattle.coding.specs.Image.{number, text, Instruction, Image}
-use Rattle.coding.specs.Numbers.{coded, takeGroups, takeNumber}
-use Rattle.coding.specs.Reading.{fromBytes, fromWords, many, readImage}
-use Rattle.coding.specs.Writing.{all, written, bytesOf, contentOf}''', 'nth codeOf coded takeGroups takeNumber many readImage all written')
+use Rattle.lists.specs.Elements.{nth}
+use Rattle.lists.specs.Parsing.{many}
+use Rattle.image_format.specs.Codes.{codes, codeCount, codeOf}
+use Rattle.image_format.specs.Image.{number, text, Instruction, Image}
+use Rattle.image_format.specs.Numbers.{coded, takeGroups, takeNumber}
+use Rattle.image_format.specs.Reading.{fromBytes, fromWords, readImage}
+use Rattle.image_format.specs.Writing.{all, written, bytesOf, contentOf}''',
+       'nth codes codeCount codeOf coded takeGroups takeNumber many readImage all written')
 def images(r, count):
     for image in image_cases.formed_images():
         yield from from_bytes(image)
@@ -147,12 +150,13 @@ def unfoldables(*crates):
     return '\n'.join(uses), ' '.join(names)
 
 
-RUN_USES, RUN_NAMES = unfoldables('buffer', 'number', 'numeral', 'pattern', 'grammar', 'splitting', 'coding', 'values', 'semantics')
+RUN_USES, RUN_NAMES = unfoldables('lists', 'buffer', 'number', 'numeral', 'ere_meaning', 'ere_grammar', 'splitting', 'image_format', 'values', 'semantics')
 RUN_USES = '''use mathlib.Core.Path.{_≡_, refl}
 use mathlib.Core.Bool.{true, false}
 use mathlib.Core.List.{List, [], _∷_}
 use mathlib.Core.Option.{Option, some, none}
-use Rattle.coding.specs.Image.{number, text, Instruction, Image}
+use Rattle.image_format.specs.Image.{number, text, Instruction, Image}
+use Rattle.semantics.specs.Feed.{oneFeed}
 use Rattle.semantics.specs.Check.{check}
 use Rattle.semantics.specs.Run.{Answer, answerOf, run}
 ''' + RUN_USES
@@ -213,7 +217,7 @@ def run_case(image, text, room, budget):
     o, steps, records, output = ref.run(image, text, room, budget)
     SHOWN.add('outcome %d' % o)
     SHOWN.update('code %d' % i[0] for section in ref._parse_image(image)[0][3] for i in section)
-    return ('answerOf (run %s %d %s %d)' % (image_value(ref._parse_image(image)[0]), budget, numbers(text), room),
+    return ('answerOf (run %s %d (oneFeed %s) %d)' % (image_value(ref._parse_image(image)[0]), budget, numbers(text), room),
             'some ' + record(outcome=str(o), steps=str(steps), records=str(records), output=numbers(output)))
 
 

@@ -5,6 +5,7 @@ use mathlib.Core.Logic.{_⊎_, inl, inr, ⊎-elim, _↔_}
 use mathlib.Core.List.{List, [], _∷_, reverse}
 use mathlib.Core.Option.{Option, some, none}
 use Prim.Native.Nat.{ℕ, _≤_}
+use native.Mathlib.Omega.{arith}
 use lib.ListN.{length, take, drop as dropped}
 use lib.Dec.{eqb, ltb, leb}
 use borrow.Author.Tests.{ltb-false, leb-true, leb-false, le-leb, lt-leb, le-ltb, eqb-true, eqb-false, eq-eqb, ne-eqb}
@@ -13,7 +14,7 @@ use Rattle.lists.specs.Elements.{nth}
 use Rattle.ere_meaning.specs.Tree.{Class, Ere}
 use Rattle.ere_meaning.specs.Meaning.{Match}
 use Rattle.image_format.proofs.Codes.{front-length}
-use Rattle.image_format.specs.Codes.{Code, codeOf, Operation, action, flow, Action, constant, get, set, field, set-field, drop, arithmetic, negate, to-number, negation, compare, join, matches, match, length-of, index, substr, print, Flow, section-end, jump, jump-if-false, next, exit}
+use Rattle.image_format.specs.Codes.{ImmediateKind, a-constant, a-variable, an-assignable-variable, an-ere, an-instruction, a-positive-count, Code, codeOf, Operation, action, flow, Action, constant, get, set, field, set-field, drop, arithmetic, negate, to-number, negation, compare, join, matches, match, length-of, index, substr, print, Flow, section-end, jump, jump-if-false, next, exit}
 use Rattle.image_format.specs.Image.{Constant, Instruction, Image}
 use Rattle.values.specs.Value.{Value, Result, gives, stops, truthOf}
 use Rattle.semantics.specs.Variables.{assignable}
@@ -21,7 +22,7 @@ use Rattle.semantics.specs.Feed.{over}
 use Rattle.semantics.specs.World.{World, valueAt, readRecord}
 use Rattle.semantics.specs.Operations.{Effect, constantAt, pushed, setVariable, byEre, ereAt, matchFound, matchMarked, printValues}
 use Rattle.semantics.specs.Moves.{Section, begin, main, end, Location, at, between, Config, Move, continues, finishes, stops-at, stuck, sectionOf, unary, applied, advance, inEnd, inMain, applyEffect, branched, orStuck, applyFlow, execute, withOperands, withNumbers, byCode, byInstruction, silent, recordRead, fromBetween, fromLocation, move}
-use Rattle.semantics.specs.Stuck.{There, Ready, Stuck, no-instruction, no-code, no-number, no-operand, no-constant, no-variable, no-variable-to-set, not-assignable, no-ere, unread-ere, print-nothing, next-elsewhere}
+use Rattle.semantics.specs.Stuck.{Names, There, Ready, Stuck, no-instruction, no-code, no-number, no-operand, no-constant, no-variable, no-variable-to-set, not-assignable, no-ere, unread-ere, print-nothing, next-elsewhere}
 use Rattle.semantics.proofs.Walks.{cond-all, unary-all}
 use Rattle.semantics.proofs.Tables.{rowOf, row-is}
 use Rattle.semantics.proofs.Shapes.{one-total, unary-total, binary-total, ternary-total}
@@ -79,6 +80,58 @@ none-ere f x a w h = rw h
 unary-none : {A : Type 0} (vs : List Value) {f : Value → Option A} → ((a : Value) → f a ≡ none) → unary vs f ≡ none
 unary-none vs h = unary-all (λ x. x ≡ none) refl vs h
 
+-- ---- which operations name an ERE
+
+abbrev isEre : ImmediateKind → Bool
+isEre a-constant = false
+isEre a-variable = false
+isEre an-assignable-variable = false
+isEre an-ere = true
+isEre an-instruction = false
+isEre a-positive-count = false
+
+abbrev Matching : Operation → Type 0
+Matching o = (o ≡ action matches) ⊎ (o ≡ action match)
+
+module _ (v : ℕ) where
+  -- a code whose one number is of another kind names none
+  no-name : (k : ImmediateKind) (ns : List ℕ) → isEre k ≡ false → Names an-ere v (k ∷ []) ns → ⊥
+  no-name k [] f x = x
+  no-name k (n ∷ ns) f (inl x) = true≢false (sym (ap isEre (x .0)) ∙ f)
+  no-name k (n ∷ ns) f (inr x) = x
+
+  the-name : (ns : List ℕ) → length ns ≡ 1 → Names an-ere v (an-ere ∷ []) ns → ns ≡ v ∷ []
+  the-name [] l x = absurd x
+  the-name (n ∷ []) l (inl x) = rw (x .1)
+  the-name (n ∷ []) l (inr x) = absurd x
+  the-name (n ∷ m ∷ ns) l x = absurd (omega arith)
+
+  names-matching : (o : Operation) (ns : List ℕ) → length ns ≡ length (rowOf o .immediates) → Names an-ere v (rowOf o .immediates) ns
+      → (Matching o) × (ns ≡ v ∷ [])
+  names-matching (action matches) ns l x = (inl refl, the-name ns l x)
+  names-matching (action match) ns l x = (inr refl, the-name ns l x)
+  names-matching (action constant) ns l x = absurd (no-name a-constant ns refl x)
+  names-matching (action get) ns l x = absurd (no-name a-variable ns refl x)
+  names-matching (action set) ns l x = absurd (no-name an-assignable-variable ns refl x)
+  names-matching (action print) ns l x = absurd (no-name a-positive-count ns refl x)
+  names-matching (flow jump) ns l x = absurd (no-name an-instruction ns refl x)
+  names-matching (flow jump-if-false) ns l x = absurd (no-name an-instruction ns refl x)
+  names-matching (action field) ns l x = absurd x
+  names-matching (action set-field) ns l x = absurd x
+  names-matching (action drop) ns l x = absurd x
+  names-matching (action (arithmetic o)) ns l x = absurd x
+  names-matching (action negate) ns l x = absurd x
+  names-matching (action to-number) ns l x = absurd x
+  names-matching (action negation) ns l x = absurd x
+  names-matching (action (compare o)) ns l x = absurd x
+  names-matching (action join) ns l x = absurd x
+  names-matching (action length-of) ns l x = absurd x
+  names-matching (action index) ns l x = absurd x
+  names-matching (action substr) ns l x = absurd x
+  names-matching (flow section-end) ns l x = absurd x
+  names-matching (flow next) ns l x = absurd x
+  names-matching (flow exit) ns l x = absurd x
+
 -- ---- moves
 
 module _ (i : Image) (c : Config) where
@@ -125,13 +178,16 @@ module _ (i : Image) (c : Config) where
         → ((vs : List Value) → applied i a (v ∷ []) vs (c .world) ≡ none) → move i c ≡ stuck
     names-stuck r a v e n h = none-stuck r a e (ap (λ (ns : List ℕ). applied i a ns (taken j k) (c .world)) n ∙ h (taken j k))
 
-    ere-stuck : (r : Ready i c s j k) (v : ℕ) → (k .operation ≡ action matches) ⊎ (k .operation ≡ action match) → j .immediates ≡ v ∷ []
-        → ereAt (i .edition) (nth (i .eres) v) ≡ none → move i c ≡ stuck
-    ere-stuck r v e n h =
+    ere-stuck : (r : Ready i c s j k) (v : ℕ) → Names an-ere v (k .immediates) (j .immediates) → ereAt (i .edition) (nth (i .eres) v) ≡ none
+        → move i c ≡ stuck
+    ere-stuck r v names h =
         let x = ereAt (i .edition) (nth (i .eres) v) in
+        let is = ap (λ (k : Code). k .immediates) (row-is (i .edition) (j .code) k (r .there .code)) in
+        let m = names-matching v (k .operation) (j .immediates) (r .numbers ∙ ap length is) (subst (λ (ks : List ImmediateKind). Names an-ere v ks (j .immediates)) is names) in
+        let n = m .1 in
         ⊎-elim
         (λ e. names-stuck r matches v e n (λ vs. unary-none vs (λ a. none-ere matchFound x a (c .world) h)))
-        (λ e. names-stuck r match v e n (λ vs. unary-none vs (λ a. none-ere matchMarked x a (c .world) h))) e
+        (λ e. names-stuck r match v e n (λ vs. unary-none vs (λ a. none-ere matchMarked x a (c .world) h))) (m .0)
 
     next-stuck : (r : Ready i c s j k) → k .operation ≡ flow next → (s ≡ main → ⊥) → move i c ≡ stuck
     unfolding execute
@@ -155,8 +211,8 @@ module _ (i : Image) (c : Config) where
   stuck-move (no-variable {v} r e n h) = names-stuck r get v e n (λ vs. rw h)
   stuck-move (no-variable-to-set {v} r e n h) = names-stuck r set v e n (λ vs. unary-none vs (λ a. set-missing (i .edition) v a (c .world) h))
   stuck-move (not-assignable {v} r e n h) = names-stuck r set v e n (λ vs. unary-none vs (λ a. set-fixed (i .edition) v a (c .world) h))
-  stuck-move (no-ere {v} r e n h) = ere-stuck r v e n (ap (ereAt (i .edition)) h)
-  stuck-move (unread-ere {v} r e n g h) = ere-stuck r v e n (ap (ereAt (i .edition)) g ∙ h)
+  stuck-move (no-ere v r e h) = ere-stuck r v e (ap (ereAt (i .edition)) h)
+  stuck-move (unread-ere v r e g h) = ere-stuck r v e (ap (ereAt (i .edition)) g ∙ h)
   stuck-move (print-nothing r e z) = none-stuck r print e (rw z)
   stuck-move (next-elsewhere r e n) = next-stuck r e n
 
@@ -167,10 +223,18 @@ module _ (i : Image) (c : Config) where
     Why x = x ≡ none → Stuck i c
 
     -- the ERE is missing or doesn't read
-    ere-why : (v : ℕ) → (k .operation ≡ action matches) ⊎ (k .operation ≡ action match) → j .immediates ≡ v ∷ [] → (x : Option (List ℕ))
-        → nth (i .eres) v ≡ x → ereAt (i .edition) x ≡ none → Stuck i c
-    ere-why v e n none g h = no-ere r e n g
-    ere-why v e n (some l) g h = unread-ere r e n g h
+    ere-why : (v : ℕ) → Names an-ere v (k .immediates) (j .immediates) → (x : Option (List ℕ)) → nth (i .eres) v ≡ x
+        → ereAt (i .edition) x ≡ none → Stuck i c
+    ere-why v e none g h = no-ere v r e g
+    ere-why v e (some l) g h = unread-ere v r e g h
+
+    -- what the row of a matching operation names
+    ere-named : (o : Operation) → rowOf o .immediates ≡ an-ere ∷ [] → k .operation ≡ o → (v : ℕ) → j .immediates ≡ v ∷ []
+        → Names an-ere v (k .immediates) (j .immediates)
+    ere-named o f e v n =
+        let is = ap (λ (k : Code). k .immediates) (row-is (i .edition) (j .code) k (r .there .code)) in
+        let row : k .immediates ≡ an-ere ∷ [] = is ∙ (ap (λ (o : Operation). rowOf o .immediates) e ∙ f) in
+        rw (row, n) (inl (refl, refl))
 
     action-why : (a : Action) → k .operation ≡ action a → (ns : List ℕ) → j .immediates ≡ ns → length ns ≡ length (rowOf (action a) .immediates)
         → (vs : List Value) → (k .pops) (j .immediates) ≡ length vs → length vs ≡ (rowOf (action a) .pops) ns
@@ -195,10 +259,10 @@ module _ (i : Image) (c : Config) where
     action-why join e ns q l vs m t = binary-total Why vs t (λ a b h. absurd (some-none h))
     action-why matches e ns q l vs m t =
         one-total Why ns l (λ v p.
-        unary-total Why vs t (λ a h. ere-why v (inl e) (q ∙ p) (nth (i .eres) v) refl (ere-none matchFound _ a (c .world) h)))
+        unary-total Why vs t (λ a h. ere-why v (ere-named (action matches) refl e v (q ∙ p)) (nth (i .eres) v) refl (ere-none matchFound _ a (c .world) h)))
     action-why match e ns q l vs m t =
         one-total Why ns l (λ v p.
-        unary-total Why vs t (λ a h. ere-why v (inr e) (q ∙ p) (nth (i .eres) v) refl (ere-none matchMarked _ a (c .world) h)))
+        unary-total Why vs t (λ a h. ere-why v (ere-named (action match) refl e v (q ∙ p)) (nth (i .eres) v) refl (ere-none matchMarked _ a (c .world) h)))
     action-why length-of e ns q l vs m t = unary-total Why vs t (λ a h. absurd (some-none h))
     action-why index e ns q l vs m t = binary-total Why vs t (λ a b h. absurd (some-none h))
     action-why substr e ns q l vs m t = ternary-total Why vs t (λ a b d h. absurd (some-none h))

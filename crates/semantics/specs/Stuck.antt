@@ -9,11 +9,17 @@ use Prim.Native.Nat.{ℕ, _≤_, _<_}
 use lib.ListN.{length}
 use Rattle.lists.specs.Elements.{nth}
 use Rattle.ere_grammar.specs.Read.{readEre}
-use Rattle.image_format.specs.Codes.{Code, codeOf, action, flow, constant, get, set, matches, match, print, next}
+use Rattle.image_format.specs.Codes.{ImmediateKind, an-ere, Code, codeOf, action, flow, constant, get, set, print, next}
 use Rattle.image_format.specs.Image.{Instruction, Image}
 use Rattle.semantics.specs.Variables.{assignable}
 use Rattle.semantics.specs.World.{World, valueAt}
 use Rattle.semantics.specs.Moves.{Section, begin, main, end, Location, at, between, Control, Config, sectionOf}
+
+-- one of an instruction's numbers is v, and names a thing of a kind
+abbrev pub Names : ImmediateKind → ℕ → List ImmediateKind → List ℕ → Type 0
+Names kind v [] ns = ⊥
+Names kind v (k ∷ ks) [] = ⊥
+Names kind v (k ∷ ks) (n ∷ ns) = ((k ≡ kind) × (n ≡ v)) ⊎ (Names kind v ks ns)
 
 module _ (i : Image) (c : Config) where
   -- the run is at this instruction, of this code
@@ -43,9 +49,9 @@ module _ (i : Image) (c : Config) where
         → length (c .world .variables) ≤ v → Stuck
     not-assignable : {s : Section} {j : Instruction} {k : Code} {v : ℕ} → Ready s j k → k .operation ≡ action set → j .immediates ≡ v ∷ []
         → assignable (i .edition) v ≡ false → Stuck
-    no-ere : {s : Section} {j : Instruction} {k : Code} {v : ℕ} → Ready s j k → (k .operation ≡ action matches) ⊎ (k .operation ≡ action match) → j .immediates ≡ v ∷ []
+    no-ere : {s : Section} {j : Instruction} {k : Code} (v : ℕ) → Ready s j k → Names an-ere v (k .immediates) (j .immediates)
         → nth (i .eres) v ≡ none → Stuck
-    unread-ere : {s : Section} {j : Instruction} {k : Code} {v : ℕ} {l : List ℕ} → Ready s j k → (k .operation ≡ action matches) ⊎ (k .operation ≡ action match)
-        → j .immediates ≡ v ∷ [] → nth (i .eres) v ≡ some l → readEre (i .edition) l ≡ none → Stuck
+    unread-ere : {s : Section} {j : Instruction} {k : Code} (v : ℕ) {l : List ℕ} → Ready s j k → Names an-ere v (k .immediates) (j .immediates)
+        → nth (i .eres) v ≡ some l → readEre (i .edition) l ≡ none → Stuck
     print-nothing : {s : Section} {j : Instruction} {k : Code} → Ready s j k → k .operation ≡ action print → (k .pops) (j .immediates) ≡ 0 → Stuck
     next-elsewhere : {s : Section} {j : Instruction} {k : Code} → Ready s j k → k .operation ≡ flow next → (s ≡ main → ⊥) → Stuck
