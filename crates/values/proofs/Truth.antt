@@ -12,8 +12,8 @@ use Rattle.buffer.proofs.Order.{unless}
 use Rattle.number.specs.Arithmetic.{isZero}
 use Rattle.numeral.specs.Form.{looksNumeric, Looks}
 use Rattle.numeral.proofs.Look.{looks-true, true-looks}
-use Rattle.values.specs.Value.{Value, unset, number, text, field-text, Stop, gives, stops, numberOf, nonempty}
-use Rattle.values.specs.Value.{truthOf}
+use Rattle.values.specs.Value.{Value, unset, number, text, field-text, Stop, gives, stops, textOf, numberOf, nonempty}
+use Rattle.values.specs.Value.{numeric, truthOf}
 use Rattle.values.specs.Operations.{notOf}
 use Rattle.values.specs.Explained.{so, not-so, TrueIf}
 
@@ -27,30 +27,30 @@ some-bytes [] = not-so (λ n. n refl)
 some-bytes (b ∷ l) = rw (ne-eqb (suc (length l)) 0 (λ e. omega arith)) (so (λ e. omega (arith, ap length e)))
 
 pub truth-unset : truthOf unset ≡ gives false
-unfolding truthOf
+unfolding truthOf numeric numberOf
 truth-unset = refl
 
 pub truth-number : (z : ℤ) → TrueIf (z ≡ pos 0 → ⊥) (truthOf (number z))
-unfolding truthOf
+unfolding truthOf numeric numberOf
 truth-number z = nonzero z
 
 pub truth-text : (l : List ℕ) → TrueIf (l ≡ [] → ⊥) (truthOf (text l))
-unfolding truthOf
+unfolding truthOf numeric textOf
 truth-text l = some-bytes l
 
 -- field text without a numeric look is as other texts
 pub truth-plain : (l : List ℕ) → (Looks l → ⊥) → TrueIf (l ≡ [] → ⊥) (truthOf (field-text l))
-unfolding truthOf
+unfolding truthOf numeric textOf
 truth-plain l n = rw (unless (looksNumeric l) (λ h. n (looks-true l h))) (some-bytes l)
 
 -- with one, it takes the number
 module _ (l : List ℕ) (looks : Looks l) where
   pub truth-look : {z : ℤ} → numberOf (field-text l) ≡ gives z → TrueIf (z ≡ pos 0 → ⊥) (truthOf (field-text l))
-  unfolding truthOf numberOf
+  unfolding truthOf numeric
   truth-look {z} h = rw (true-looks l looks, h) (nonzero z)
 
   pub truth-look-stops : {s : Stop} → numberOf (field-text l) ≡ stops s → truthOf (field-text l) ≡ stops s
-  unfolding truthOf numberOf
+  unfolding truthOf numeric
   truth-look-stops h = rw (true-looks l looks, h)
 
 -- ---- not

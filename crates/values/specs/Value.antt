@@ -71,10 +71,7 @@ nonzero r = bind r (λ z. gives (not (isZero z)))
 
 -- "Truth: numbers and numeric-looking field text nonzero, other texts nonempty, unset false; a numeric look takes the number here too (11, 12)."
 unfoldable pub truthOf : Value → Result Bool
-truthOf unset = gives false
-truthOf (number z) = gives (not (isZero z))
-truthOf (text l) = gives (nonempty l)
-truthOf (field-text l) = cond (looksNumeric l) (nonzero (result (textNumber l))) (gives (nonempty l))
+truthOf a = cond (numeric a) (nonzero (numberOf a)) (gives (nonempty (textOf a)))
 
 abbrev pub truthValue : Bool → Value
 truthValue b = number (pos (cond b 1 0))
