@@ -1,5 +1,5 @@
 /*
- * Times the search of an ERE that is compiled once, for bench/match.py: over libprepared.a, and by the C library's regexec.
+ * Times the search of an ERE that is compiled once, for bench/match.py: over libbench_ere.a, and by the C library's regexec.
  *
  *   match ERE TURNS < LINES
  *

@@ -3,7 +3,7 @@
 
     bench/match.py [--lines N] [--turns T]
 
-Builds the archive by `rt staticlib prepared` and the program of bench/match.c over it; makes N flow lines of 70 bytes (default 2,000; fields, for the ERE
+Builds the archive by `rt staticlib bench_ere` and the program of bench/match.c over it; makes N flow lines of 70 bytes (default 2,000; fields, for the ERE
 on a field) and searches each T times (default 300) with each ERE, compiled once. The awks run match() over the same lines in an array; the time of the
 same loops with length() in its place is taken off. Writes a table: nanoseconds for a line, and how many times as long as ours the others take;
 then the time of testing a byte against a bracket in two ways.
@@ -76,7 +76,7 @@ def main():
     print('| ERE | ours, ns | regexec | ' + ' | '.join(awks) + ' |\n|---|--:|' + '--:|' * (1 + len(awks)))
     with tempfile.TemporaryDirectory() as directory:
         path = os.path.join(directory, 'lines')
-        program = building.program('bench', 'match', directory, building.archive('prepared'))
+        program = building.program('bench', 'match', directory, building.archive('bench_ere'))
         for ere, of_field in ERES:
             write_lines(path, of_field, options.lines)
             ours, regexec, matches = numbers(program, path, ere, str(options.turns))

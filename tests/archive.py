@@ -1,8 +1,8 @@
-"""Compares C functions of the archive of `capi` with a reference, on random cases: what tests/match.py, tests/split.py and tests/images.py share.
+"""Compares C functions of an archive with a reference, on random cases: what tests/match.py, tests/split.py, tests/images.py and tests/exists.py share.
 
     tests/NAME.py [--reference DIR] [--cases N] [--seed S] [--archive FILE] [--sanitize]
 
-builds the archive by `rt staticlib capi` (or takes FILE) and, in a temporary directory, the program of tests/NAME.c over it; draws N cases (default
+builds the archive by `rt staticlib capi` (tests/exists.py: `bench_ere`; or takes FILE) and, in a temporary directory, the program of tests/NAME.c over it; draws N cases (default
 100,000) with DIR/gen.py, from the seed S (default 1); compares each answer with that of DIR/reference.py (default
 tests/reference). Writes how many cases there were of each kind, and each disagreement (at most ten). The status is 1 if there is one. With
 --sanitize the C program, not the archive, is built with the compiler's address checks.
@@ -39,9 +39,9 @@ def answers(program, cases, packed):
     return [tuple(map(int, line.split())) for line in lines]
 
 
-def compare(name, draw, packed, kinds_of, shown):
+def compare(name, draw, packed, kinds_of, shown, crate='capi', first=None):
     """draw(r, gen, reference) gives a case and the answer that is expected, packed(case) the program's input, kinds_of(case, expected) what the case
-    shows, shown(case) its text."""
+    shows, shown(case) its text. The archive is that of the crate; first(program) is done before the cases."""
     options = arguments()
     sys.path.insert(0, options.reference)
     sys.dont_write_bytecode = True
@@ -51,7 +51,9 @@ def compare(name, draw, packed, kinds_of, shown):
     kinds, wrong = collections.Counter(), []
     with tempfile.TemporaryDirectory() as directory:
         checks = ['-fsanitize=address'] if options.sanitize else []
-        program = building.program('tests', name, directory, options.archive or building.archive('capi'), *checks)
+        program = building.program('tests', name, directory, options.archive or building.archive(crate), *checks)
+        if first:
+            first(program)
         for done in range(0, options.cases, BATCH):
             drawn = [draw(r, gen, reference) for _ in range(min(BATCH, options.cases - done))]
             for (case, expected), got in zip(drawn, answers(program, [case for case, _ in drawn], packed)):

@@ -1,24 +1,14 @@
 -- A copy by blocks inside a list, one block after the other.
-use mathlib.Core.Path.{_≡_, refl, sym, ap, ap₂, _∙_}
+use mathlib.Core.Path.{_≡_, refl, sym, ap, _∙_}
 use mathlib.Core.Logic.{_⊎_, ⊎-elim}
 use mathlib.Core.List.{List}
 use Prim.Native.Nat.{ℕ, _+_, _*_, _/_, _%_, _≤_, _<_}
 use native.Mathlib.Omega.{arith}
-use lib.ListN.{length, getD}
+use lib.ListN.{length}
 use Rattle.buffer.specs.Parts.{part, put}
-use Rattle.buffer.specs.Words.{leBytes, leValue}
 use Rattle.buffer.proofs.Parts.{length-part, put-none, part-put-above, part-put-below}
 use Rattle.lanes.specs.Block.{blocks}
-use Rattle.lanes.proofs.Copied.{words-copied, over-more}
-
--- two words read, then written
-pub moved : (l : List ℕ) (from to v w : ℕ) {x y : List ℕ} → ((i : ℕ) → getD l i 0 < 256) → from + 16 ≤ length l → to + 16 ≤ length l
-    → v ≡ leValue (part from 8 l) → w ≡ leValue (part (from + 8) 8 l) → x ≡ put l to (leBytes 8 v) → y ≡ put x (to + 8) (leBytes 8 w)
-    → y ≡ put l to (part from 16 l)
-moved l from to v w {x} {y} h hf ht ev ew ex ey =
-    ey
-    ∙ ap₂ (λ (r : List ℕ) (u : ℕ). put r (to + 8) (leBytes 8 u)) (ex ∙ ap (λ (u : ℕ). put l to (leBytes 8 u)) ev) ew
-    ∙ words-copied l to l from h ht hf
+use Rattle.lanes.proofs.Copied.{over-more}
 
 -- one block more
 pub block-more : (l : List ℕ) (from to n k : ℕ) {x y : List ℕ} → from + n + 15 ≤ length l → to + n + 15 ≤ length l

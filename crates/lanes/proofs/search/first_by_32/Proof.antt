@@ -43,7 +43,8 @@ loop-less c = omega (arith, first-byte-most (c .before .before .before .before .
 loop-again : tie.Need-loop-again Inv-loop μ-loop
 loop-again c =
     let a = c .before .before .before .before .before .args in
-    block-passed (a .b) 32 (c .before .before .before .loop .k) (a .s .now) (omega (arith, first-byte-most (a .b) (a .s .now))) (sym (c .before .any-in-32 .ensures) ∙ c .if1 .left) (c .before .before .before .loop .inv)
+    let next = block-passed (a .b) 32 (c .before .before .before .loop .k) (a .s .now) (omega (arith, first-byte-most (a .b) (a .s .now))) (sym (c .before .any-in-32 .ensures) ∙ c .if1 .left) (c .before .before .before .loop .inv) in
+    omega (arith, next)
 
 first-by-8-requires : tie.Need-first-by-8-requires Inv-loop μ-loop
 first-by-8-requires c κs = (c .before .before .before .pre .0, c .before .loop .inv)

@@ -1,5 +1,6 @@
 -- `move_16` meets its contract: the bytes of two words are copied.
-use Rattle.run_room.proofs.Blockwise.{moved}
+use native.Mathlib.Omega.{arith}
+use Rattle.lanes.proofs.Copied.{words-moved}
 use borrow.Author.Needs.{needs}
 use Rattle.run_room.proofs.blocks.move_16.Statement.{statement}
 use Rattle.run_room.proofs.blocks.move_16.Tie as tie
@@ -28,8 +29,8 @@ same-length c = search needs
 returns : tie.Need-returns
 returns c =
     let a = c .before .before .before .before .before .before .before .before .before .before .before .before .before .args in
-    moved (a .s .now) (a .from) (a .to) (c .before .before .before .before .before .before .before .before .before .before .get-word .result) (c .before .before .before .before .before .before .before .before .get-word2 .result) (λ i. c .before .before .before .before .before .before .before .before .before .before .before .before .slice-known .given i .fits) (c .before .before .before .before .before .before .before .before .before .before .before .before .before .pre .0) (c .before .before .before .before .before .before .before .before .before .before .before .before .before .pre .1)
-    (c .before .before .before .before .before .before .before .before .before .before .get-word .ensures) (c .before .before .before .before .before .before .before .before .get-word2 .ensures) (c .before .before .before .before .before .before .put-word .ensures) (c .before .before .put-word2 .ensures)
+    words-moved (a .s .now) (a .to) (a .s .now) (a .from) (c .before .before .before .before .before .before .before .before .before .before .get-word .ensures) (c .before .before .before .before .before .before .before .before .get-word2 .ensures) (c .before .before .before .before .before .before .put-word .ensures) (c .before .before .put-word2 .ensures)
+    (omega arith) (omega arith) (λ i. c .before .before .before .before .before .before .before .before .before .before .before .before .slice-known .given i .fits) (c .before .before .before .before .before .before .before .before .before .before .before .before .before .pre .1) (c .before .before .before .before .before .before .before .before .before .before .before .before .before .pre .0)
 
 pub move-16-spec : {M : Type 1} → statement M
 move-16-spec =
