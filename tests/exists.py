@@ -13,7 +13,7 @@ MOST = 20000
 
 
 def draw(r, gen, reference):
-    ere, text = gen.ere(r), gen.text(r)
+    ere, text = gen.ere(r), gen.text(r)[:512]
     outcome, start, _ = reference.match(ere, text)
     return (ere, text), (2 if outcome else int(start > 0),)
 

@@ -8,6 +8,7 @@ mod words;
 pub use blocks::any_in_32;
 pub use copies::copy;
 pub use copies::copy_over;
+pub use pairs::first_byte_from;
 pub use pairs::first_of_two;
 pub use pairs::past_two;
 pub use search::first_byte;

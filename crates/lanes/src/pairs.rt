@@ -6,6 +6,7 @@ ghost use Prim.Native.Nat.{_+_, _≤_};
 ghost use lib.ListN.{length, drop};
 ghost use Rattle.lists.specs.Elements.{oneOf, leading};
 ghost use Rattle.buffer.specs.Parts.{part};
+ghost use Rattle.buffer.specs.First.{firstByte};
 ghost use Rattle.lanes.specs.Pair.{neither};
 
 // Finds the first `a` or `b` in the eight bytes from index `at` on; 8 where there is none.
@@ -69,4 +70,12 @@ pub fn past_two(s: &[u8], at: usize, a: u8, b: u8) -> usize
         k += 1;
     }
     k
+}
+
+// Returns the index of the first `b` from index `at` on, or the length of `s`: as `first_of_two`, which suits short ways better than `first_byte`.
+pub fn first_byte_from(s: &[u8], at: usize, b: u8) -> usize
+    requires { ⌜ at ≤ length (now s) ⌝ }
+    ensures { λ r. ⌜ r ≡ at + firstByte b (drop at (now (s .entry))) ⌝ }
+{
+    first_of_two(s, at, b, b)
 }
