@@ -1,0 +1,5 @@
+-- Laws on the record and its fields.
+pub mod Turn
+pub mod Stored
+pub mod Started
+pub mod Got

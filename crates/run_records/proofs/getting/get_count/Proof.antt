@@ -1,0 +1,37 @@
+-- `get_count` meets its contract.
+use mathlib.Core.Path.{refl}
+use Rattle.run_records.proofs.Got.{counted-all}
+use borrow.Author.Needs.{needs}
+use Rattle.run_records.proofs.getting.get_count.Statement.{statement}
+use Rattle.run_records.proofs.getting.get_count.Tie as tie
+use Rattle.run_records.proofs.getting.get_count.Reads as reads
+use Rattle.run_records.proofs.getting.get_count.Lts as lts
+use Rattle.run_records.proofs.lines.split_all.Reads as split-all-reads
+use Rattle.run_room.proofs.set_number.Reads as set-number-reads
+
+-- src/getting.rt:63:9
+split-all-requires : tie.Need-split-all-requires
+split-all-requires c κs = search needs
+
+-- src/getting.rt:64:38
+add-set-number : tie.Need-add-set-number
+add-set-number c = search needs
+
+-- src/getting.rt:64:5
+set-number-requires : tie.Need-set-number-requires
+set-number-requires c κs = search needs
+
+-- src/getting.rt:55:1
+same-length : tie.Need-same-length
+same-length c = search needs
+
+-- src/getting.rt:55:1
+returns : tie.Need-returns
+returns c =
+    let a = c .before .before .before .before .before .before .before .before .before .before .args in
+    let p = c .before .before .before .before .before .before .before .before .before .before .pre in
+    counted-all (a .edition .number) (a .t .now) (a .kind) (a .work .now) _ _ (a .line) (c .before .before .before .before .before .before .split-all .result) (a .slot) (p .0) (p .1) (p .3) (c .before .before .before .before .before .before .split-all .ensures) _ refl (c .before .before .set-number .ensures)
+
+pub get-count-spec : {M : Type 1} → statement M
+get-count-spec =
+    tie.close (tie.spec split-all-requires add-set-number set-number-requires same-length returns)

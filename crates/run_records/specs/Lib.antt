@@ -1,0 +1,2 @@
+-- The record and its fields.
+pub mod Records
