@@ -3,12 +3,12 @@ use mathlib.Core.Path.{_≡_, refl}
 use mathlib.Core.Option.{some}
 use Prim.Native.Nat.{ℕ}
 use Rattle.lists.specs.Elements.{nth}
-use Rattle.image_format.specs.Codes.{codeOf, Operation, action, flow, add, subtract, multiply, divide, remainder, less, at-most, equal, different, greater, at-least, constant, get, set, field, set-field, drop, arithmetic, negate, to-number, negation, compare, join, matches, match, length-of, index, substr, print, section-end, jump, jump-if-false, next, exit}
+use Rattle.image_format.specs.Codes.{codeOf, codeCount, codes, Operation, action, flow, add, subtract, multiply, divide, remainder, less, at-most, equal, different, greater, at-least, constant, get, set, field, set-field, drop, arithmetic, negate, to-number, negation, compare, join, matches, match, length-of, index, substr, print, section-end, jump, jump-if-false, next, exit}
 use Rattle.semantics.proofs.Tables.{rowOf}
 use Rattle.program_code.specs.Emitted.{opcode, actionCode, flowCode, arithmeticCode, comparisonCode}
 
 pub opcode-row : (edition : ℕ) (o : Operation) → codeOf edition (opcode o) ≡ some (rowOf o)
-unfolding codeOf nth opcode actionCode flowCode arithmeticCode comparisonCode
+unfolding codeOf codeCount codes nth opcode actionCode flowCode arithmeticCode comparisonCode
 opcode-row edition (action constant) = refl
 opcode-row edition (action get) = refl
 opcode-row edition (action set) = refl
