@@ -1,0 +1,43 @@
+// The table of built-in functions.
+ghost use mathlib.Core.Path.{_≡_};
+ghost use Prim.Native.Nat.{_<_};
+ghost use Rattle.program_tree.specs.Functions.{functionOf};
+ghost use Rattle.program_lexer.specs.Coded.{kindOf, kindCount};
+ghost use Rattle.program_parser.specs.Tables.{described, withSince};
+use crate::kinds;
+use edition::Edition;
+
+// A function: its code, and the shapes of its arguments, two bits each, the first lowest; both are 0 if there is none.
+pub struct Function {
+    pub op: u64,
+    pub shapes: u64,
+}
+
+// The shapes of an argument.
+pub const AN_EXPRESSION: u64 = 1;
+
+pub const AN_ERE: u64 = 2;
+
+// Gives a function to the editions that have it.
+fn with_since(op: u64, shapes: u64, since: u64, edition: Edition) -> Function
+    ensures { λ r. ⌜ r ≡ withSince op shapes since (edition .number) ⌝ }
+{
+    if since <= edition.number {
+        return Function { op, shapes };
+    }
+    Function { op: 0, shapes: 0 }
+}
+
+// Gives the function that a word calls in an edition.
+pub fn function_of(kind: u64, edition: Edition) -> Function
+    requires { ⌜ kind < kindCount ⌝ }
+    ensures { λ r. ⌜ r ≡ described (functionOf (edition .number) (kindOf kind)) ⌝ }
+{
+    match kind {
+        kinds::LENGTH => with_since(24, 1, 1, edition),
+        kinds::INDEX => with_since(25, 5, 1, edition),
+        kinds::SUBSTR => with_since(26, 21, 1, edition),
+        kinds::MATCH => with_since(23, 9, 1, edition),
+        _ => Function { op: 0, shapes: 0 },
+    }
+}
