@@ -16,13 +16,15 @@ use Rattle.ere_meaning.specs.Tree.{Class, Ere}
 use Rattle.ere_grammar.specs.Read.{readEre}
 use Rattle.image_format.specs.Codes.{ImmediateKind, codeOf, Operation, action, flow, constant, get, set, field, set-field, drop as drop-action, arithmetic, negate, to-number, negation, compare, join, matches, match, length-of, index, substr, print, section-end, jump, jump-if-false, next, exit}
 use Rattle.image_format.specs.Image.{Constant, number, text, Instruction, Image}
-use Rattle.semantics.specs.Variables.{specials, assignable}
+use Rattle.semantics.specs.Variables.{specialCount, assignable}
+use Rattle.semantics.specs.World.{variableCount}
 use Rattle.semantics.specs.Moves.{Section, begin, main, end, sectionOf}
 use Rattle.semantics.specs.Check.{check, sizes, smallConstant, successors}
 use Rattle.semantics.specs.Checked.{AllExist, Allowed, Short, Checked}
 use Rattle.semantics.proofs.Tables.{rowOf}
 use Rattle.semantics.proofs.Checks.{check-exactly}
-use Rattle.program_tokens.specs.Words.{sameBytes}
+use Rattle.program_tokens.specs.Kinds.{fixed-variable, same}
+use Rattle.program_tokens.specs.Words.{wordKind, sameBytes}
 use Rattle.program_tokens.specs.Tokens.{Token}
 use Rattle.program_tree.specs.Tree.{Program}
 use Rattle.program_reader.specs.Read.{Read, ok, no}
@@ -44,7 +46,7 @@ use Rattle.image_format.specs.Writing.{bytesOf}
 use Rattle.translation.specs.Translation.{Translation, refused, stored, sized, ofProgram, beforeNul, translateOf}
 use Rattle.translation.specs.Claims.{CompiledPasses}
 use Rattle.translation.proofs.Sound.{tag, emitted, Sound, plain, constant-sound, get-sound, set-sound, matches-sound, match-sound, jump-sound, branch-sound, print-sound, next-sound, exit-sound, AllSound, isMain, FineP, sound-parts}
-use Rattle.translation.proofs.Tables.{Listed, names-listed, constants-listed, eres-listed, set-allowed, join-named}
+use Rattle.translation.proofs.Tables.{Listed, names-listed, constants-listed, eres-listed, set-allowed, names-count, join-named}
 
 -- ---- lists
 
@@ -180,13 +182,13 @@ module _ (s : List ℕ) (p : Program) where
     -- an instruction that a section can go on from, built from what is known of it
     make : (o : Operation) (d : ℕ) (x : Operand) (n : ℕ) → AllExist img z (rowOf o .immediates) (numbersOf t x) → (tag o ≡ 3 → ⊥) → suc n < length L → (n ≡ 0 → d ≡ 0)
         → (tag o ≡ 4 → (d ≡ 0) × (z ≡ main)) → (tag o ≡ 5 → d ≡ 0) → d ≤ operandDepth → (rowOf o .pops) (numbersOf t x) ≤ d
-        → Leads D (d - (rowOf o .pops) (numbersOf t x) + (rowOf o .pushes) (numbersOf t x)) (successors img z o n (numbersOf t x))
-        → (tag o ≡ 1 → 1 ≤ getD (numbersOf t x) 0 0) → (tag o ≡ 2 → assignable 1 (getD (numbersOf t x) 0 0) ≡ true) → Allowed img z n (numbered t (emitted o d x))
-    make o d x n ex no-end inside start at-next at-exit deep enough leads prints sets =
+        → Leads D (d - (rowOf o .pops) (numbersOf t x) + (rowOf o .pushes) (numbersOf t x)) (successors o n (numbersOf t x))
+        → Allowed img z n (numbered t (emitted o d x))
+    make o d x n ex no-end inside start at-next at-exit deep enough leads =
         let back : (q : Operation) → rowOf o .operation ≡ q → tag o ≡ tag q = λ q e. ap tag (sym (row-operation o) ∙ e) in
         record {
           row = rowOf o;
-          code = subst (λ (e : ℕ). codeOf e (opcode o) ≡ some (rowOf o)) (sym edition-is) (opcode-row 1 o);
+          code = subst (λ (e : ℕ). codeOf e (opcode o) ≡ some (rowOf o)) (sym edition-is) (opcode-row o);
           exist = ex;
           last = ((λ e. absurd (no-end (back (flow section-end) e))), (λ e. absurd (omega (arith, inside, e, ap (λ (q : List Instruction). length q) (section-is z)))));
           start = start;
@@ -196,12 +198,10 @@ module _ (s : List ℕ) (p : Program) where
           deep = deep;
           enough = enough;
           leads = subst
-              (λ (q : Operation). (k : ℕ) → k < length (successors img z q n (numbersOf t x))
-              → (j : Instruction) × (nth (sectionOf img z) (getD (successors img z q n (numbersOf t x)) k 0) ≡ some j)
+              (λ (q : Operation). (k : ℕ) → k < length (successors q n (numbersOf t x))
+              → (j : Instruction) × (nth (sectionOf img z) (getD (successors q n (numbersOf t x)) k 0) ≡ some j)
               × (j .depth ≡ d - (rowOf o .pops) (numbersOf t x) + (rowOf o .pushes) (numbersOf t x)))
-              (sym (row-operation o)) (leads-all _ (successors img z o n (numbersOf t x)) leads);
-          prints = λ e. prints (back (action print) e);
-          sets = λ e. subst (λ (v : ℕ). assignable v (getD (numbersOf t x) 0 0) ≡ true) (sym edition-is) (sets (back (action set) e));
+              (sym (row-operation o)) (leads-all _ (successors o n (numbersOf t x)) leads);
           nexts = λ e. at-next (back (flow next) e) .1;
         }
 
@@ -215,11 +215,17 @@ module _ (s : List ℕ) (p : Program) where
     ere-exists : (r : List ℕ) → has sameBytes (t .eres) r ≡ true → numberOf sameBytes (t .eres) r < length (img .eres)
     ere-exists r h = subst (λ (l : List (List ℕ)). numberOf sameBytes (t .eres) r < length l) (sym eres-is) (number-below sameBytes (t .eres) r h)
 
-    variable-exists : (v : List ℕ) → has sameBytes (specialNames ++ usersOf 1 p) v ≡ true → numberOf sameBytes (t .variables) v < length (specials (img .edition)) + img .users
+    variable-exists : (v : List ℕ) → has sameBytes (specialNames ++ usersOf 1 p) v ≡ true → numberOf sameBytes (t .variables) v < variableCount img
     variable-exists v h =
         let b : numberOf sameBytes (specialNames ++ usersOf 1 p) v < length (specialNames ++ usersOf 1 p) = number-below sameBytes (specialNames ++ usersOf 1 p) v h in
         let e : numberOf sameBytes (t .variables) v ≡ numberOf sameBytes (specialNames ++ usersOf 1 p) v = ap (λ (l : List (List ℕ)). numberOf sameBytes l v) variables-is in
-        omega (arith, b, e, length-append specialNames (usersOf 1 p), users-is)
+        let c : specialCount (img .edition) ≡ length specialNames = ap specialCount edition-is ∙ names-count in
+        omega (arith, b, e, c, length-append specialNames (usersOf 1 p), users-is)
+
+    variable-assigned : (v : List ℕ) → same (wordKind 1 v) fixed-variable ≡ false → assignable (img .edition) (numberOf sameBytes (t .variables) v) ≡ true
+    variable-assigned v f =
+        subst (λ (e : ℕ). assignable e (numberOf sameBytes (t .variables) v) ≡ true) (sym edition-is)
+        (subst (λ (l : List (List ℕ)). assignable 1 (numberOf sameBytes l v) ≡ true) (sym variables-is) (set-allowed p v f))
 
     target-exists : (d m : ℕ) → D m ≡ some d → m < length (sectionOf img z)
     target-exists d m h =
@@ -232,35 +238,34 @@ module _ (s : List ℕ) (p : Program) where
     unfolding numbersOf
     allowed n i (plain a d e g) f hc hr inside start deep =
         make (action a) d nothing n (subst (λ (q : List ImmediateKind). AllExist img z q []) (sym e) tt) (λ q. omega (arith, q, g)) inside start (λ q. absurd (omega (arith, q, g)))
-        (λ q. absurd (omega (arith, q, g))) deep (f .0) (f .1) (λ q. absurd (omega (arith, q, g))) (λ q. absurd (omega (arith, q, g)))
+        (λ q. absurd (omega (arith, q, g))) deep (f .0) (f .1)
     allowed n i (constant-sound c d) f hc hr inside start deep =
         make (action constant) d (the-constant c) n (constant-exists c (hc .0), tt) (λ q. omega (arith, q)) inside start (λ q. absurd (omega (arith, q)))
-        (λ q. absurd (omega (arith, q))) deep (f .0) (f .1) (λ q. absurd (omega (arith, q))) (λ q. absurd (omega (arith, q)))
+        (λ q. absurd (omega (arith, q))) deep (f .0) (f .1)
     allowed n i (get-sound v d nm ls) f hc hr inside start deep =
         make (action get) d (the-variable v) n (variable-exists v (ls nm), tt) (λ q. omega (arith, q)) inside start (λ q. absurd (omega (arith, q)))
-        (λ q. absurd (omega (arith, q))) deep (f .0) (f .1) (λ q. absurd (omega (arith, q))) (λ q. absurd (omega (arith, q)))
+        (λ q. absurd (omega (arith, q))) deep (f .0) (f .1)
     allowed n i (set-sound v d nm ls fx) f hc hr inside start deep =
-        make (action set) d (the-variable v) n (variable-exists v (ls nm), tt) (λ q. omega (arith, q)) inside start (λ q. absurd (omega (arith, q)))
-        (λ q. absurd (omega (arith, q))) deep (f .0) (f .1) (λ q. absurd (omega (arith, q)))
-        (λ q. subst (λ (l : List (List ℕ)). assignable 1 (numberOf sameBytes l v) ≡ true) (sym variables-is) (set-allowed p v fx))
+        make (action set) d (the-variable v) n ((variable-exists v (ls nm), variable-assigned v fx), tt) (λ q. omega (arith, q)) inside start (λ q. absurd (omega (arith, q)))
+        (λ q. absurd (omega (arith, q))) deep (f .0) (f .1)
     allowed n i (matches-sound r d rd) f hc hr inside start deep =
         make (action matches) d (the-ere r) n (ere-exists r (hr .0), tt) (λ q. omega (arith, q)) inside start (λ q. absurd (omega (arith, q)))
-        (λ q. absurd (omega (arith, q))) deep (f .0) (f .1) (λ q. absurd (omega (arith, q))) (λ q. absurd (omega (arith, q)))
+        (λ q. absurd (omega (arith, q))) deep (f .0) (f .1)
     allowed n i (match-sound r d rd) f hc hr inside start deep =
         make (action match) d (the-ere r) n (ere-exists r (hr .0), tt) (λ q. omega (arith, q)) inside start (λ q. absurd (omega (arith, q)))
-        (λ q. absurd (omega (arith, q))) deep (f .0) (f .1) (λ q. absurd (omega (arith, q))) (λ q. absurd (omega (arith, q)))
+        (λ q. absurd (omega (arith, q))) deep (f .0) (f .1)
     allowed n i (jump-sound m d) f hc hr inside start deep =
         make (flow jump) d (the-instruction m) n (target-exists _ m (f .1 .0), tt) (λ q. omega (arith, q)) inside start (λ q. absurd (omega (arith, q)))
-        (λ q. absurd (omega (arith, q))) deep (f .0) (f .1) (λ q. absurd (omega (arith, q))) (λ q. absurd (omega (arith, q)))
+        (λ q. absurd (omega (arith, q))) deep (f .0) (f .1)
     allowed n i (branch-sound m d) f hc hr inside start deep =
         make (flow jump-if-false) d (the-instruction m) n (target-exists _ m (f .1 .1 .0), tt) (λ q. omega (arith, q)) inside start (λ q. absurd (omega (arith, q)))
-        (λ q. absurd (omega (arith, q))) deep (f .0) (f .1) (λ q. absurd (omega (arith, q))) (λ q. absurd (omega (arith, q)))
+        (λ q. absurd (omega (arith, q))) deep (f .0) (f .1)
     allowed n i (print-sound m d from-one) f hc hr inside start deep =
-        make (action print) d (the-count m) n (tt, tt) (λ q. omega (arith, q)) inside start (λ q. absurd (omega (arith, q)))
-        (λ q. absurd (omega (arith, q))) deep (f .0) (f .1) (λ q. from-one) (λ q. absurd (omega (arith, q)))
+        make (action print) d (the-count m) n (from-one, tt) (λ q. omega (arith, q)) inside start (λ q. absurd (omega (arith, q)))
+        (λ q. absurd (omega (arith, q))) deep (f .0) (f .1)
     allowed n i (next-sound r) f hc hr inside start deep =
         make (flow next) 0 nothing n tt (λ q. omega (arith, q)) inside start (λ q. (refl, only-main z r))
-        (λ q. absurd (omega (arith, q))) deep (f .0) (f .1) (λ q. absurd (omega (arith, q))) (λ q. absurd (omega (arith, q)))
+        (λ q. absurd (omega (arith, q))) deep (f .0) (f .1)
       where
         only-main : (y : Section) → isMain 1 s (Listed 1 s p) y ≡ true → y ≡ main
         only-main begin e = absurd (true≢false (sym e))
@@ -268,7 +273,7 @@ module _ (s : List ℕ) (p : Program) where
         only-main end e = absurd (true≢false (sym e))
     allowed n i exit-sound f hc hr inside start deep =
         make (flow exit) 0 nothing n tt (λ q. omega (arith, q)) inside start (λ q. absurd (omega (arith, q)))
-        (λ q. refl) deep (f .0) (f .1) (λ q. absurd (omega (arith, q))) (λ q. absurd (omega (arith, q)))
+        (λ q. refl) deep (f .0) (f .1)
 
     -- the code 0 at the end of a section
     last-allowed : (n : ℕ) → suc n ≡ length L → Allowed img z n (numbered t (emitted (flow section-end) 0 nothing))
@@ -277,7 +282,7 @@ module _ (s : List ℕ) (p : Program) where
         let long : length (sectionOf img z) ≡ length L = ap (λ (q : List Instruction). length q) (section-is z) in
         record {
           row = rowOf (flow section-end);
-          code = subst (λ (v : ℕ). codeOf v (opcode (flow section-end)) ≡ some (rowOf (flow section-end))) (sym edition-is) (opcode-row 1 (flow section-end));
+          code = subst (λ (v : ℕ). codeOf v (opcode (flow section-end)) ≡ some (rowOf (flow section-end))) (sym edition-is) (opcode-row (flow section-end));
           exist = tt;
           last = ((λ q. e ∙ sym long), (λ q. refl));
           start = λ q. refl;
@@ -287,8 +292,6 @@ module _ (s : List ℕ) (p : Program) where
           deep = omega arith;
           enough = omega arith;
           leads = λ k b. absurd (omega (arith, b));
-          prints = λ q. let w : tag (flow section-end) ≡ tag (action print) = ap tag q in absurd (omega (arith, w));
-          sets = λ q. let w : tag (flow section-end) ≡ tag (action set) = ap tag q in absurd (omega (arith, w));
           nexts = λ q. let w : tag (flow section-end) ≡ tag (flow next) = ap tag q in absurd (omega (arith, w));
         }
 
@@ -377,7 +380,7 @@ module _ (s : List ℕ) (p : Program) where
         (join-named ereIn (Readable 1 s) (sectionCode begin p) (sectionCode main p ++ sectionCode end p) (section-eres begin)
         (join-named ereIn (Readable 1 s) (sectionCode main p) (sectionCode end p) (section-eres main) (section-eres end)))
 
-    short : (c : Constant) → smallConstant img c ≡ true → Short img c
+    short : (c : Constant) → smallConstant c ≡ true → Short c
     short (number n) h = tt
     short (text l) h = leb-true (length l) textBytes h
 
@@ -386,7 +389,7 @@ module _ (s : List ℕ) (p : Program) where
       unfolding fits
       first-sizes = and-left (sizes img) _ small
 
-      rest-sizes : (leb (length (img .constants)) constantCount && (all (smallConstant img) (img .constants) && leb (length (img .eres)) ereCount)) ≡ true
+      rest-sizes : (leb (length (img .constants)) constantCount && (all smallConstant (img .constants) && leb (length (img .eres)) ereCount)) ≡ true
       rest-sizes = and-right (leb (img .users) userNames) _ first-sizes
 
       sections-fit : (z : Section) → sectionFits (sectionOf img z) ≡ true
@@ -400,10 +403,10 @@ module _ (s : List ℕ) (p : Program) where
           record {
             users = leb-true (img .users) userNames (and-left (leb (img .users) userNames) _ first-sizes);
             constants = leb-true (length (img .constants)) constantCount (and-left (leb (length (img .constants)) constantCount) _ rest-sizes);
-            texts = λ n a h. short a (all-at (smallConstant img) (img .constants) n a
-                (and-left (all (smallConstant img) (img .constants)) _ (and-right (leb (length (img .constants)) constantCount) _ rest-sizes)) h);
+            texts = λ n a h. short a (all-at smallConstant (img .constants) n a
+                (and-left (all smallConstant (img .constants)) _ (and-right (leb (length (img .constants)) constantCount) _ rest-sizes)) h);
             eres = leb-true (length (img .eres)) ereCount
-                (and-right (all (smallConstant img) (img .constants)) _ (and-right (leb (length (img .constants)) constantCount) _ rest-sizes));
+                (and-right (all smallConstant (img .constants)) _ (and-right (leb (length (img .constants)) constantCount) _ rest-sizes));
             reads = λ n l h. each-at (λ (r : List ℕ). (e : Ere Class) × (readEre (img .edition) r ≡ some e)) (img .eres) n l
                 (subst (λ (v : ℕ). Each (λ (r : List ℕ). (e : Ere Class) × (readEre v r ≡ some e)) (img .eres)) (sym edition-is)
                 (subst (λ (q : List (List ℕ)). Each (Readable 1 s) q) (sym eres-is) eres-read)) h;

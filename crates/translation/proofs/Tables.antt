@@ -5,9 +5,10 @@ use mathlib.Core.Logic.{_⊎_, inl, inr, ⊎-elim}
 use mathlib.Core.List.{List, [], _∷_, _++_}
 use Prim.Native.Nat.{ℕ, suc}
 use lib.Dec.{leb}
+use lib.ListN.{length}
 use Rattle.lists.specs.Elements.{nth, all}
 use Rattle.lists.proofs.Tests.{and-true}
-use Rattle.semantics.specs.Variables.{Variable, specials, mayAssign, assignable}
+use Rattle.semantics.specs.Variables.{Variable, specials, specialCount, specialsOf, specialOf, mayAssign, assignable}
 use Rattle.semantics.specs.Moves.{Section, begin, main, end}
 use Rattle.program_tokens.specs.Kinds.{Kind, user-name, variable, fixed-variable, rank, same, among}
 use Rattle.program_tokens.specs.Words.{Word, words, kindIn, wordKind, sameBytes}
@@ -157,10 +158,15 @@ may-assign edition (n ∷ ns) us (x ∷ vs) v a f =
     (λ e. may-assign edition ns us vs v (a .1) f)
 
 -- the words of edition 1 have the kinds that the special variables have
-specials-agree : Agree 1 specialNames (specials 1)
-unfolding kindIn sameBytes rank
+specials-agree : Agree 1 specialNames (specialsOf 1)
+unfolding specials specialCount kindIn sameBytes rank
 specials-agree = (inr refl, (inr refl, (inl refl, (inl refl, (inl refl, (inr refl, (inr refl, tt)))))))
 
 pub set-allowed : (p : Program) (v : List ℕ) → same (wordKind 1 v) fixed-variable ≡ false → assignable 1 (numberOf sameBytes (specialNames ++ usersOf 1 p) v) ≡ true
-unfolding assignable
-set-allowed p v f = may-assign 1 specialNames (usersOf 1 p) (specials 1) v specials-agree f
+unfolding assignable specialOf
+set-allowed p v f = may-assign 1 specialNames (usersOf 1 p) (specialsOf 1) v specials-agree f
+
+-- and as many
+pub names-count : specialCount 1 ≡ length specialNames
+unfolding specialCount
+names-count = refl
