@@ -3,9 +3,10 @@
  *
  *   images SECONDS IMAGE..
  *
- * For each file the image in it is read and what was read is written again, some 100,000 bytes each time, until SECONDS have passed, and a line is written: the
- * image's bytes and words, and the least time of a reading and of a writing in picoseconds for a byte of the image. The rooms are just large enough, and what is
- * written must be the image again.
+ * For each file the image in it is read and what was read is written again, some 100,000 bytes each time, until
+ * SECONDS have passed, and a line is written: the image's bytes and words, and the least time of a reading and of a
+ * writing in picoseconds for a byte of the image. The rooms are just large enough, and what is written must be the
+ * image again.
  */
 #include <inttypes.h>
 #include <stdio.h>
@@ -79,7 +80,8 @@ int main(int argc, char **argv)
             fprintf(stderr, "%s: not read and written again\n", argv[k]);
             return 1;
         }
-        printf("%zu %" PRIu64 " %" PRIu64 " %" PRIu64 "\n", n, words, reading * 1000 / (count * n), writing * 1000 / (count * n));
+        uint64_t bytes = count * n;
+        printf("%zu %" PRIu64 " %" PRIu64 " %" PRIu64 "\n", n, words, reading * 1000 / bytes, writing * 1000 / bytes);
     }
     return 0;
 }

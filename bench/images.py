@@ -3,10 +3,11 @@
 
     bench/images.py [--reference DIR] [--seconds S] [--rounds R] [--archive FILE]..
 
-Builds the archive by `rt staticlib capi` (or takes FILE, which may be given several times, to compare archives in one run) and the program of bench/images.c over it, and reads
-and writes three images: a program of some 400 bytes and one of some 10,000, by the translator of DIR/reference.py (default tests/reference), and an image of text constants.
-Each goes on for S seconds (default 1) in each of R rounds (default 3), in which the archives take turns, and the least time counts. Writes a table: the image's bytes and words,
-and the nanoseconds of a reading and of a writing for a byte of the image.
+Builds the archive by `rt staticlib capi` (or takes FILE, which may be given several times, to compare archives in one
+run) and the program of bench/images.c over it, and reads and writes three images: a program of some 400 bytes and one
+of some 10,000, by the translator of DIR/reference.py (default tests/reference), and an image of text constants. Each
+goes on for S seconds (default 1) in each of R rounds (default 3), in which the archives take turns, and the least time
+counts. Writes a table: the image's bytes and words, and the nanoseconds of a reading and of a writing for a byte.
 Debian packages: gcc, libc6-dev.
 """
 import argparse
@@ -22,7 +23,8 @@ import image_cases  # noqa: E402
 
 RULES = '$4 != "scaled" { $2 = $2 * $3; $4 = "scaled" } { n = n + $2; if (n > 1000) { print $1, $2; n = 0 } }\n'
 MATCHED = '$1 ~ /^port(0[1-9]|1[0-9])$/ { print $1, $2 }\n'
-STATEMENTS = ['n=n+$3*8;', 'if($2>9)n=0;', '$4=$2-n;', 'print $1,n;', 'm=substr($1,2,3);', 'if($1~/^port/)m=m+1;', 'while(n>9)n=n-1;']
+STATEMENTS = ['n=n+$3*8;', 'if($2>9)n=0;', '$4=$2-n;', 'print $1,n;', 'm=substr($1,2,3);', 'if($1~/^port/)m=m+1;',
+              'while(n>9)n=n-1;']
 SENTENCE = 'the flow at this port was scaled up by its rate'
 
 
@@ -37,7 +39,9 @@ def arguments():
 
 def section(r, k):
     """The statements of a section: calculations, and every eighth a text."""
-    return '{' + ''.join('print "%s %d";' % (SENTENCE, 16 * k + i // 8) if i % 8 == 0 else r.choice(STATEMENTS) for i in range(128)) + '}'
+    def statement(i):
+        return r.choice(STATEMENTS) if i % 8 else 'print "%s %d";' % (SENTENCE, 16 * k + i // 8)
+    return '{' + ''.join(map(statement, range(128))) + '}'
 
 
 def translated(text):
@@ -58,7 +62,7 @@ def images():
 
 def measured(program, seconds, names):
     """For each image its bytes and words, and nanoseconds for a byte of a reading and of a writing."""
-    out = subprocess.run([program, str(seconds), *names], check=True, stdout=subprocess.PIPE, universal_newlines=True).stdout
+    out = subprocess.run([program, str(seconds), *names], check=True, capture_output=True, text=True).stdout
     for line in out.splitlines():
         size, words, reading, writing = map(int, line.split())
         yield size, words, reading / 1000, writing / 1000
@@ -84,7 +88,8 @@ def main():
             folder = os.path.join(directory, 'of%d' % i)
             os.mkdir(folder)
             programs.append((archive, building.program('bench', 'images', folder, archive)))
-        runs = [[list(measured(program, options.seconds, names)) for _, program in programs] for _ in range(options.rounds)]
+        runs = [[list(measured(program, options.seconds, names)) for _, program in programs]
+                for _ in range(options.rounds)]
     print('| archive | image of | bytes | words | read, ns a byte | write, ns a byte |')
     print('|---|---|--:|--:|--:|--:|')
     for i, (archive, _) in enumerate(programs):

@@ -1,5 +1,4 @@
 -- Laws on passes, and on what reader and writer answer.
 pub mod Stage
-pub mod Turned
-pub mod Ended
+pub mod Passing
 pub mod Copies

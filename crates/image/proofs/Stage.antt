@@ -14,9 +14,8 @@ use Rattle.lists.proofs.Options.{some-one, none-some}
 use Rattle.lists.specs.Parsing.{Parsed, parsed}
 use Rattle.edition.specs.Limits.{numberBound}
 use Rattle.image_format.specs.Numbers.{coded}
-use Rattle.image_format.specs.Reading.{Source, wordUpTo, fromBytes, fromWords}
+use Rattle.image_format.specs.Reading.{wordUpTo, fromBytes, fromWords}
 use Rattle.image_stages.specs.Stages.{isByte, mostAt, takenAt, writtenAt}
-use Rattle.image_stages.specs.declared.stages.Stage.{Stage}
 use Rattle.varint.specs.Take.{TakesAt}
 use Rattle.varint.specs.declared.numbers.Taken.{Taken}
 use Rattle.varint.specs.declared.numbers.Taken.the-variants.{Number, Nothing}
@@ -43,7 +42,7 @@ up-most most (w ∷ l) v t h = by (leb w most) refl h
     by true e h = omega (arith, leb-true w most e, ap (λ (g : Parsed ℕ). g .value) (some-one refl h))
     by false e h = absurd (none-some h)
 
-module _ (stage : Stage) where
+module _ (stage : ℕ) where
   -- words come at each stage up to a bound
   pub words-at : (l : List ℕ) → takenAt fromWords stage l ≡ wordUpTo (mostAt stage) l
   words-at l = by (isByte stage)
@@ -56,20 +55,21 @@ module _ (stage : Stage) where
   words-most l at v n h = up-most (mostAt stage) (drop at l) v (drop n l) (sym (words-at (drop at l)) ∙ h .0)
 
   -- of bytes a number comes but for a text byte
-  pub number-at : (l : List ℕ) (at : ℕ) (r : Taken) → isByte stage ≡ false → TakesAt l at r → TakesStage fromBytes l stage at r
+  pub number-at : (l : List ℕ) (at : ℕ) (r : Taken) → isByte stage ≡ false → TakesAt l at r
+      → TakesStage fromBytes l stage at r
   number-at l at (Number v n) e h = (rw e (h .0), h .1, h .2)
   number-at l at Nothing e h = rw e h
 
   -- ---- how it is written
 
-  pub word-written : (source : Source) (v : ℕ) → writtenAt source (λ n. n ∷ []) stage v ≡ v ∷ []
-  word-written source v = by (isByte stage)
+  pub word-written : (v : ℕ) → writtenAt (λ n. n ∷ []) stage v ≡ v ∷ []
+  word-written v = by (isByte stage)
     where
       by : (x : Bool) → cond x (v ∷ []) (v ∷ []) ≡ v ∷ []
       by true = refl
       by false = refl
 
-  pub bytes-written : (v : ℕ) → length (writtenAt fromWords coded stage v) ≤ 8
+  pub bytes-written : (v : ℕ) → length (writtenAt coded stage v) ≤ 8
   bytes-written v = by (isByte stage)
     where
       by : (x : Bool) → length (cond x (v ∷ []) (coded v)) ≤ 8

@@ -1,5 +1,5 @@
--- Document 01, "Outcomes": "Image reader: 8, then 7. Image writer: 8 for content that no reading gives, then 7. Both answer the length written, 0 on a
--- refusal; the room beyond it is untouched."
+-- Document 01, "Outcomes": "Image reader: 8, then 7. Image writer: 8 for content that no reading gives, then 7. Both
+-- answer the length written, 0 on a refusal; the room beyond it is untouched."
 use mathlib.Core.Bool.{Bool, true, false, cond}
 use mathlib.Core.List.{List, _++_}
 use mathlib.Core.Option.{Option, some, none}
@@ -30,7 +30,10 @@ copyingOf NoRoom room = copying roomTooSmall 0 room
 
 -- a list put at the front of a room, if it fits
 abbrev pub fitted : List ℕ → List ℕ → Copying
-fitted l room = cond (leb (length l) (length room)) (copying done (length l) (l ++ drop (length l) room)) (copying roomTooSmall 0 room)
+fitted l room =
+    cond (leb (length l) (length room))
+    (copying done (length l) (l ++ drop (length l) room))
+    (copying roomTooSmall 0 room)
 
 abbrev pub given : (Image → List ℕ) → List ℕ → Option Image → Copying
 given w room none = copying imageMalformed 0 room

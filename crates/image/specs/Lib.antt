@@ -1,4 +1,3 @@
 -- The meaning of the reader and the writer, and of a pass.
-pub mod Laid
 pub mod Pass
 pub mod Copy

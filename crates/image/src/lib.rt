@@ -1,6 +1,6 @@
 // Images: reading one to its content words, and writing one from them.
 mod copied;
-mod passes;
+mod passed;
 mod reading;
 mod writing;
 

@@ -1,33 +1,29 @@
 // Reading an image: its content words, from its bytes.
 ghost use mathlib.Core.Path.{_≡_};
-ghost use mathlib.Core.Bool.{true};
-ghost use mathlib.Core.List.{[], _∷_};
 ghost use Prim.Native.Nat.{_≤_};
 ghost use lib.ListN.{length};
 ghost use Rattle.image_format.specs.Reading.{readImage, fromBytes};
-ghost use Rattle.image_stages.specs.Stages.{isOpen};
+ghost use Rattle.image_format.specs.Writing.{contentOf};
 ghost use Rattle.varint.specs.Room.{withOne};
-ghost use Rattle.image.specs.Pass.{TakesStage, Within, Turns, passOf, Passes};
+ghost use Rattle.image.specs.Pass.{TakesStage, passedOf, passOf};
 ghost use Rattle.image.specs.Copy.{copyingOf, readOf, isImage};
 use crate::copied::Copied;
-use crate::passes;
-use crate::passes::Pass;
-use crate::passes::Passed;
-use image_stages::Stage;
+use crate::passed::Passed;
+use image_stages::Next;
 use varint::Taken;
 
 // What comes at a stage, off the bytes from a place on: a text byte or a number.
-fn take(image: &[u8], stage: Stage, at: usize) -> Taken
+fn take(image: &[u8], stage: u64, at: usize) -> Taken
     requires { ⌜ at ≤ length (now image) ⌝ }
     ensures { λ r. ⌜ TakesStage fromBytes (now (image .entry)) stage at r ⌝ }
 {
-    if !image_stages::is_byte(stage) {
+    if stage != image_stages::BYTE {
         return varint::take_number(image, at);
     }
-    if at < image.len() {
-        return Taken::Number(image[at] as u64, at + 1);
+    if image.len() <= at {
+        return Taken::Nothing;
     }
-    Taken::Nothing
+    Taken::Number(image[at] as u64, at + 1)
 }
 
 // Writes word k, if the room has one there.
@@ -39,36 +35,30 @@ fn put_word(room: &mut [u64], k: usize, x: u64)
     }
 }
 
-// A turn of a pass: a number or a text byte, which becomes a word.
-fn turn(image: &[u8], p: Pass, words: &mut [u64]) -> Pass
-    requires { ⌜ (Within 1 (now image) p) × (isOpen (p .state .stage) ≡ true) ⌝ }
-    ensures { λ q. ⌜ Turns fromBytes (λ n. n ∷ []) 1 (now (image .entry)) (now (words .entry)) p q (now (words .exit)) ⌝ }
-{
-    let s = p.state;
-    let stage = s.stage;
-    let k = p.count;
-    let Taken::Number(v, at) = take(image, stage, p.at) else {
-        return passes::refused(p);
-    };
-    put_word(words, k, v);
-    let next = image_stages::after(s, v);
-    Pass {
-        state: next,
-        at,
-        count: k + 1,
-    }
-}
-
-// A whole pass over an image, which writes its words as far as the room goes.
+// A whole pass over an image, which writes a word for each of its numbers and text bytes, as far as the room goes.
 fn pass(image: &[u8], words: &mut [u64]) -> Passed
-    ensures { λ r. ⌜ Passes (passOf fromBytes (λ n. n ∷ []) (now (image .entry)) (now (words .entry))) r (now (words .exit)) ⌝ }
+    ensures { λ r. ⌜ passedOf r (now (words .exit))
+        ≡ passOf contentOf (now (words .entry)) (readImage fromBytes (now (image .entry))) ⌝ }
 {
-    let mut p = passes::started();
-    while passes::goes_on(p) {
-        let next = turn(image, p, words);
-        p = next;
+    let mut s = image_stages::start();
+    let mut at: usize = 0;
+    let mut k: usize = 0;
+    while s.stage < image_stages::END {
+        let Taken::Number(v, end) = take(image, s.stage, at) else {
+            return Passed::Malformed;
+        };
+        put_word(words, k, v);
+        let Next::At(next) = image_stages::after(s, v) else {
+            return Passed::Malformed;
+        };
+        s = next;
+        at = end;
+        k += 1;
     }
-    passes::ended(p, image.len())
+    if at < image.len() {
+        return Passed::Malformed;
+    }
+    Passed::Whole(k)
 }
 
 // Whether the bytes are an image's.
@@ -77,20 +67,23 @@ pub fn is_image(image: &[u8]) -> bool
 {
     let mut none = [0u64; 0];
     let p = pass(image, &mut none);
-    p.ok
+    match p {
+        Passed::Whole(_) => true,
+        Passed::Malformed => false,
+    }
 }
 
-// Reads an image: its content, if the room has words enough; else the room is as it was. So a first pass writes to no word of it.
+// Reads an image: its content, if the room has words enough; else the room is as it was. So a first pass, which says
+// how many words there are, is lent no word of the room.
 pub fn read(image: &[u8], content: &mut [u64]) -> Copied
     ensures { λ r. ⌜ copyingOf r (now (content .exit)) ≡ readOf (now (image .entry)) (now (content .entry)) ⌝ }
 {
-    let p = pass(image, &mut content[0..0]);
-    if !p.ok {
+    let Passed::Whole(words) = pass(image, &mut content[0..0]) else {
         return Copied::Malformed;
-    }
-    if content.len() < p.count {
+    };
+    if content.len() < words {
         return Copied::NoRoom;
     }
-    let again = pass(image, content);
-    Copied::Written(again.count)
+    pass(image, content);
+    Copied::Written(words)
 }

@@ -1,37 +1,35 @@
 // Writing an image: its bytes, from its content words.
 ghost use mathlib.Core.Path.{_≡_};
-ghost use mathlib.Core.Bool.{true};
 ghost use Prim.Native.Nat.{_+_, _≤_, _<_, _^_};
 ghost use lib.ListN.{length};
 ghost use Rattle.image_format.specs.Numbers.{coded};
-ghost use Rattle.image_format.specs.Reading.{fromWords};
+ghost use Rattle.image_format.specs.Reading.{readImage, fromWords};
+ghost use Rattle.image_format.specs.Writing.{bytesOf};
 ghost use Rattle.varint.specs.Room.{withAll};
-ghost use Rattle.image_stages.specs.Stages.{isOpen, mostAt, writtenAt};
-ghost use Rattle.image.specs.Pass.{TakesStage, Within, Turns, passOf, Passes};
+ghost use Rattle.image_stages.specs.Stages.{mostAt, writtenAt};
+ghost use Rattle.image.specs.Pass.{TakesStage, passedOf, passOf};
 ghost use Rattle.image.specs.Copy.{copyingOf, writtenOf};
 use crate::copied::Copied;
-use crate::passes;
-use crate::passes::Pass;
-use crate::passes::Passed;
+use crate::passed::Passed;
 use edition::Edition;
-use image_stages::Stage;
+use image_stages::Next;
 use varint::Taken;
 
 // The greatest text byte.
 const BYTE: u64 = 255;
 
-// The greatest word that can stand at a stage.
-fn most(stage: Stage) -> u64
+// The greatest word that can come at a stage.
+fn most(stage: u64) -> u64
     ensures { λ r. ⌜ r ≡ mostAt stage ⌝ }
 {
-    if image_stages::is_byte(stage) {
+    if stage == image_stages::BYTE {
         return BYTE;
     }
     Edition::NUMBER
 }
 
 // What comes at a stage, off the words from a place on.
-fn take(content: &[u64], stage: Stage, at: usize) -> Taken
+fn take(content: &[u64], stage: u64, at: usize) -> Taken
     requires { ⌜ at ≤ length (now content) ⌝ }
     ensures { λ r. ⌜ TakesStage fromWords (now (content .entry)) stage at r ⌝ }
 {
@@ -45,60 +43,55 @@ fn take(content: &[u64], stage: Stage, at: usize) -> Taken
     Taken::Number(w, at + 1)
 }
 
-// Writes what came at a stage from byte k on; the index behind it.
-fn put(bytes: &mut [u8], stage: Stage, k: usize, v: u64) -> usize
+// Writes what came at a stage from byte k on; the index after it.
+fn put(bytes: &mut [u8], stage: u64, k: usize, v: u64) -> usize
     requires { ⌜ (v ≤ mostAt stage) × (k + 8 < 2 ^ 64) ⌝ }
-    ensures { λ r. ⌜ (r ≡ k + length (writtenAt fromWords coded stage v)) × (now (bytes .exit) ≡ withAll (now (bytes .entry)) k (writtenAt fromWords coded stage v)) ⌝ }
+    ensures { λ r. ⌜ (r ≡ k + length (writtenAt coded stage v))
+        × (now (bytes .exit) ≡ withAll (now (bytes .entry)) k (writtenAt coded stage v)) ⌝ }
 {
-    if image_stages::is_byte(stage) {
+    if stage == image_stages::BYTE {
         varint::put_byte(bytes, k, v as u8);
         return k + 1;
     }
     varint::put_number(bytes, k, v)
 }
 
-// A turn of a pass: a word, which becomes a number's groups or a text byte.
-fn turn(content: &[u64], p: Pass, bytes: &mut [u8]) -> Pass
-    requires { ⌜ (Within 8 (now content) p) × (isOpen (p .state .stage) ≡ true) ⌝ }
-    ensures { λ q. ⌜ Turns fromWords coded 8 (now (content .entry)) (now (bytes .entry)) p q (now (bytes .exit)) ⌝ }
-{
-    let s = p.state;
-    let stage = s.stage;
-    let Taken::Number(v, at) = take(content, stage, p.at) else {
-        return passes::refused(p);
-    };
-    let count = put(bytes, stage, p.count, v);
-    let next = image_stages::after(s, v);
-    Pass {
-        state: next,
-        at,
-        count,
-    }
-}
-
 // A whole pass over content words, which writes the image's bytes as far as the room goes.
 fn pass(content: &[u64], bytes: &mut [u8]) -> Passed
-    ensures { λ r. ⌜ Passes (passOf fromWords coded (now (content .entry)) (now (bytes .entry))) r (now (bytes .exit)) ⌝ }
+    ensures { λ r. ⌜ passedOf r (now (bytes .exit))
+        ≡ passOf bytesOf (now (bytes .entry)) (readImage fromWords (now (content .entry))) ⌝ }
 {
-    let mut p = passes::started();
-    while passes::goes_on(p) {
-        let next = turn(content, p, bytes);
-        p = next;
+    let mut s = image_stages::start();
+    let mut at: usize = 0;
+    let mut k: usize = 0;
+    while s.stage < image_stages::END {
+        let Taken::Number(v, end) = take(content, s.stage, at) else {
+            return Passed::Malformed;
+        };
+        k = put(bytes, s.stage, k, v);
+        let Next::At(next) = image_stages::after(s, v) else {
+            return Passed::Malformed;
+        };
+        s = next;
+        at = end;
     }
-    passes::ended(p, content.len())
+    if at < content.len() {
+        return Passed::Malformed;
+    }
+    Passed::Whole(k)
 }
 
-// Writes an image: its bytes, if the room has enough; else the room is as it was. So a first pass writes to no byte of it.
+// Writes an image: its bytes, if the room has enough; else the room is as it was. So a first pass, which says how many
+// bytes there are, is lent no byte of the room.
 pub fn write(content: &[u64], image: &mut [u8]) -> Copied
     ensures { λ r. ⌜ copyingOf r (now (image .exit)) ≡ writtenOf (now (content .entry)) (now (image .entry)) ⌝ }
 {
-    let p = pass(content, &mut image[0..0]);
-    if !p.ok {
+    let Passed::Whole(bytes) = pass(content, &mut image[0..0]) else {
         return Copied::Malformed;
-    }
-    if image.len() < p.count {
+    };
+    if image.len() < bytes {
         return Copied::NoRoom;
     }
-    let again = pass(content, image);
-    Copied::Written(again.count)
+    pass(content, image);
+    Copied::Written(bytes)
 }

@@ -1,5 +1,5 @@
 -- Laws on the form of an image.
-pub mod Codes
 pub mod Then
+pub mod Transcript
 pub mod Steps
 pub mod Tellings

@@ -1,21 +1,28 @@
--- What is still written from a state on is what is taken there, written, and then what is still written from the state after it.
+-- What is still written from a state on is what is taken there, written, and then what is still written from the state
+-- after it.
 use mathlib.Core.Path.{_≡_, refl, sym, ap}
-use mathlib.Core.Bool.{Bool, true, false, true≢false, cond}
+use mathlib.Core.Bool.{Bool, true, false, cond}
 use mathlib.Core.List.{List, [], _∷_}
 use mathlib.Core.Option.{Option, some, none}
-use Prim.Native.Nat.{ℕ, zero, suc, _-_}
+use Prim.Native.Nat.{ℕ, zero, suc, _+_, _-_, _≤_, _<_}
 use native.Mathlib.Omega.{arith}
+use native.Mathlib.Numerals.{one-add}
+use lib.ListN.{length}
 use lib.Dec.{eqb}
 use borrow.Author.Tests.{ne-eqb}
-use Rattle.lists.specs.Parsing.{parsed, bind}
-use Rattle.image_format.specs.Codes.{Code as Row, codeOf}
+use Rattle.lists.specs.Parsing.{parsed, bind, succeed}
+use Rattle.image_format.specs.Codes.{Code, codeOf}
 use Rattle.image_format.specs.Image.{known}
 use Rattle.image_format.specs.Reading.{Source}
-use Rattle.image_stages.specs.Transcript.{Rest, before, refused, aNumber, aByte, times, numbers, bytes, aText, ofKind, ofCode, aConstant, anInstruction, anItem, lists, behindEdition, transcript}
-use Rattle.image_stages.specs.Stages.{state, itemsLeft, unitsLeft, afterKind, afterCode, afterEdition, after, start, at, isOpen, isEnd, takenAt, writtenAt, restBy, rest}
-use Rattle.image_stages.specs.declared.stages.Stage.{Stage}
-use Rattle.image_stages.specs.declared.stages.Stage.the-variants.{Edition, Users, Count, Kind, Value, Length, Byte, Code, Depth, Operand, End, Refused}
+use Rattle.opcodes.specs.Rows.{isKnown, operandsIn}
+use Rattle.image_stages.specs.Stages.{atEdition, atCount, atKind, atLength, atByte, atCode, atPlain, atEnd, state}
+use Rattle.image_stages.specs.Stages.{start, withUnits, editionTold, kindTold, codeTold, advance, moved, after}
+use Rattle.image_stages.specs.Stages.{takenAt, writtenAt}
 use Rattle.image_stages.specs.declared.stages.State.{State}
+use Rattle.image_stages.specs.declared.stages.Next.{Next}
+use Rattle.image_stages.specs.declared.stages.Next.the-variants.{At, Unknown}
+use Rattle.image_stages.proofs.Transcript.{Rest, before, refused, aNumber, aByte, times, numbers, bytes, aText}
+use Rattle.image_stages.proofs.Transcript.{ofKind, ofCode, aConstant, anInstruction, anItem, lists, transcript}
 use Rattle.image_stages.proofs.Then.{bind-same}
 
 -- one more is some, and one less than that is what it was
@@ -26,120 +33,151 @@ one-less : (n : ℕ) → suc n - 1 ≡ n
 one-less n = omega arith
 
 module _ (source : Source) (write : ℕ → List ℕ) where
-  -- ---- the parts of a step
+  -- ---- what is still written from a state on
 
-  -- n items of a list, and the lists behind it
+  -- n items of a list, and the lists after it
   abbrev items : ℕ → ℕ → ℕ → Rest
   items e b n = times source write (anItem source write e b) n (lists source write e b)
 
+  -- the items and lists after the present item
+  abbrev afterItem : State → ℕ → Rest
+  afterItem s e = items e (s .lists) (s .items)
+
+  -- the units, items and lists after the edition
+  abbrev afterEdition : State → ℕ → Rest
+  afterEdition s e = cond (known e) (numbers source write (s .units) (afterItem s e)) refused
+
+  unfoldable pub rest : State → Rest
+  rest s =
+      let e = s .edition in
+      let k = afterItem s e in
+      cond (eqb (s .stage) atEdition) (aNumber source write (afterEdition s))
+      (cond (eqb (s .stage) atCount) (aNumber source write (items e (s .lists)))
+      (cond (eqb (s .stage) atKind) (aConstant source write k)
+      (cond (eqb (s .stage) atLength) (aText source write k)
+      (cond (eqb (s .stage) atByte) (bytes source write (suc (s .units)) k)
+      (cond (eqb (s .stage) atCode) (anInstruction source write e k)
+      (cond (eqb (s .stage) atPlain) (numbers source write (suc (s .units)) k)
+      (succeed [])))))))
+
+  -- from the state after something on, if there is one
+  abbrev pub onward : Next → Rest
+  onward (At t) = rest t
+  onward Unknown = refused
+
+  -- ---- to the next unit, item or list
+
   opening-rest : (e b n : ℕ) (x y : Bool) (l : List ℕ)
-      → rest source write (state (cond x Kind (cond y Length Code)) e b n 0) l
-      ≡ cond x (aConstant source write (items e b n)) (cond y (aText source write (items e b n)) (anInstruction source write e (items e b n))) l
+      → let k = items e b n in
+      rest (state (cond x atKind (cond y atLength atCode)) e b n 0) l
+      ≡ cond x (aConstant source write k) (cond y (aText source write k) (anInstruction source write e k)) l
   unfolding rest
   opening-rest e b n true y l = refl
   opening-rest e b n false true l = refl
   opening-rest e b n false false l = refl
 
-  items-rest : (s : State) (n : ℕ) (l : List ℕ) → rest source write (itemsLeft s n) l ≡ items (s .edition) (s .behind) n l
+  next-item : (stage e b n : ℕ) (l : List ℕ) → rest (advance (state stage e b n 0)) l ≡ items e b n l
   unfolding rest times lists
-  items-rest s zero l = by (s .behind)
-    where
-      by : (b : ℕ) → rest source write (cond (eqb b 0) (state End (s .edition) 0 0 0) (state Count (s .edition) (b - 1) 0 0)) l
-          ≡ lists source write (s .edition) b l
-      by zero = refl
-      by (suc b) = rw (some-left b, one-less b)
-  items-rest s (suc n) l = rw (some-left n, one-less n) (opening-rest (s .edition) (s .behind) n (eqb (s .behind) 4) (eqb (s .behind) 3) l)
+  next-item stage e zero zero l = refl
+  next-item stage e (suc b) zero l = rw (some-left b, one-less b)
+  next-item stage e b (suc n) l = rw (some-left n, one-less n) (opening-rest e b n (eqb b 4) (eqb b 3) l)
 
-  -- bytes or operands of an item, by what their stage leads to
-  units-rest : (stage : Stage) (one : Rest → Rest) (s : State)
-      → ((n : ℕ) (l : List ℕ)
-      → rest source write (state stage (s .edition) (s .behind) (s .items) n) l ≡ times source write one (suc n) (items (s .edition) (s .behind) (s .items)) l)
-      → (n : ℕ) (l : List ℕ) → rest source write (unitsLeft stage s n) l ≡ times source write one n (items (s .edition) (s .behind) (s .items)) l
+  -- units, by what their stage leads to
+  next-unit : (stage : ℕ) (one : Rest → Rest) (e b i : ℕ)
+      → ((n : ℕ) (l : List ℕ) → rest (state stage e b i n) l ≡ times source write one (suc n) (items e b i) l)
+      → (n : ℕ) (l : List ℕ) → rest (advance (state stage e b i n)) l ≡ times source write one n (items e b i) l
   unfolding times
-  units-rest stage one s h zero l = items-rest s (s .items) l
-  units-rest stage one s h (suc n) l = rw (some-left n, one-less n) (h n l)
+  next-unit stage one e b i h zero l = next-item stage e b i l
+  next-unit stage one e b i h (suc n) l = rw (some-left n, one-less n) (h n l)
 
-  bytes-rest : (s : State) (n : ℕ) (l : List ℕ) → rest source write (unitsLeft Byte s n) l ≡ bytes source write n (items (s .edition) (s .behind) (s .items)) l
+  next-byte : (e b i n : ℕ) (l : List ℕ)
+      → rest (advance (state atByte e b i n)) l ≡ bytes source write n (items e b i) l
   unfolding rest
-  bytes-rest s = units-rest Byte (aByte source write) s (λ n l. refl)
+  next-byte e b i = next-unit atByte (aByte source write) e b i (λ n l. refl)
 
-  operands-rest : (s : State) (n : ℕ) (l : List ℕ)
-      → rest source write (unitsLeft Operand s n) l ≡ numbers source write n (items (s .edition) (s .behind) (s .items)) l
+  next-plain : (e b i n : ℕ) (l : List ℕ)
+      → rest (advance (state atPlain e b i n)) l ≡ numbers source write n (items e b i) l
   unfolding rest
-  operands-rest s = units-rest Operand (λ k. aNumber source write (λ v. k)) s (λ n l. refl)
+  next-plain e b i = next-unit atPlain (λ k. aNumber source write (λ v. k)) e b i (λ n l. refl)
 
-  edition-rest : (v : ℕ) (l : List ℕ) → behindEdition source write v l ≡ rest source write (afterEdition v) l
-  unfolding rest
-  edition-rest v l = by (known v)
+  -- ---- by what came
+
+  edition-rest : (s : State) (v : ℕ) (l : List ℕ) → afterEdition s v l ≡ onward (moved (editionTold s v)) l
+  edition-rest s v l = by (known v)
     where
+      t : State
+      t = state atPlain v (s .lists) (s .items) (s .units)
+
       by : (x : Bool)
-          → cond x (aNumber source write (λ users. lists source write v 5)) refused l
-          ≡ rest source write (cond x (state Users v 0 0 0) (state Refused v 0 0 0)) l
-      by true = refl
+          → cond x (numbers source write (s .units) (afterItem s v)) refused l
+          ≡ onward (moved (cond x (At t) Unknown)) l
+      by true = sym (next-plain v (s .lists) (s .items) (s .units) l)
       by false = refl
 
   kind-rest : (s : State) (v : ℕ) (l : List ℕ)
-      → ofKind source write v (items (s .edition) (s .behind) (s .items)) l ≡ rest source write (afterKind s v) l
-  unfolding rest
+      → ofKind source write v (afterItem s (s .edition)) l ≡ onward (moved (kindTold s v)) l
+  unfolding rest times
   kind-rest s v l = by (eqb v 0) (eqb v 1)
     where
+      k : Rest
+      k = afterItem s (s .edition)
+
       by : (x y : Bool)
-          → cond x (aNumber source write (λ n. items (s .edition) (s .behind) (s .items))) (cond y (aText source write (items (s .edition) (s .behind) (s .items))) refused) l
-          ≡ rest source write (cond x (at Value s) (cond y (at Length s) (at Refused s))) l
+          → cond x (aNumber source write (λ n. k)) (cond y (aText source write k) refused) l
+          ≡ onward (moved (cond x (At (withUnits s atPlain 1)) (cond y (At (withUnits s atLength 1)) Unknown))) l
       by true y = refl
       by false true = refl
       by false false = refl
 
-  code-rest : (s : State) (o : Option Row) (l : List ℕ)
-      → ofCode source write o (items (s .edition) (s .behind) (s .items)) l ≡ rest source write (afterCode s o) l
-  unfolding rest
-  code-rest s none l = refl
-  code-rest s (some c) l = refl
+  code-rest : (s : State) (v : ℕ) (l : List ℕ)
+      → ofCode source write (codeOf (s .edition) v) (afterItem s (s .edition)) l ≡ onward (moved (codeTold s v)) l
+  unfolding times
+  code-rest s v l = by (codeOf (s .edition) v)
+    where
+      by : (o : Option Code)
+          → ofCode source write o (afterItem s (s .edition)) l
+          ≡ onward (moved (cond (isKnown o) (At (withUnits s atPlain (1 + operandsIn o))) Unknown)) l
+      by none = refl
+      by (some c) =
+          let n = length (c .immediates) in
+          rw (one-add n) (sym (next-plain (s .edition) (s .lists) (s .items) (suc n) l))
 
   -- ---- a step
 
-  step-at : (stage : Stage) (e b i n : ℕ) → isOpen stage ≡ true → (l : List ℕ)
-      → rest source write (state stage e b i n) l
-      ≡ bind (takenAt source stage l) (λ v l. before (writtenAt source write stage v) (rest source write (after (state stage e b i n) v) l))
-  unfolding rest times lists
-  step-at Edition e b i n h l = bind-same (source .number l) (λ v l. ap (before (write v)) (edition-rest v l))
-  step-at Users e b i n h l = refl
-  step-at Count e b i n h l = bind-same (source .number l) (λ v l. ap (before (write v)) (sym (items-rest (state Count e b i n) v l)))
-  step-at Kind e b i n h l = bind-same (source .number l) (λ v l. ap (before (write v)) (kind-rest (state Kind e b i n) v l))
-  step-at Value e b i n h l = bind-same (source .number l) (λ v l. ap (before (write v)) (sym (items-rest (state Value e b i n) i l)))
-  step-at Length e b i n h l = bind-same (source .number l) (λ v l. ap (before (write v)) (sym (bytes-rest (state Length e b i n) v l)))
-  step-at Byte e b i n h l = bind-same (source .byte l) (λ v l. ap (before (v ∷ [])) (sym (bytes-rest (state Byte e b i n) n l)))
-  step-at Code e b i n h l = bind-same (source .number l) (λ v l. ap (before (write v)) (code-rest (state Code e b i n) (codeOf e v) l))
-  step-at Depth e b i n h l = bind-same (source .number l) (λ v l. ap (before (write v)) (sym (operands-rest (state Depth e b i n) n l)))
-  step-at Operand e b i n h l = bind-same (source .number l) (λ v l. ap (before (write v)) (sym (operands-rest (state Operand e b i n) n l)))
-  step-at End e b i n h l = absurd (true≢false (sym h))
-  step-at Refused e b i n h l = absurd (true≢false (sym h))
+  by-number : {f g : ℕ → Rest} → ((v : ℕ) (l : List ℕ) → f v l ≡ g v l) → (l : List ℕ)
+      → aNumber source write f l ≡ aNumber source write g l
+  by-number h l = bind-same (source .number l) (λ v l. ap (before (write v)) (h v l))
 
-  pub rest-step : (s : State) → isOpen (s .stage) ≡ true → (l : List ℕ)
-      → rest source write s l ≡ bind (takenAt source (s .stage) l) (λ v l. before (writtenAt source write (s .stage) v) (rest source write (after s v) l))
-  rest-step s = step-at (s .stage) (s .edition) (s .behind) (s .items) (s .left)
+  by-byte : {f g : ℕ → Rest} → ((v : ℕ) (l : List ℕ) → f v l ≡ g v l) → (l : List ℕ)
+      → bind (source .byte l) (λ v l. before (v ∷ []) (f v l)) ≡ bind (source .byte l) (λ v l. before (v ∷ []) (g v l))
+  by-byte h l = bind-same (source .byte l) (λ v l. ap (before (v ∷ [])) (h v l))
 
-  -- ---- where there is no step, and where the first is
+  step-at : (stage e b i n : ℕ) → stage < atEnd → (l : List ℕ)
+      → let s = state stage e b i n in
+      rest s l ≡ bind (takenAt source stage l) (λ v l. before (writtenAt write stage v) (onward (after s v) l))
+  unfolding rest times
+  step-at zero e b i n h = by-number (edition-rest (state atEdition e b i n))
+  step-at (suc zero) e b i n h = by-number (λ v l. sym (next-item atCount e b v l))
+  step-at (suc (suc zero)) e b i n h = by-number (kind-rest (state atKind e b i n))
+  step-at (suc (suc (suc zero))) e b i n h = by-number (λ v l. sym (next-byte e b i v l))
+  step-at (suc (suc (suc (suc zero)))) e b i n h = by-byte (λ v l. sym (next-byte e b i n l))
+  step-at (suc (suc (suc (suc (suc zero))))) e b i n h = by-number (code-rest (state atCode e b i n))
+  step-at (suc (suc (suc (suc (suc (suc zero)))))) e b i n h = by-number (λ v l. sym (next-plain e b i n l))
+  step-at (suc (suc (suc (suc (suc (suc (suc stage))))))) e b i n h = absurd (omega arith)
 
-  -- where nothing is to come, an image is whole or there is none
-  closed : (s : State) (l : List ℕ) (g : Stage) → isOpen g ≡ false → restBy source write s g l ≡ cond (isEnd g) (parsed [] l) none
-  closed s l Edition h = absurd (true≢false h)
-  closed s l Users h = absurd (true≢false h)
-  closed s l Count h = absurd (true≢false h)
-  closed s l Kind h = absurd (true≢false h)
-  closed s l Value h = absurd (true≢false h)
-  closed s l Length h = absurd (true≢false h)
-  closed s l Byte h = absurd (true≢false h)
-  closed s l Code h = absurd (true≢false h)
-  closed s l Depth h = absurd (true≢false h)
-  closed s l Operand h = absurd (true≢false h)
-  closed s l End h = refl
-  closed s l Refused h = refl
+  pub rest-step : (s : State) → s .stage < atEnd → (l : List ℕ)
+      → rest s l
+      ≡ bind (takenAt source (s .stage) l) (λ v l. before (writtenAt write (s .stage) v) (onward (after s v) l))
+  rest-step s = step-at (s .stage) (s .edition) (s .lists) (s .items) (s .units)
 
-  pub rest-closed : (s : State) → isOpen (s .stage) ≡ false → (l : List ℕ) → rest source write s l ≡ cond (isEnd (s .stage)) (parsed [] l) none
+  -- where nothing comes, the image is whole
+  pub rest-end : (s : State) → atEnd ≤ s .stage → (l : List ℕ) → rest s l ≡ parsed [] l
   unfolding rest
-  rest-closed s h l = closed s l (s .stage) h
+  rest-end s h l =
+      let other : (n : ℕ) → n < atEnd → eqb (s .stage) n ≡ false = λ n g. ne-eqb (s .stage) n (λ e. omega arith) in
+      rw (other 0 (omega arith), other 1 (omega arith), other 2 (omega arith), other 3 (omega arith))
+      (rw (other 4 (omega arith), other 5 (omega arith), other 6 (omega arith)))
 
-  pub rest-start : (l : List ℕ) → rest source write start l ≡ transcript source write l
-  unfolding rest
+  pub rest-start : (l : List ℕ) → rest start l ≡ transcript source write l
+  unfolding rest times
   rest-start l = refl

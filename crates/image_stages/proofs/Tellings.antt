@@ -1,4 +1,4 @@
--- What is written of an image while it is read is what `coding` reads, written.
+-- What is written of an image while it is read is what `image_format` reads, written.
 use mathlib.Core.Path.{_≡_, refl, sym, ap, _∙_}
 use mathlib.Core.Bool.{Bool, true, false, cond}
 use mathlib.Core.List.{List, [], _∷_, _++_, append-assoc, append-nil}
@@ -14,10 +14,10 @@ use Rattle.image_format.specs.Image.{number, text, Image, known}
 use Rattle.image_format.specs.Reading.{Source, counted, constantOf, constant, instructionOf, instruction, parts, ended, readImage}
 use Rattle.image_format.specs.Writing.{all, listed, bytes as bytesIn, constantIn, instructionIn, written}
 use Rattle.image_format.proofs.Images.{all-bytes}
-use Rattle.image_stages.specs.Transcript.{Rest, before, refused, aNumber, aByte, times, aText, ofKind, ofCode, aConstant, anInstruction, anItem, lists, behindEdition, transcript, unended, told, mapped, endedWith}
+use Rattle.image_stages.proofs.Transcript.{Rest, before, refused, aNumber, aByte, times, aText, ofKind, ofCode, aConstant, anInstruction, anItem, lists, afterEdition, transcript, unended, told, mapped, endedWith}
 use Rattle.image_stages.proofs.Then.{before-nothing, before-before}
 
--- what p takes, as w writes it, and k behind it
+-- what p takes, as w writes it, and k after it
 abbrev following : {A : Type 0} → Parser A → (A → List ℕ) → Rest → Rest
 following p w k l = bind (p l) (λ a l. before (w a) (k l))
 
@@ -61,7 +61,7 @@ module _ {A : Type 0} {one : Rest → Rest} {p : Parser A} {w : A → List ℕ} 
 
 -- ---- up to the end
 
--- r is what p takes, as w writes it, and k behind it
+-- r is what p takes, as w writes it, and k after it
 record Leads {A : Type 0} (r : Rest) (p : Parser A) (w : A → List ℕ) (k : Rest) : Type 0 where
   told-as : (l : List ℕ) → r l ≡ following p w k l
 
@@ -158,7 +158,7 @@ module _ (source : Source) (write : ℕ → List ℕ) where
       on edition true l = parts-end edition .told-as l
       on edition false l = refl
 
-      by : (o : Option (Parsed ℕ)) → bind o (λ n l. before (write n) (behindEdition source write n l))
+      by : (o : Option (Parsed ℕ)) → bind o (λ n l. before (write n) (afterEdition source write n l))
           ≡ told (written write) (bind o (λ edition l. cond (known edition) (parts source edition l) none))
       by none = refl
       by (some g) = on (g .value) (known (g .value)) (g .rest)

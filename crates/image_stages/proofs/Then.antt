@@ -4,7 +4,7 @@ use mathlib.Core.List.{List, [], _++_, append-assoc}
 use mathlib.Core.Option.{Option, some, none}
 use Prim.Native.Nat.{ℕ}
 use Rattle.lists.specs.Parsing.{Parsed, Parser, bind}
-use Rattle.image_stages.specs.Transcript.{before}
+use Rattle.image_stages.proofs.Transcript.{before}
 
 -- the same after the same
 pub bind-same : {A B : Type 0} (o : Option (Parsed A)) {f g : A → Parser B} → ((a : A) (l : List ℕ) → f a l ≡ g a l) → bind o f ≡ bind o g

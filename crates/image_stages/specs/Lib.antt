@@ -1,3 +1,2 @@
--- What is still to come of an image, and where a walk over it is.
-pub mod Transcript
+-- Where a walk over an image is, and where it goes.
 pub mod Stages

@@ -1,11 +1,9 @@
-// The form of an image: what comes after each of its numbers and text bytes.
+// The form of an image as a state machine: where a walk over it is, and where it goes by each number and text byte.
 mod stages;
 
-pub use stages::Stage;
+pub use stages::BYTE;
+pub use stages::END;
+pub use stages::Next;
 pub use stages::State;
 pub use stages::after;
-pub use stages::is_byte;
-pub use stages::is_end;
-pub use stages::is_open;
-pub use stages::refusal;
 pub use stages::start;

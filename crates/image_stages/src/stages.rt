@@ -1,219 +1,193 @@
-// The form of an image: what comes after each of its numbers and text bytes, whether they are read from bytes or from words.
+// Where a walk over an image is, and where it goes by what comes there, whether that is read from bytes or from words.
+// A stage is a number and the functions are small, so that they become part of a pass and its state stays in
+// registers: through memory, a step takes five times as long.
 ghost use mathlib.Core.Path.{_≡_};
-ghost use Rattle.image_format.specs.Codes.{codeOf};
-ghost use Rattle.image_stages.specs.Stages.{state, opening, itemsLeft, unitsLeft, afterKind, afterCode, afterEdition, after, start, refusal, isByte, isOpen, isEnd};
+ghost use Rattle.image_stages.specs.Stages.{start, opening, withUnits, editionTold, kindTold, codeTold};
+ghost use Rattle.image_stages.specs.Stages.{told, advance, after};
 
-// What comes next: a number, or at `Byte` a text byte; at `End` and `Refused` nothing.
-pub enum Stage {
-    Edition,
-    Users,
-    Count,
-    Kind,
-    Value,
-    Length,
-    Byte,
-    Code,
-    Depth,
-    Operand,
-    End,
-    Refused,
-}
+// The stages: what comes. The edition.
+const EDITION: u64 = 0;
 
-// The stage, the image's edition, how many lists stand behind the present one, and what is left of it behind the present item, and of the item behind the present
-// byte or operand.
+// A list's count.
+const COUNT: u64 = 1;
+
+// A constant's kind.
+const KIND: u64 = 2;
+
+// A text's length.
+const LENGTH: u64 = 3;
+
+// A text byte.
+pub const BYTE: u64 = 4;
+
+// An instruction's code.
+const CODE: u64 = 5;
+
+// Any other number: the count of user variables, a constant's number, a depth, an operand.
+const PLAIN: u64 = 6;
+
+// Nothing: the image is whole.
+pub const END: u64 = 7;
+
+// The stage, the image's edition, and what comes after the present list, item and unit: so many lists, so many items of
+// the list, and so many units of the item, which are numbers or text bytes.
 pub struct State {
-    pub stage: Stage,
+    pub stage: u64,
     pub edition: u64,
-    pub behind: u64,
+    pub lists: u64,
     pub items: u64,
-    pub left: u64,
+    pub units: u64,
 }
 
-// The lists behind that of the constants: EREs and three sections.
-const BEHIND_CONSTANTS: u64 = 4;
+// The state after what came, or that it is an unknown edition, kind or code.
+pub enum Next {
+    At(State),
+    Unknown,
+}
 
-const BEHIND_ERES: u64 = 3;
+// The lists of an image: constants, EREs and three sections.
+const LISTS: u64 = 5;
 
+const AFTER_CONSTANTS: u64 = 4;
+
+const AFTER_ERES: u64 = 3;
+
+// The state at an image's first number. Like an item, the edition has a unit after it: the count of user variables.
 pub fn start() -> State
     ensures { λ r. ⌜ r ≡ start ⌝ }
 {
-    at(Stage::Edition, 0, 0, 0)
-}
-
-fn at(stage: Stage, edition: u64, behind: u64, items: u64) -> State
-    ensures { λ r. ⌜ r ≡ state stage edition behind items 0 ⌝ }
-{
     State {
-        stage,
-        edition,
-        behind,
-        items,
-        left: 0,
+        stage: EDITION,
+        edition: 0,
+        lists: LISTS,
+        items: 0,
+        units: 1,
     }
 }
 
-// The first stage of an item.
-fn opening(behind: u64) -> Stage
-    ensures { λ r. ⌜ r ≡ opening behind ⌝ }
+// The first stage of an item, by how many lists come after its own.
+fn opening(lists: u64) -> u64
+    ensures { λ r. ⌜ r ≡ opening lists ⌝ }
 {
-    if behind == BEHIND_CONSTANTS {
-        return Stage::Kind;
+    if lists == AFTER_CONSTANTS {
+        return KIND;
     }
-    if behind == BEHIND_ERES {
-        return Stage::Length;
+    if lists == AFTER_ERES {
+        return LENGTH;
     }
-    Stage::Code
+    CODE
 }
 
-// n items of the list are left.
-fn items_left(s: State, n: u64) -> State
-    ensures { λ r. ⌜ r ≡ itemsLeft s n ⌝ }
+// The item has so many units of a stage yet.
+fn with_units(s: State, stage: u64, units: u64) -> State
+    ensures { λ r. ⌜ r ≡ withUnits s stage units ⌝ }
 {
-    if n == 0 {
-        if s.behind == 0 {
-            return at(Stage::End, s.edition, 0, 0);
-        }
-        return at(Stage::Count, s.edition, s.behind - 1, 0);
-    }
-    at(opening(s.behind), s.edition, s.behind, n - 1)
-}
-
-// n bytes or operands of the item are left.
-fn units_left(stage: Stage, s: State, n: u64) -> State
-    ensures { λ r. ⌜ r ≡ unitsLeft stage s n ⌝ }
-{
-    if n == 0 {
-        return items_left(s, s.items);
-    }
     State {
         stage,
         edition: s.edition,
-        behind: s.behind,
+        lists: s.lists,
         items: s.items,
-        left: n - 1,
+        units,
     }
 }
 
-fn after_edition(v: u64) -> State
-    ensures { λ r. ⌜ r ≡ afterEdition v ⌝ }
+fn edition_told(s: State, v: u64) -> Next
+    ensures { λ r. ⌜ r ≡ editionTold s v ⌝ }
 {
     if opcodes::known_edition(v) {
-        return at(Stage::Users, v, 0, 0);
+        return Next::At(State {
+            stage: PLAIN,
+            edition: v,
+            lists: s.lists,
+            items: s.items,
+            units: s.units,
+        });
     }
-    at(Stage::Refused, v, 0, 0)
+    Next::Unknown
 }
 
-fn after_kind(s: State, v: u64) -> State
-    ensures { λ r. ⌜ r ≡ afterKind s v ⌝ }
+fn kind_told(s: State, v: u64) -> Next
+    ensures { λ r. ⌜ r ≡ kindTold s v ⌝ }
 {
     if v == 0 {
-        return at(Stage::Value, s.edition, s.behind, s.items);
+        return Next::At(with_units(s, PLAIN, 1));
     }
     if v == 1 {
-        return at(Stage::Length, s.edition, s.behind, s.items);
+        return Next::At(with_units(s, LENGTH, 1));
     }
-    refusal(s)
+    Next::Unknown
 }
 
-fn after_code(s: State, v: u64) -> State
-    ensures { λ r. ⌜ r ≡ afterCode s (codeOf (s .edition) v) ⌝ }
+fn code_told(s: State, v: u64) -> Next
+    ensures { λ r. ⌜ r ≡ codeTold s v ⌝ }
 {
     if opcodes::known_code(s.edition, v) {
-        return State {
-            stage: Stage::Depth,
-            edition: s.edition,
-            behind: s.behind,
-            items: s.items,
-            left: opcodes::operands(s.edition, v),
-        };
+        return Next::At(with_units(s, PLAIN, 1 + opcodes::operands(s.edition, v)));
     }
-    refusal(s)
+    Next::Unknown
 }
 
-// The state after what came, v.
-pub fn after(s: State, v: u64) -> State
-    ensures { λ r. ⌜ r ≡ after s v ⌝ }
+// What v says: how many items the list has, or how many units of which stage the item has yet.
+fn told(s: State, v: u64) -> Next
+    ensures { λ r. ⌜ r ≡ told s v ⌝ }
 {
     let stage = s.stage;
     match stage {
-        Stage::Edition => after_edition(v),
-        Stage::Users => at(Stage::Count, s.edition, BEHIND_CONSTANTS, 0),
-        Stage::Count => items_left(s, v),
-        Stage::Kind => after_kind(s, v),
-        Stage::Value => items_left(s, s.items),
-        Stage::Length => units_left(Stage::Byte, s, v),
-        Stage::Byte => units_left(Stage::Byte, s, s.left),
-        Stage::Code => after_code(s, v),
-        Stage::Depth => units_left(Stage::Operand, s, s.left),
-        Stage::Operand => units_left(Stage::Operand, s, s.left),
-        Stage::End => s,
-        Stage::Refused => s,
+        EDITION => edition_told(s, v),
+        COUNT => Next::At(State {
+            stage,
+            edition: s.edition,
+            lists: s.lists,
+            items: v,
+            units: 0,
+        }),
+        KIND => kind_told(s, v),
+        LENGTH => Next::At(with_units(s, BYTE, v)),
+        CODE => code_told(s, v),
+        _ => Next::At(s),
     }
 }
 
-// Whether a text byte comes at a stage, and not a number.
-pub fn is_byte(stage: Stage) -> bool
-    ensures { λ r. ⌜ r ≡ isByte stage ⌝ }
+// Goes on to the next unit of the item, else to the next item of the list, else to the next list.
+fn advance(s: State) -> State
+    ensures { λ r. ⌜ r ≡ advance s ⌝ }
 {
-    match stage {
-        Stage::Edition => false,
-        Stage::Users => false,
-        Stage::Count => false,
-        Stage::Kind => false,
-        Stage::Value => false,
-        Stage::Length => false,
-        Stage::Byte => true,
-        Stage::Code => false,
-        Stage::Depth => false,
-        Stage::Operand => false,
-        Stage::End => false,
-        Stage::Refused => false,
+    if s.units != 0 {
+        return with_units(s, s.stage, s.units - 1);
+    }
+    if s.items != 0 {
+        return State {
+            stage: opening(s.lists),
+            edition: s.edition,
+            lists: s.lists,
+            items: s.items - 1,
+            units: 0,
+        };
+    }
+    if s.lists != 0 {
+        return State {
+            stage: COUNT,
+            edition: s.edition,
+            lists: s.lists - 1,
+            items: 0,
+            units: 0,
+        };
+    }
+    State {
+        stage: END,
+        edition: s.edition,
+        lists: 0,
+        items: 0,
+        units: 0,
     }
 }
 
-// Whether something comes at a stage.
-pub fn is_open(stage: Stage) -> bool
-    ensures { λ r. ⌜ r ≡ isOpen stage ⌝ }
+// The state after v came.
+pub fn after(s: State, v: u64) -> Next
+    ensures { λ r. ⌜ r ≡ after s v ⌝ }
 {
-    match stage {
-        Stage::Edition => true,
-        Stage::Users => true,
-        Stage::Count => true,
-        Stage::Kind => true,
-        Stage::Value => true,
-        Stage::Length => true,
-        Stage::Byte => true,
-        Stage::Code => true,
-        Stage::Depth => true,
-        Stage::Operand => true,
-        Stage::End => false,
-        Stage::Refused => false,
-    }
-}
-
-// Whether the image is whole at a stage.
-pub fn is_end(stage: Stage) -> bool
-    ensures { λ r. ⌜ r ≡ isEnd stage ⌝ }
-{
-    match stage {
-        Stage::Edition => false,
-        Stage::Users => false,
-        Stage::Count => false,
-        Stage::Kind => false,
-        Stage::Value => false,
-        Stage::Length => false,
-        Stage::Byte => false,
-        Stage::Code => false,
-        Stage::Depth => false,
-        Stage::Operand => false,
-        Stage::End => true,
-        Stage::Refused => false,
-    }
-}
-
-// The state that comes to nothing.
-pub fn refusal(s: State) -> State
-    ensures { λ r. ⌜ r ≡ refusal s ⌝ }
-{
-    at(Stage::Refused, s.edition, s.behind, s.items)
+    let Next::At(t) = told(s, v) else {
+        return Next::Unknown;
+    };
+    Next::At(advance(t))
 }

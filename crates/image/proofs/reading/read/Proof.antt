@@ -1,14 +1,11 @@
--- `read` meets its contract: a first pass says whether there is an image and how long what is written is, a second one writes it.
-use mathlib.Core.Path.{ap, subst, _∙_}
-use mathlib.Core.List.{List, [], _∷_}
-use Prim.Native.Nat.{ℕ}
+-- `read` meets its contract: a first pass says whether there is an image and how long what is
+-- written is, a second one writes it.
+use mathlib.Core.Path.{ap, _∙_}
 use lib.ListN.{length}
 use native.Mathlib.Omega.{arith}
 use Rattle.edition.specs.Outcomes.{imageMalformed, roomTooSmall}
-use Rattle.image_format.specs.Reading.{fromBytes}
-use borrow.Author.Tests.{not-true, not-false}
+use Rattle.image_format.specs.Writing.{contentOf}
 use borrow.Author.Needs.{needs}
-use Rattle.image.specs.Pass.{passOf, Passes}
 use Rattle.image.specs.Copy.{copying, readOf}
 use Rattle.image.proofs.Copies.{copied-malformed, copied-no-room, copied-written, nothing-lent}
 use Rattle.image.proofs.reading.read.Statement.{statement}
@@ -26,14 +23,22 @@ part-pass-end c = search needs
 pass-requires : tie.Need-pass-requires
 pass-requires c κs = search needs
 
+enum-known-words : tie.Need-enum-known-words
+enum-known-words c = search needs
+
+enum-told : tie.Need-enum-told
+enum-told c = search needs
+
 same-length : tie.Need-same-length
 same-length c = search needs
 
 returns : tie.Need-returns
 unfolding readOf
 returns c =
-    ap (copying imageMalformed 0) (nothing-lent (c .before .before .before .before .pass .last .1 .0) (c .before .before .before .before .before .before .before .before .args .content .now) (c .before .before .before .before .pass .kept .1 .0))
-    ∙ copied-malformed fromBytes (λ n. n ∷ []) (c .before .before .before .before .before .before .before .before .args .image .now) _ _ _ (c .before .before .before .before .pass .ensures) (c .before .before .before .before .before .before .before .before .args .content .now) (not-true _ (c .if1 .taken))
+    let first = c .before .before .before .before .pass in
+    let room = c .before .before .before .before .before .before .before .before .args .content .now in
+    ap (copying imageMalformed 0) (nothing-lent (first .last .1 .0) room (first .kept .1 .0))
+    ∙ copied-malformed contentOf _ _ _ _ (first .ensures) room (c .enum-told .given .1)
 
 same-length-2 : tie.Need-same-length-2
 same-length-2 c = search needs
@@ -41,9 +46,12 @@ same-length-2 c = search needs
 returns-2 : tie.Need-returns-2
 unfolding readOf
 returns-2 c =
-    let e = nothing-lent (c .before .before .before .before .before .before .pass .last .1 .0) (c .before .before .before .before .before .before .before .before .before .before .args .content .now) (c .before .before .before .before .before .before .pass .kept .1 .0) in
+    let first = c .before .before .before .before .before .before .pass in
+    let room = c .before .before .before .before .before .before .before .before .before .before .args .content .now in
+    let e = nothing-lent (first .last .1 .0) room (first .kept .1 .0) in
     ap (copying roomTooSmall 0) e
-    ∙ copied-no-room fromBytes (λ n. n ∷ []) (c .before .before .before .before .before .before .before .before .before .before .args .image .now) _ _ _ (c .before .before .before .before .before .before .pass .ensures) (c .before .before .before .before .before .before .before .before .before .before .args .content .now) (not-false _ (c .before .before .if1 .left)) (omega (arith, ap length e, c .if2 .taken))
+    ∙ copied-no-room contentOf _ _ _ _ (first .ensures) room _ (c .before .before .words .given .1)
+    (omega (arith, ap length e, c .if1 .taken))
 
 pass-requires-2 : tie.Need-pass-requires-2
 pass-requires-2 c κs = search needs
@@ -54,9 +62,13 @@ same-length-3 c = search needs
 returns-3 : tie.Need-returns-3
 unfolding readOf
 returns-3 c =
-    let e = nothing-lent (c .before .before .before .before .before .before .before .before .before .before .pass .last .1 .0) (c .before .before .before .before .before .before .before .before .before .before .before .before .before .before .args .content .now) (c .before .before .before .before .before .before .before .before .before .before .pass .kept .1 .0) in
-    copied-written fromBytes (λ n. n ∷ []) (c .before .before .before .before .before .before .before .before .before .before .before .before .before .before .args .image .now) _ _ _ (c .before .before .before .before .before .before .before .before .before .before .pass .ensures) (c .before .before .before .before .before .before .before .before .before .before .before .before .before .before .args .content .now) (not-false _ (c .before .before .before .before .before .before .if1 .left)) (omega (arith, ap length e, c .before .before .before .before .if2 .left)) _ _
-    (subst (λ (x : List ℕ). Passes (passOf fromBytes (λ n. n ∷ []) (c .before .before .before .before .before .before .before .before .before .before .before .before .before .before .args .image .now) x) (c .before .before .pass2 .result) (c .before .before .pass2 .last .1 .0)) e (c .before .before .pass2 .ensures))
+    let p = c .before .before .before .before .before .before in
+    let first = p .before .before .before .before .pass in
+    let room = p .before .before .before .before .before .before .before .before .args .content .now in
+    let e = nothing-lent (first .last .1 .0) room (first .kept .1 .0) in
+    copied-written contentOf _ _ _ _ (first .ensures) room _ (p .words .given .1)
+    (omega (arith, ap length e, c .before .before .before .before .if1 .left)) _ _
+    (rw e at (c .before .before .pass2 .ensures))
 
 pub read-spec : {M : Type 1} → statement M
 read-spec =
@@ -66,6 +78,8 @@ read-spec =
     part-pass-start
     part-pass-end
     pass-requires
+    enum-known-words
+    enum-told
     same-length
     returns
     same-length-2

@@ -11,7 +11,8 @@ use Rattle.image.proofs.writing.take.Tie as tie
 returns : tie.Need-returns
 returns c =
     let a = c .before .before .args in
-    words-at (a .stage) (drop (a .at) (a .content .now)) ∙ up-out (a .content .now) (a .at) (mostAt (a .stage)) (c .if1 .taken)
+    let l = a .content .now in
+    words-at (a .stage) (drop (a .at) l) ∙ up-out l (a .at) (mostAt (a .stage)) (c .if1 .taken)
 
 mul-w : tie.Need-mul-w
 mul-w c = search needs
@@ -25,17 +26,23 @@ most-requires c κs = search needs
 returns-2 : tie.Need-returns-2
 returns-2 c =
     let a = c .before .before .before .before .before .args in
-    words-at (a .stage) (drop (a .at) (a .content .now)) ∙ up-over (a .content .now) (a .at) (mostAt (a .stage)) (c .before .before .before .if1 .left) (omega (arith, c .before .most .ensures, c .if2 .taken))
+    let l = a .content .now in
+    let inside = c .before .before .before .if1 .left in
+    words-at (a .stage) (drop (a .at) l)
+    ∙ up-over l (a .at) (mostAt (a .stage)) inside (omega (arith, c .before .most .ensures, c .if2 .taken))
 
 add-t5 : tie.Need-add-t5
 add-t5 c = search needs
 
 returns-3 : tie.Need-returns-3
 returns-3 c =
-    let a = c .before .before .before .before .before .args in (
-      words-at (a .stage) (drop (a .at) (a .content .now)) ∙ up-taken (a .content .now) (a .at) (mostAt (a .stage)) (c .before .before .before .if1 .left) (omega (arith, c .before .most .ensures, c .if2 .left)),
+    let a = c .before .before .before .before .before .args in
+    let l = a .content .now in
+    let inside = c .before .before .before .if1 .left in (
+      words-at (a .stage) (drop (a .at) l)
+          ∙ up-taken l (a .at) (mostAt (a .stage)) inside (omega (arith, c .before .most .ensures, c .if2 .left)),
       omega arith,
-      omega (arith, c .before .before .before .if1 .left),
+      omega (arith, inside),
     )
 
 pub take-spec : {M : Type 1} → statement M

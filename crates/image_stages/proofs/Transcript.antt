@@ -1,5 +1,6 @@
--- What is written of an image while it is read: each number as `write` says, each text byte as it is, and what is left of the source. It says the form of an image
--- once more, from the left, so that it can be said what is still to come; `transcript-is` of proofs/ shows that it is what `coding` says.
+-- What is written of an image while it is read: each number as `write` says, each text byte as it is, and what is left
+-- of the source. It says the form of an image once more, from the left, so that it can be said what is still to come;
+-- `transcript-is` of Tellings shows that it is what `image_format` says.
 use mathlib.Core.Bool.{cond}
 use mathlib.Core.List.{List, [], _∷_, _++_}
 use mathlib.Core.Option.{Option, some, none}
@@ -60,23 +61,23 @@ module _ (source : Source) (write : ℕ → List ℕ) where
     abbrev pub anInstruction : Rest → Rest
     anInstruction k = aNumber (λ c. ofCode (codeOf edition c) k)
 
-    -- an item of the list behind which so many lists stand: constants, EREs, and three sections of instructions
+    -- an item of the list after which so many lists come: constants, EREs, and three sections of instructions
     abbrev pub anItem : ℕ → Rest → Rest
-    anItem behind k = cond (eqb behind 4) (aConstant k) (cond (eqb behind 3) (aText k) (anInstruction k))
+    anItem after k = cond (eqb after 4) (aConstant k) (cond (eqb after 3) (aText k) (anInstruction k))
 
     -- so many lists
     unfoldable pub lists : ℕ → Rest
     lists zero = succeed []
-    lists (suc behind) = aNumber (λ n. times (anItem behind) n (lists behind))
+    lists (suc after) = aNumber (λ n. times (anItem after) n (lists after))
 
   -- the whole
-  abbrev pub behindEdition : ℕ → Rest
-  behindEdition edition = cond (known edition) (aNumber (λ users. lists edition 5)) refused
+  abbrev pub afterEdition : ℕ → Rest
+  afterEdition edition = cond (known edition) (aNumber (λ users. lists edition 5)) refused
 
   abbrev pub transcript : Rest
-  transcript = aNumber behindEdition
+  transcript = aNumber afterEdition
 
--- ---- what `coding` says of the same
+-- ---- what `image_format` says of the same
 
 -- an image, before it is asked whether anything follows
 abbrev pub unended : Source → Parser Image
