@@ -3,6 +3,7 @@ use mathlib.Core.Bool.{Bool}
 use mathlib.Core.List.{List}
 use Prim.Native.Nat.{ℕ}
 use lib.Dec.{eqb}
+use Rattle.edition.specs.Limits.{firstEdition}
 
 -- "constants, each kind 0 with a number or kind 1 with length and bytes"
 pub data Constant : Type 0 where
@@ -31,4 +32,4 @@ imageBound = 65536
 
 -- "an unknown edition" is refused
 abbrev pub known : ℕ → Bool
-known edition = eqb edition 1
+known edition = eqb edition firstEdition

@@ -3,6 +3,7 @@ ghost use mathlib.Core.Path.{_≡_};
 ghost use Rattle.image_format.specs.Codes.{codeOf};
 ghost use Rattle.image_format.specs.Image.{known};
 ghost use Rattle.opcodes.specs.Rows.{isKnown, rowIn, operandsIn};
+use edition::Edition;
 
 // The codes that the rules of a section and of its flow speak of.
 pub const END: u64 = 0;
@@ -46,13 +47,11 @@ const ROWS: [u64; 8] = [
     0x0000000000280021,
 ];
 
-const EDITION: u64 = 1;
-
 // Whether there is an edition.
 pub fn known_edition(edition: u64) -> bool
     ensures { λ r. ⌜ r ≡ known edition ⌝ }
 {
-    edition == EDITION
+    edition == Edition::FIRST
 }
 
 // Whether an edition has a code.
