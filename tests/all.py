@@ -1,10 +1,10 @@
 #!/usr/bin/env python3
 """Runs every comparison that is not part of the gate, one after the other, and says which of them passed.
 
-    tests/all.py [--cases N] [--seed S]
+    tests/all.py [--cases N] [--seed S] [--quick]
 
 N (default 100,000) is the number of random cases of each script that calls the archive; the scripts by which the prover computes take theirs from
-their own defaults. Needs a C compiler and `objdump`. The status is 1 if a script failed, or if tests/vectors.py writes other bytes than those that
+their own defaults, take over an hour together, and are left out with --quick. Needs a C compiler and `objdump`. The status is 1 if a script failed, or if tests/vectors.py writes other bytes than those that
 are there.
 """
 import argparse
@@ -16,7 +16,10 @@ import time
 import building
 
 RANDOM = ['match', 'split', 'images']
-OTHERS = ['semantics', 'frames']
+# over other archives than capi's
+OTHER_ARCHIVES = ['exists', 'tokens']
+OTHERS = ['frames', 'believe']
+COMPUTED = ['semantics', 'translation', 'grammar', 'wrong_definitions']
 
 
 def same_vectors():
@@ -34,12 +37,14 @@ def main():
     parser = argparse.ArgumentParser()
     parser.add_argument('--cases', type=int, default=100000)
     parser.add_argument('--seed', type=int, default=1)
+    parser.add_argument('--quick', action='store_true')
     options = parser.parse_args()
     archive = building.archive('capi')
-    drawn = ['--cases', str(options.cases), '--seed', str(options.seed), '--archive', archive]
+    drawn = ['--cases', str(options.cases), '--seed', str(options.seed)]
     jobs = [('vectors', same_vectors)]
-    jobs += [(name, lambda name=name: passes(name, *drawn)) for name in RANDOM]
-    jobs += [(name, lambda name=name: passes(name)) for name in OTHERS]
+    jobs += [(name, lambda name=name: passes(name, *drawn, '--archive', archive)) for name in RANDOM]
+    jobs += [(name, lambda name=name: passes(name, *drawn)) for name in OTHER_ARCHIVES]
+    jobs += [(name, lambda name=name: passes(name)) for name in OTHERS + ([] if options.quick else COMPUTED)]
     failed = []
     for name, job in jobs:
         start = time.time()
