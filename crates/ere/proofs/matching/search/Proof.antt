@@ -1,5 +1,6 @@
 -- `search`: by what `compile` and `find_from` answer.
 use mathlib.Core.Path.{sym, ap, subst, _∙_}
+use native.Mathlib.Omega.{arith}
 use borrow.Author.Tests.{not-true, not-false}
 use Rattle.ere_search.specs.Find.{matchOf}
 use Rattle.ere_search.specs.declared.search.Found.{Found}
@@ -29,7 +30,7 @@ returns-2 c =
     let a = b .before .before .before .before .args in
     let o = not-false _ (c .before .if1 .left) in
     let r = subst (Compiles firstEdition (a .ere .now) _) o (b .compile .ensures) in
-    searched-long firstEdition (a .ere .now) (a .text .now) _ r (c .if2 .taken)
+    searched-long firstEdition (a .ere .now) (a .text .now) _ r (omega (arith, c .if2 .taken))
 
 slice-aggregate-find-from : tie.Need-slice-aggregate-find-from
 slice-aggregate-find-from c = search needs
@@ -51,7 +52,7 @@ returns-3 c =
     let o = not-false _ (f .before .before .before .if1 .left) in
     let r = subst (Compiles firstEdition (a .ere .now) _) o (b .compile .ensures) in
     ap (λ (x : Found). bestMatching (matchOf x)) (sym (c .before .start .given .1))
-    ∙ searched-found firstEdition (a .ere .now) (a .text .now) _ r (f .before .before .if2 .left)
+    ∙ searched-found firstEdition (a .ere .now) (a .text .now) _ r (omega (arith, f .before .before .if2 .left))
     (λ i h. b .before .before .shared-slice-known2 .given i .fits) (f .find-from .result) (f .find-from .ensures)
 
 returns-4 : tie.Need-returns-4
@@ -62,7 +63,7 @@ returns-4 c =
     let o = not-false _ (f .before .before .before .if1 .left) in
     let r = subst (Compiles firstEdition (a .ere .now) _) o (b .compile .ensures) in
     ap (λ (x : Found). bestMatching (matchOf x)) (sym (c .enum-told .given .1))
-    ∙ searched-found firstEdition (a .ere .now) (a .text .now) _ r (f .before .before .if2 .left)
+    ∙ searched-found firstEdition (a .ere .now) (a .text .now) _ r (omega (arith, f .before .before .if2 .left))
     (λ i h. b .before .before .shared-slice-known2 .given i .fits) (f .find-from .result) (f .find-from .ensures)
 
 pub search-spec : {M : Type 1} → statement M

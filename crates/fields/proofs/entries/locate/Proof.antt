@@ -47,14 +47,14 @@ returns-2 c =
     let e =
     b .split-record .ensures .1
     ∙ ap (λ (n : ℕ). roomOf firstEdition (a .separator .now) l n _) (b .before .before .previous .ensures) in
-    (h, located-field firstEdition (a .separator .now) l _ (a .k) _ h _ e (omega arith) (c .before .if1 .left) (c .if2 .taken))
+    (h, located-field firstEdition (a .separator .now) l _ (a .k) _ h _ e (omega arith) (c .before .if1 .left) (omega (arith, c .if2 .taken)))
 
 returns-3 : tie.Need-returns-3
 returns-3 c =
     let b = c .before .before .before .before .before .before in
     let a = b .before .before .before .before .before .args in
     let h = ap countingOf (sym (c .before .before .before .s .given .1)) ∙ b .split-record .ensures .0 in
-    (h, located-past firstEdition (a .separator .now) (a .«record» .now) (a .«record» .now) (a .k) _ h (c .if2 .left))
+    (h, located-past firstEdition (a .separator .now) (a .«record» .now) (a .«record» .now) (a .k) _ h (omega (arith, c .if2 .left)))
 
 returns-4 : tie.Need-returns-4
 returns-4 c =
