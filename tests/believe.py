@@ -40,6 +40,8 @@ EXPLAINED = {
     ('splitting', 'Field', 'fieldsOf'): (('splitting', 'Meaning', ['ByteSplit', 'BlankSplit', 'EreSplit']), 'byte-split blank-split ere-split'),
     ('semantics', 'Check', 'check'): (('semantics', 'Checked', ['Checked']), 'check-exactly'),
     ('semantics', 'Run', 'run'): (('semantics', 'Run', ['Ends']), 'ends-exactly'),
+    ('number', 'Arithmetic', 'quotientOf'): (('number', 'Arithmetic', ['Division']), 'divide-exact divide-inexact divide-by-zero'),
+    ('number', 'Arithmetic', 'remainderOf'): (('number', 'Arithmetic', ['Division']), 'remainder-is remainder-by-zero'),
     ('buffer', 'Order', 'ordering'): (('buffer', 'Order', ['Before']), 'less-before before-less same-ordering'),
     ('buffer', 'First', 'firstPart'): (('buffer', 'First', ['FirstAt']), 'first-part-some first-part-none'),
     ('numeral', 'Form', 'looksNumeric'): (('numeral', 'Form', ['Looks']), 'looks-true true-looks'),
@@ -54,6 +56,9 @@ EXPLAINED = {
     ('image_format', 'Numbers', 'coded'): (('image_format', 'Numbers', ['Coded']), 'coded-is coded-one'),
     ('image_format', 'Numbers', 'takeNumber'): (('image_format', 'Numbers', ['Coded']), 'number-back number-only'),
 }
+
+# definitions of entries that are to come: what a reader has to believe of them is counted when the entries are there
+TO_COME = {'program_tokens', 'program_tree', 'program_grammar', 'program_reader', 'program_code', 'program_numbering', 'translation', 'sound'}
 
 NAME = r"[^\s(){};,.λ\"⌜⌝⟦⟧]+"
 USE = re.compile(r"^\s*(?:ghost )?use Rattle·([a-z_]+)(?:·specs\.specs|\.specs)\.([A-Za-z]+)(?:\.\{([^}]*)\}|\s+as\s+\S+)?;?\s*$")
@@ -229,6 +234,8 @@ def marks(book):
     """Files whose first line is wrong about what is reached in them."""
     wrong = []
     for (crate, name) in sorted(book.files):
+        if crate in TO_COME:
+            continue
         with open(os.path.join(ROOT, 'crates', crate, 'specs', name + '.antt'), encoding='utf-8') as f:
             internal = f.readline().startswith(MARK)
         reached = any(place[:2] == (crate, name) for place in book.reached)

@@ -1,4 +1,4 @@
--- What the C functions over a compiled ERE answer.
+-- Internal: cited by private contracts only. What the C functions over a compiled ERE answer.
 use mathlib.Core.Path.{_≡_}
 use mathlib.Core.Bool.{cond}
 use mathlib.Core.List.{List}

@@ -1,4 +1,4 @@
--- Numbers as bytes, the low byte first.
+-- Internal: cited by private contracts only. Numbers as bytes, the low byte first.
 use Prim.Native.Nat.{ℕ, zero, suc, _+_, _*_, _/_, _%_}
 use mathlib.Core.List.{List, [], _∷_}
 

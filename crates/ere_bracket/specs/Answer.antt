@@ -1,4 +1,4 @@
--- What reading a bracket answers.
+-- Internal: cited by private contracts only. What reading a bracket answers.
 use mathlib.Core.Path.{_≡_}
 use mathlib.Core.Bool.{true, false}
 use mathlib.Core.List.{List}

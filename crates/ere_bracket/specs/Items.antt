@@ -1,4 +1,4 @@
--- What the functions that read the items of a bracket answer.
+-- Internal: cited by private contracts only. What the functions that read the items of a bracket answer.
 use mathlib.Core.Path.{_≡_}
 use mathlib.Core.Bool.{Bool, true, false, cond, _||_}
 use mathlib.Core.List.{List}

@@ -1,4 +1,4 @@
--- What the functions that read one byte of a bracket answer.
+-- Internal: cited by private contracts only. What the functions that read one byte of a bracket answer.
 use mathlib.Core.Path.{_≡_}
 use mathlib.Core.List.{List, [], _∷_}
 use mathlib.Core.Option.{Option, none}

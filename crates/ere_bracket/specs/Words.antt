@@ -1,4 +1,4 @@
--- Classes of bytes as four words: the byte b is bit b % 64 of word b / 64.
+-- Internal: cited by private contracts only. Classes of bytes as four words: the byte b is bit b % 64 of word b / 64.
 use mathlib.Core.Path.{_≡_}
 use mathlib.Core.Bool.{Bool, true, false, not, _||_}
 use mathlib.Core.List.{List, [], _∷_}

@@ -1,4 +1,4 @@
--- What an answer of the code stands for.
+-- Internal: cited by private contracts only. What an answer of the code stands for.
 use mathlib.Core.Option.{Option, some, none}
 use Prim.Native.Nat.{ℕ}
 use Rattle.ere_grammar.specs.declared.Escaped.{Escaped}

@@ -1,4 +1,4 @@
--- The grammar, computed: the bytes are read from the left. What a reader has to believe is Grammar.antt; proofs/ shows that the two agree.
+-- Internal: cited by private contracts only. The grammar, computed: the bytes are read from the left. What a reader has to believe is Grammar.antt; proofs/ shows that the two agree.
 use mathlib.Core.Bool.{Bool, true, false, not, cond, _&&_}
 use mathlib.Core.List.{List, [], _∷_}
 use mathlib.Core.Option.{Option, some, none}

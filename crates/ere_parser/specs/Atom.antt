@@ -1,4 +1,4 @@
--- What reading an atom that is no group answers.
+-- Internal: cited by private contracts only. What reading an atom that is no group answers.
 use mathlib.Core.Path.{_≡_}
 use mathlib.Core.Bool.{true, false}
 use mathlib.Core.List.{List}

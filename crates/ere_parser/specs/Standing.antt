@@ -1,4 +1,4 @@
--- What stands while a group is read: the trees so far, in the table, and what is left to read gives what the whole gives.
+-- Internal: cited by private contracts only. What stands while a group is read: the trees so far, in the table, and what is left to read gives what the whole gives.
 use mathlib.Core.Path.{_≡_}
 use mathlib.Core.Logic.{_⊎_}
 use mathlib.Core.Bool.{Bool, true, false}

@@ -1,4 +1,4 @@
--- What the reader keeps while it reads a group, and what each part of it does.
+-- Internal: cited by private contracts only. What the reader keeps while it reads a group, and what each part of it does.
 use mathlib.Core.Bool.{true, false, cond, _&&_}
 use mathlib.Core.List.{List}
 use Prim.Native.Nat.{ℕ, _+_, _-_}

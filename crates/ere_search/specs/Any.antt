@@ -1,4 +1,4 @@
--- Whether the ERE of a table has a span in a text.
+-- Internal: cited by private contracts only. Whether the ERE of a table has a span in a text.
 use mathlib.Core.Path.{_≡_}
 use mathlib.Core.Bool.{Bool, true, false, not, cond}
 use mathlib.Core.List.{List}

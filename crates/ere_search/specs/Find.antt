@@ -1,4 +1,4 @@
--- What the walk over the table of an ERE finds: the best of its spans.
+-- Internal: cited by private contracts only. What the walk over the table of an ERE finds: the best of its spans.
 use mathlib.Core.Path.{_≡_}
 use mathlib.Core.List.{List}
 use Prim.Native.Nat.{ℕ, _+_, _≤_}

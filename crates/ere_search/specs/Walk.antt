@@ -1,4 +1,4 @@
--- A walk over the table: a step, the live set after some bytes, and the longest match from a start. `rest` is the text from place `at` on.
+-- Internal: cited by private contracts only. A walk over the table: a step, the live set after some bytes, and the longest match from a start. `rest` is the text from place `at` on.
 use mathlib.Core.Bool.{Bool, true, false, cond, _&&_, not}
 use mathlib.Core.List.{List}
 use Prim.Native.Nat.{ℕ, zero, suc, _+_, _-_, _*_}

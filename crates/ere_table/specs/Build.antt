@@ -1,4 +1,4 @@
--- Building a table. A part's rows have the accept bit where the part may end; what follows it is put there.
+-- Internal: cited by private contracts only. Building a table. A part's rows have the accept bit where the part may end; what follows it is put there.
 use mathlib.Core.Bool.{Bool, cond, _&&_}
 use mathlib.Core.List.{List, [], _∷_}
 use Prim.Native.Nat.{ℕ, zero, suc, _+_, _-_, _*_, _/_, _%_, _^_}

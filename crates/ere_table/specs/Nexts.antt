@@ -1,4 +1,4 @@
--- What may come next in a walk over the places of an ERE: the end of the walk, or a place. No sets of last places are needed, nor that places
+-- Internal: cited by private contracts only. What may come next in a walk over the places of an ERE: the end of the walk, or a place. No sets of last places are needed, nor that places
 -- differ: what follows an ERE is a parameter.
 use mathlib.Core.Path.{_≡_}
 use mathlib.Core.Bool.{Bool, true, false}

@@ -1,4 +1,4 @@
--- A room for the spans of fields.
+-- Internal: cited by private contracts only. A room for the spans of fields.
 use mathlib.Core.Bool.{cond, _&&_}
 use mathlib.Core.List.{List, [], _∷_}
 use mathlib.Core.Option.{Option, some, none}

@@ -1,4 +1,4 @@
--- One instruction judged by its numbers: the clauses of the check, as the code has them.
+-- Internal: cited by private contracts only. One instruction judged by its numbers: the clauses of the check, as the code has them.
 use mathlib.Core.Path.{_≡_}
 use mathlib.Core.Bool.{Bool, true, not, cond, _&&_, _||_}
 use mathlib.Core.List.{List}

@@ -1,4 +1,4 @@
--- The sections of an image, and the whole, judged from their bytes.
+-- Internal: cited by private contracts only. The sections of an image, and the whole, judged from their bytes.
 use mathlib.Core.Path.{_≡_}
 use mathlib.Core.Bool.{Bool, true, false, _&&_}
 use mathlib.Core.List.{List}

@@ -1,4 +1,4 @@
--- The lists of an image, by their kind: what their items are, which of them the check can accept by themselves, and what an index says of them.
+-- Internal: cited by private contracts only. The lists of an image, by their kind: what their items are, which of them the check can accept by themselves, and what an index says of them.
 use mathlib.Core.Path.{_≡_}
 use mathlib.Core.Bool.{true, false}
 use mathlib.Core.List.{List}

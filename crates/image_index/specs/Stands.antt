@@ -1,4 +1,4 @@
--- What stands in an image's bytes from a place on, and what the code says of it.
+-- Internal: cited by private contracts only. What stands in an image's bytes from a place on, and what the code says of it.
 use mathlib.Core.Path.{_≡_}
 use mathlib.Core.Bool.{Bool, true, false, cond}
 use mathlib.Core.List.{List, [], _∷_}

@@ -1,4 +1,4 @@
--- Whether a byte is among some of a list, and indexes that come nearer to its first place.
+-- Internal: cited by private contracts only. Whether a byte is among some of a list, and indexes that come nearer to its first place.
 use Prim.Native.Nat.{ℕ, zero, suc, _+_, _*_, _/_, _≤_, _<_}
 use mathlib.Core.Bool.{Bool, true, false, cond}
 use mathlib.Core.List.{List}

@@ -1,4 +1,4 @@
--- Bytes that are none of two.
+-- Internal: cited by private contracts only. Bytes that are none of two.
 use Prim.Native.Nat.{ℕ}
 use mathlib.Core.Bool.{Bool, not}
 use mathlib.Core.List.{[], _∷_}

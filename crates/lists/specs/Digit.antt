@@ -1,4 +1,4 @@
--- The digits of a word.
+-- Internal: cited by private contracts only. The digits of a word.
 use mathlib.Core.Bool.{Bool}
 use Prim.Native.Nat.{ℕ, _/_, _%_, _^_}
 use lib.Dec.{eqb}

@@ -1,4 +1,4 @@
--- What each case of an answer says: document 01's number and value.
+-- Internal: cited by private contracts only. What each case of an answer says: document 01's number and value.
 use mathlib.Core.Path.{_≡_}
 use Prim.Native.Nat.{_≤_}
 use Rattle.edition.specs.Outcomes.{numberOutOfRange, numberNotWhole, divisorZero}

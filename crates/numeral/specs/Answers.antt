@@ -1,4 +1,4 @@
--- What each case of an answer says, and what a reading says of a text.
+-- Internal: cited by private contracts only. What each case of an answer says, and what a reading says of a text.
 use mathlib.Core.Path.{_≡_}
 use mathlib.Core.List.{List}
 use Prim.Native.Nat.{ℕ, _≤_}

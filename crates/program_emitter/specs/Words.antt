@@ -1,4 +1,4 @@
--- Document 01, "The image": an instruction is "code, depth before it, and the operand where one is named". Before names,
+-- Internal: cited by private contracts only. Document 01, "The image": an instruction is "code, depth before it, and the operand where one is named". Before names,
 -- constants and EREs have numbers it is one word; this is the word, and what it says.
 use mathlib.Core.List.{List, [], _∷_}
 use Prim.Native.Nat.{ℕ, suc, _+_, _*_, _/_, _%_, _<_}

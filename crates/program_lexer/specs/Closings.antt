@@ -1,4 +1,4 @@
--- Internal: what the searches for a closing quote or slash answer.
+-- Internal: cited by private contracts only. What the searches for a closing quote or slash answer.
 use mathlib.Core.Bool.{Bool, cond}
 use mathlib.Core.List.{List}
 use mathlib.Core.Option.{Option, some, none}

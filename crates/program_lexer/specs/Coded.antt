@@ -1,4 +1,4 @@
--- The tokens of the code: a kind is its number.
+-- Internal: cited by private contracts only. The tokens of the code: a kind is its number.
 use Prim.Native.Nat.{ℕ}
 use lib.ListN.{length, getD}
 use Rattle.program_tokens.specs.Kinds.{Kind, bad, kinds, rank}

@@ -1,4 +1,4 @@
--- What the readers answer: the one contract of all of them.
+-- Internal: cited by private contracts only. What the readers answer: the one contract of all of them.
 use mathlib.Core.Path.{_≡_}
 use mathlib.Core.Bool.{true, false, cond}
 use mathlib.Core.List.{List}

@@ -1,4 +1,4 @@
--- The tables of the reader: operators, prefix operators, functions, by kinds of tokens.
+-- Internal: cited by private contracts only. The tables of the reader: operators, prefix operators, functions, by kinds of tokens.
 use mathlib.Core.Bool.{cond, _||_}
 use mathlib.Core.List.{List, [], _∷_}
 use mathlib.Core.Option.{Option, some, none}

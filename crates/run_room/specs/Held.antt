@@ -1,4 +1,4 @@
--- What an operation does to the room. Beside its value a slot or an entry may keep what was found out about it; what is kept is true if the bytes
+-- Internal: cited by private contracts only. What an operation does to the room. Beside its value a slot or an entry may keep what was found out about it; what is kept is true if the bytes
 -- are those that operations left, and an operation says its equation under that. Nothing is kept yet: a later edition of this crate says what.
 use mathlib.Core.Path.{_≡_}
 use mathlib.Core.List.{List}

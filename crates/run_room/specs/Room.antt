@@ -1,4 +1,4 @@
--- What the bytes of the working room stand for. Every content stands for something.
+-- Internal: cited by private contracts only. What the bytes of the working room stand for. Every content stands for something.
 use mathlib.Core.Path.{_≡_}
 use mathlib.Core.Bool.{Bool, true, false}
 use mathlib.Core.List.{List, [], _∷_, _++_, map}

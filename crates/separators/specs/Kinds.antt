@@ -1,4 +1,4 @@
--- What the code's own values stand for: the kind of a separator, and the next field.
+-- Internal: cited by private contracts only. What the code's own values stand for: the kind of a separator, and the next field.
 use mathlib.Core.Path.{_≡_}
 use mathlib.Core.Bool.{cond}
 use mathlib.Core.List.{List}

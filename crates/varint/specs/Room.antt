@@ -1,4 +1,4 @@
--- A room that a walk writes to, as far as the room goes.
+-- Internal: cited by private contracts only. A room that a walk writes to, as far as the room goes.
 use mathlib.Core.Bool.{cond}
 use mathlib.Core.List.{List, [], _∷_}
 use Prim.Native.Nat.{ℕ, suc}

@@ -1,4 +1,4 @@
--- The size of what a look for a frame finds.
+-- Internal: cited by private contracts only. The size of what a look for a frame finds.
 use Prim.Native.Nat.{ℕ}
 use Rattle.vectors_frames.specs.declared.frames.Frame.{Frame}
 use Rattle.vectors_frames.specs.declared.frames.Frame.the-variants.{Payload, Cut, End}

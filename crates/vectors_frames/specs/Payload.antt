@@ -1,4 +1,4 @@
--- Numbers of a payload, and the room of a case.
+-- Internal: cited by private contracts only. Numbers of a payload, and the room of a case.
 use Prim.Native.Nat.{ℕ, _+_}
 use mathlib.Core.Bool.{cond}
 use mathlib.Core.List.{List}

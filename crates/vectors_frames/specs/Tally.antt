@@ -1,4 +1,4 @@
--- A tally before the first look for a frame, and after one more.
+-- Internal: cited by private contracts only. A tally before the first look for a frame, and after one more.
 use Prim.Native.Nat.{ℕ, _+_, _-_, min}
 use mathlib.Core.Bool.{Bool, cond}
 use Rattle.vectors_frames.specs.declared.tally.Tally.{Tally}
