@@ -1,13 +1,14 @@
 #!/usr/bin/env python3
-"""Runs the grammar of crates/program_grammar/specs/Grammar.antt, read from that file, as a context-free grammar (Earley), and compares what it takes with the reference.
+"""Runs the grammar of crates/program_grammar/specs/Grammar.antt, read from that file, as a context-free grammar (Earley), and
+compares what it takes with the reference.
 
     tests/grammar.py [--reference DIR] [--cases N] [--seed S]
 
 DIR has reference.py and gen.py (default: tests/reference).
 
-Each constructor is a rule. For each text: the tokens are read as Viable.antt says (`/` as an ERE exactly where the kinds so far and ERE are viable), the first token that
-is bad or not viable has to be the reference's refusal (3, 5, 4) and place; a text that the reference takes (or refuses for a size only) has to be a sentence. Short sentences have to have
-one derivation only.
+Each constructor is a rule. For each text: the tokens are read as Viable.antt says (`/` as an ERE exactly where the kinds so far
+and ERE are viable), the first token that is bad or not viable has to be the reference's refusal (3, 5, 4) and place; a text that
+the reference takes (or refuses for a size only) has to be a sentence. Short sentences have to have one derivation only.
 """
 import argparse
 import functools
