@@ -1,18 +1,21 @@
 #!/usr/bin/env python3
 """Prints the table of docs/TIMES.md: a row for each crate of crates.txt.
 
-    tests/lines.py [NAME=SECONDS ..]
+    tests/lines.py [LOG]
 
-NAME=SECONDS fills the column of check times. Blank lines and comments are not counted. Of src/ neither are contracts (`requires`, `ensures`) and
-`ghost use` lines, which only serve them.
+LOG is what `rt ci` wrote; it fills the columns of seconds: a crate's check, and its must-fail edits together. Blank lines and comments are not counted. Of src/
+neither are contracts (`requires`, `ensures`) and `ghost use` lines, which only serve them. "Believe" is what tests/believe.py counts.
 """
+import collections
 import glob
 import os
 import re
 import sys
 
+import believe
+
 ROOT = os.path.dirname(os.path.dirname(os.path.abspath(__file__)))
-HEADS = ['Crate', 'Check, s', 'Code', 'Definitions', 'Laws', 'Proofs', 'Functions', 'Must-fail edits']
+HEADS = ['Crate', 'Check, s', 'Edits, s', 'Code', 'Definitions', 'Believe', 'Laws', 'Proofs', 'Functions', 'Must-fail edits']
 GHOST = re.compile(r'(ghost|requires|ensures)\b')
 
 
@@ -39,7 +42,31 @@ def code(source):
             yield line
 
 
-def counts(crate):
+def believed():
+    """How many lines of each crate's definitions a reader has to believe."""
+    book = believe.Book()
+    believe.contracts(book)
+    believe.theorems(book)
+    lines_of = collections.Counter()
+    for place in book.reached:
+        lines_of[place[0]] += believe.counted(book, [place])
+    return lines_of
+
+
+def seconds_of(log):
+    """The seconds of each crate's check, and of its edits together, as `rt ci` wrote them."""
+    checks, edits = {}, collections.Counter()
+    for line in log:
+        check = re.match(r'^rt: ([a-z_]+) proved \((\d+) s\)', line)
+        edit = re.match(r'^rt: must-fail ([a-z_]+)/\S+: refused.*?(\d+) s\)', line)
+        if check:
+            checks[check.group(1)] = int(check.group(2))
+        if edit:
+            edits[edit.group(1)] += int(edit.group(2))
+    return checks, edits
+
+
+def counts(crate, believes):
     def files(*pattern):
         return glob.glob(os.path.join(ROOT, 'crates', crate, *pattern), recursive=True)
 
@@ -48,7 +75,7 @@ def counts(crate):
 
     source = list(code(lines(files('src', '**', '*.rt'), '//')))
     functions = [line for line in source if re.match(r'(pub )?(extern "C" )?fn ', line)]
-    return [len(source), antt(files('specs', '**', '*.antt')), antt(files('proofs', '*.antt')), antt(files('proofs', '*', '**', 'Proof.antt')),
+    return [len(source), antt(files('specs', '**', '*.antt')), believes[crate], antt(files('proofs', '*.antt')), antt(files('proofs', '*', '**', 'Proof.antt')),
             len(functions), len(files('must-fail', '*.edit'))]
 
 
@@ -57,14 +84,15 @@ def row(cells):
 
 
 def main():
-    seconds = dict(word.split('=') for word in sys.argv[1:])
+    checks, edits = seconds_of(open(sys.argv[1], encoding='utf-8', errors='replace') if sys.argv[1:] else [])
+    believes = believed()
     row(HEADS)
     print('|---' + '|--:' * (len(HEADS) - 1) + '|')
     table = []
     for crate in crates():
-        table.append(counts(crate))
-        row(['`%s`' % crate, seconds.get(crate, '')] + table[-1])
-    row(['all', ''] + [sum(column) for column in zip(*table)])
+        table.append(counts(crate, believes))
+        row(['`%s`' % crate, checks.get(crate, ''), edits.get(crate, '')] + table[-1])
+    row(['all', sum(checks.values()) or '', sum(edits.values()) or ''] + [sum(column) for column in zip(*table)])
 
 
 if __name__ == '__main__':
