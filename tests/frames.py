@@ -84,7 +84,7 @@ def reached(calls, start):
 def deepest(name, frames, calls, times):
     """The greatest sum of frames on a way of calls from a function, and the way: circles, each with its bytes."""
     circle = [f for f in reached(calls, name) if name in reached(calls, f)]
-    if circle and not all(f.startswith('compiler::reader::') for f in circle):
+    if circle and not all(f.startswith('ere_parser::reader::') for f in circle):
         sys.exit('frames.py: a circle outside the ERE reader: %s' % ', '.join(sorted(circle)))
     members = circle or [name]
     own = sum(frames[f] for f in members) * (times if circle else 1)
