@@ -1,4 +1,4 @@
-// The numbers of an image: groups of seven bits, the low one first.
+// The numbers of an image, as LEB128 without needless groups: seven bits a byte, the low group first.
 mod numbers;
 mod room;
 
