@@ -14,17 +14,20 @@ use Rattle.buffer.proofs.Lent.{part-lent}
 use Rattle.splitting.specs.Separator.{Separator}
 use Rattle.separators.specs.Kinds.{Sized, Tells}
 use Rattle.separators.specs.declared.kinds.Kind.{Kind}
-use Rattle.values.specs.Value.{Value, number, textOf}
+use Rattle.values.specs.Value.{Value, number, Result, gives, stops, bind, textOf}
+use Rattle.values.specs.Operations.{fieldNumber}
 use Rattle.semantics.specs.World.{World, recordOf}
-use Rattle.semantics.specs.Operations.{fieldAt}
+use Rattle.semantics.specs.Operations.{fieldAt, only, getField}
 use Rattle.run_room.specs.Layout.{headSize, slotBytes, slotCount, entriesStart, baseEnd}
 use Rattle.run_room.specs.Room.{slotAt, lineOf, entriesTo, fieldsOf, Placed, Lined, Store, storeOf, withSlot}
 use Rattle.run_room.specs.Held.{SlotHeld, Held, Slotted, Shown, Did}
 use Rattle.run_room.specs.declared.lines.Line.{Line}
 use Rattle.run_room.proofs.Slotwise.{slot-before}
 use Rattle.run_room.proofs.Entrywise.{length-entries}
-use Rattle.run_room.proofs.Stored.{store-slot, held-slot}
-use Rattle.run_records.specs.Records.{fsSlot, Safe, Pends, InForce, Splits, SplitsAll, knownField, SeparatorOf}
+use Rattle.run_room.proofs.Stored.{store-slot, held-slot, did-nothing, did-so}
+use Rattle.run_records.specs.Records.{fsSlot, Safe, Pends, InForce, Splits, SplitsAll, knownField, SeparatorOf, Leaves}
+use Rattle.run_records.specs.Numbers.{FieldBy}
+use Rattle.run_records.specs.declared.numbers.FieldNumber.{FieldNumber}
 use Rattle.run_records.proofs.Turn.{line-kept, lined-few, splits-pends, splits-lined}
 use Rattle.run_records.proofs.Stored.{force-pends, store-split, store-all, all-lined, all-known, known-field}
 
@@ -115,3 +118,44 @@ separator-is edition x y t r from n e o k =
           rw (part-lent y from (from + n) n refl ∙ ap (λ (a : ℕ). part a n y) e ∙ o .bytes) at (k .0);
       sized = k .1;
     }
+
+-- ---- by the field number in a slot
+
+pub field-most : (q : Result ℕ) (f : FieldNumber) → FieldBy q f → f .stop ≡ 0 → f .k ≤ fieldCount
+field-most (gives k) f b e = omega (arith, b .1, b .2)
+field-most (stops z) f b e = absurd (b .1 e)
+
+module _ (edition : ℕ) (fs : List ℕ) (s : Separator) (w : World) (x : List ℕ) (l : Line) (a : ℕ) (f : FieldNumber) where
+  leaves-stop : (q : Result ℕ) → FieldBy q f → (f .stop ≡ 0 → ⊥) → InForce edition fs l s
+      → Leaves edition fs s w x x l l a (f .stop) (bind q (λ k. only w (gives (fieldAt w k))))
+  leaves-stop (gives k) b ne g = absurd (ne (b .0))
+  leaves-stop (stops z) b ne g = (b .0, ne, g, refl)
+
+  leaves-field : (q : Result ℕ) (y : List ℕ) (r : Line) → FieldBy q f → f .stop ≡ 0
+      → (InForce edition fs r s) × (storeOf y r s ≡ withSlot (storeOf x l s) a (fieldAt w (f .k)))
+      → Leaves edition fs s w x y l r a 0 (bind q (λ k. only w (gives (fieldAt w k))))
+  leaves-field (gives k) y r b e g =
+      (refl, g .0, fieldAt w k, refl, g .1 ∙ ap (λ (n : ℕ). withSlot (storeOf x l s) a (fieldAt w n)) (b .1))
+  leaves-field (stops z) y r b e g = absurd (b .1 e)
+
+-- what `load_field` says
+abbrev Loads : ℕ → List ℕ → Kind → List ℕ → List ℕ → Line → Line → ℕ → ℕ → Type 0
+Loads edition t kind x y l r a outcome =
+    Did x l y r (Safe x y r)
+    ((fs : List ℕ) → Tells edition fs t kind → (s : Separator) → InForce edition fs l s → (w : World)
+    → w .current ≡ recordOf (lineOf x l) (fieldsOf x l s) → Leaves edition fs s w x y l r a outcome (getField (slotAt x a) w))
+
+module _ (edition : ℕ) (t : List ℕ) (kind : Kind) (x : List ℕ) (l : Line) (a : ℕ) (f : FieldNumber) (b : FieldBy (fieldNumber (slotAt x a)) f) where
+  pub load-stop : Lined l → (f .stop ≡ 0 → ⊥) → Loads edition t kind x x l l a (f .stop)
+  load-stop lined ne =
+      did-nothing x l (record { size = refl; lined = lined })
+      (λ fs tells s g w ew. leaves-stop edition fs s w x l a f (fieldNumber (slotAt x a)) b ne g)
+
+  pub load-field : (y : List ℕ) (r : Line) → f .stop ≡ 0
+      → Did x l y r (Safe x y r)
+      ((fs : List ℕ) → Tells edition fs t kind → (s : Separator) → InForce edition fs l s → (w : World)
+      → w .current ≡ recordOf (lineOf x l) (fieldsOf x l s)
+      → (InForce edition fs r s) × (storeOf y r s ≡ withSlot (storeOf x l s) a (fieldAt w (f .k))))
+      → Loads edition t kind x y l r a 0
+  load-field y r e d =
+      did-so (λ h fs tells s g w ew. leaves-field edition fs s w x l a f (fieldNumber (slotAt x a)) y r b e (h fs tells s g w ew)) d

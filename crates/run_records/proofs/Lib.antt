@@ -3,3 +3,5 @@ pub mod Turn
 pub mod Stored
 pub mod Started
 pub mod Got
+pub mod Replaced
+pub mod Numbered

@@ -1,2 +1,3 @@
 -- The record and its fields.
 pub mod Records
+pub mod Numbers

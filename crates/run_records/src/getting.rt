@@ -9,12 +9,14 @@ ghost use Rattle.splitting.specs.Separator.{Separator};
 ghost use Rattle.separators.specs.Kinds.{Sized, Tells};
 ghost use Rattle.values.specs.Value.{number};
 ghost use Rattle.semantics.specs.World.{World, recordOf};
-ghost use Rattle.semantics.specs.Operations.{fieldAt};
+ghost use Rattle.semantics.specs.Operations.{fieldAt, getField};
 ghost use Rattle.run_room.specs.Layout.{slotCount, baseEnd};
-ghost use Rattle.run_room.specs.Room.{lineOf, fieldsOf, Lined, storeOf, withSlot};
+ghost use Rattle.run_room.specs.Room.{slotAt, lineOf, fieldsOf, Lined, storeOf, withSlot};
 ghost use Rattle.run_room.specs.Held.{Slotted, Did};
-ghost use Rattle.run_records.specs.Records.{Safe, InForce, knownField};
+ghost use Rattle.run_records.specs.Records.{Safe, InForce, knownField, Leaves};
+use crate::beginning::Begun;
 use crate::lines;
+use crate::numbers;
 use edition::Edition;
 use run_room::Line;
 use separators::Kind;
@@ -78,4 +80,34 @@ pub fn get_count(
     let r = lines::split_all(work, t, kind, edition, line);
     run_room::set_number(work, slot, Edition::NUMBER + r.known as u64);
     r
+}
+
+// Replaces the field number in a slot by the field's value: 11, 12, 16.
+pub fn load_field(
+    work: &mut [u8],
+    t: &[u64],
+    kind: Kind,
+    edition: Edition,
+    line: Line,
+    a: usize,
+) -> Begun
+    requires { ⌜ (baseEnd ≤ length (now work)) × Lined line × Sized kind (now t) × (a < slotCount) ⌝ }
+    ensures { λ r. ⌜ Did (now (work .entry)) line (now (work .exit)) (r .line) (Safe (now (work .entry)) (now (work .exit)) (r .line))
+        ((fs : List ℕ) → Tells (edition .number) fs (now (t .entry)) kind → (s : Separator) → InForce (edition .number) fs line s
+        → (w : World) → w .current ≡ recordOf (lineOf (now (work .entry)) line) (fieldsOf (now (work .entry)) line s)
+        → Leaves (edition .number) fs s w (now (work .entry)) (now (work .exit)) line (r .line) a (r .outcome)
+        (getField (slotAt (now (work .entry)) a) w)) ⌝ }
+{
+    let f = numbers::field_number(work, a);
+    if f.stop != 0 {
+        return Begun {
+            outcome: f.stop,
+            line: line,
+        };
+    }
+    let r = get_field(work, t, kind, edition, line, f.k, a);
+    Begun {
+        outcome: 0,
+        line: r,
+    }
 }
