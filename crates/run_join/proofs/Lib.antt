@@ -1,0 +1,6 @@
+-- Laws on fields joined and assigned.
+pub mod Grown
+pub mod Joined
+pub mod Measured
+pub mod Assigned
+pub mod Stored

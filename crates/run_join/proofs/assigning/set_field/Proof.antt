@@ -1,0 +1,149 @@
+-- `set_field` meets its contract: OFS shown, all fields split off, measured, and joined unless they are too long.
+use native.Mathlib.Omega.{arith}
+use mathlib.Core.Path.{_≡_, refl, _∙_}
+use Prim.Native.Nat.{_+_, _*_, _≤_}
+use lib.ListN.{length}
+use Rattle.buffer.specs.Parts.{part}
+use Rattle.buffer.proofs.Parts.{length-part}
+use Rattle.run_room.specs.Layout.{headSize, slotBytes, baseEnd}
+use Rattle.run_records.specs.Records.{ofsSlot}
+use Rattle.run_records.proofs.Stored.{all-lined}
+use Rattle.run_join.proofs.Assigned.{set-long, set-some}
+use borrow.Author.Needs.{needs}
+use Rattle.run_join.proofs.assigning.set_field.Statement.{statement}
+use Rattle.run_join.proofs.assigning.set_field.Tie as tie
+use Rattle.run_join.proofs.assigning.set_field.Reads as reads
+use Rattle.run_join.proofs.assigning.set_field.Lts as lts
+use Rattle.run_join.proofs.assigning.field_count.Reads as field-count-reads
+use Rattle.run_join.proofs.joining.join_all.Reads as join-all-reads
+use Rattle.run_join.proofs.measuring.measure.Reads as measure-reads
+use Rattle.run_records.proofs.split_all.Reads as split-all-reads
+use Rattle.run_room.proofs.show.Reads as show-reads
+
+-- src/assigning.rt:43:9
+show-requires : tie.Need-show-requires
+show-requires c κs = search needs
+
+-- src/assigning.rt:44:9
+split-all-requires : tie.Need-split-all-requires
+split-all-requires c κs = search needs
+
+-- src/assigning.rt:45:9
+field-count-requires : tie.Need-field-count-requires
+field-count-requires c κs = search needs
+
+-- src/assigning.rt:46:9
+measure-requires : tie.Need-measure-requires
+measure-requires c κs = search needs
+
+-- src/assigning.rt:48:9
+same-length : tie.Need-same-length
+same-length c = search needs
+
+-- src/assigning.rt:48:9
+returns : tie.Need-returns
+returns c =
+    let a = c .before .before .before .before .before .before .before .before .before .before .before .before .before .before .args in
+    let p = c .before .before .before .before .before .before .before .before .before .before .before .before .before .before .pre in
+    let u = c .before .before .before .before .before .before .before .before .before .before .show .last .0 in
+    let y = c .before .before .before .before .before .before .split-all .last .0 in
+    let o = c .before .before .before .before .before .before .before .before .before .before .show .ensures in
+    let d = c .before .before .before .before .before .before .split-all .ensures in
+    let fits : baseEnd ≤ length y = omega (arith, p .0, o .slotted .outside .size, d .outside .size) in
+    let b = part (ofsSlot * slotBytes + headSize) (c .before .before .before .before .before .before .before .before .before .before .show .result) y in
+    let lb : length b ≡ c .before .before .before .before .before .before .before .before .before .before .show .result = length-part (ofsSlot * slotBytes + headSize) (c .before .before .before .before .before .before .before .before .before .before .show .result) y (omega (arith, fits, o .most)) in
+    set-long (a .edition .number) (a .t .now) (a .kind) (a .work .now) u y (a .line) (c .before .before .before .before .before .before .split-all .result) (a .k) (a .v) (c .before .before .before .field-count .result) (c .before .before .before .before .before .before .before .before .before .before .show .result) (p .0) (p .1) o d (p .4) (c .before .before .before .field-count .ensures) (c .before .measure .ensures .long (c .if1 .taken) b lb)
+
+-- src/assigning.rt:53:16
+mul-from : tie.Need-mul-from
+mul-from c = search needs
+
+-- src/assigning.rt:53:16
+add-from : tie.Need-add-from
+add-from c = search needs
+
+-- src/assigning.rt:54:9
+join-all-requires : tie.Need-join-all-requires
+join-all-requires c κs =
+    let a = c .before .before .before .before .before .before .before .before .before .before .before .before .before .before .before .args in
+    let p = c .before .before .before .before .before .before .before .before .before .before .before .before .before .before .before .pre in
+    let u = c .before .before .before .before .before .before .before .before .before .before .before .show .last .0 in
+    let y = c .before .before .before .before .before .before .before .split-all .last .0 in
+    let o = c .before .before .before .before .before .before .before .before .before .before .before .show .ensures in
+    let d = c .before .before .before .before .before .before .before .split-all .ensures in
+    let fits : baseEnd ≤ length y = omega (arith, p .0, o .slotted .outside .size, d .outside .size) in
+    let b = part (ofsSlot * slotBytes + headSize) (c .before .before .before .before .before .before .before .before .before .before .before .show .result) y in
+    let lb : length b ≡ c .before .before .before .before .before .before .before .before .before .before .before .show .result = length-part (ofsSlot * slotBytes + headSize) (c .before .before .before .before .before .before .before .before .before .before .before .show .result) y (omega (arith, fits, o .most)) in (
+      fits,
+      (all-lined (a .edition .number) (a .t .now) (a .kind) u y (a .line) (c .before .before .before .before .before .before .before .split-all .result) (p .1 .placed) d) .placed,
+      omega (arith, c .before .before .before .before .field-count .ensures, p .3, d .few),
+      omega (arith, p .4),
+      o .most,
+      omega (arith, o .most),
+      omega (arith, c .before .before .measure .ensures .short (c .before .if1 .left) b lb, c .before .if1 .left),
+    )
+
+-- src/assigning.rt:58:19
+sub-t21 : tie.Need-sub-t21
+sub-t21 c =
+    let a = c .before .before .before .before .before .before .before .before .before .before .before .before .before .before .before .before .before .before .before .args in
+    let p = c .before .before .before .before .before .before .before .before .before .before .before .before .before .before .before .before .before .before .before .pre in
+    let u = c .before .before .before .before .before .before .before .before .before .before .before .before .before .before .before .show .last .0 in
+    let y = c .before .before .before .before .before .before .before .before .before .before .before .split-all .last .0 in
+    let o = c .before .before .before .before .before .before .before .before .before .before .before .before .before .before .before .show .ensures in
+    let d = c .before .before .before .before .before .before .before .before .before .before .before .split-all .ensures in
+    let fits : baseEnd ≤ length y = omega (arith, p .0, o .slotted .outside .size, d .outside .size) in
+    let b = part (ofsSlot * slotBytes + headSize) (c .before .before .before .before .before .before .before .before .before .before .before .before .before .before .before .show .result) y in
+    let lb : length b ≡ c .before .before .before .before .before .before .before .before .before .before .before .before .before .before .before .show .result = length-part (ofsSlot * slotBytes + headSize) (c .before .before .before .before .before .before .before .before .before .before .before .before .before .before .before .show .result) y (omega (arith, fits, o .most)) in
+    omega (arith, c .before .before .before .join-all .ensures .place, c .before .before .before .before .before .before .measure .ensures .short (c .before .before .before .before .before .if1 .left) b lb, c .before .before .before .before .before .if1 .left, d .side, p .1 .placed .side)
+
+-- src/assigning.rt:61:20
+add-t24 : tie.Need-add-t24
+add-t24 c =
+    let a = c .before .before .before .before .before .before .before .before .before .before .before .before .before .before .before .before .before .before .before .args in
+    let p = c .before .before .before .before .before .before .before .before .before .before .before .before .before .before .before .before .before .before .before .pre in
+    let u = c .before .before .before .before .before .before .before .before .before .before .before .before .before .before .before .show .last .0 in
+    let y = c .before .before .before .before .before .before .before .before .before .before .before .split-all .last .0 in
+    let o = c .before .before .before .before .before .before .before .before .before .before .before .before .before .before .before .show .ensures in
+    let d = c .before .before .before .before .before .before .before .before .before .before .before .split-all .ensures in
+    let fits : baseEnd ≤ length y = omega (arith, p .0, o .slotted .outside .size, d .outside .size) in
+    let b = part (ofsSlot * slotBytes + headSize) (c .before .before .before .before .before .before .before .before .before .before .before .before .before .before .before .show .result) y in
+    let lb : length b ≡ c .before .before .before .before .before .before .before .before .before .before .before .before .before .before .before .show .result = length-part (ofsSlot * slotBytes + headSize) (c .before .before .before .before .before .before .before .before .before .before .before .before .before .before .before .show .result) y (omega (arith, fits, o .most)) in
+    omega (arith, c .before .before .before .join-all .ensures .place, c .before .before .before .before .before .before .measure .ensures .short (c .before .before .before .before .before .if1 .left) b lb, c .before .before .before .before .before .if1 .left, d .side, p .1 .placed .side)
+
+-- src/assigning.rt:34:1
+same-length-2 : tie.Need-same-length-2
+same-length-2 c = search needs
+
+-- src/assigning.rt:34:1
+returns-2 : tie.Need-returns-2
+returns-2 c =
+    let a = c .before .before .before .before .before .before .before .before .before .before .before .before .before .before .before .before .before .before .before .args in
+    let p = c .before .before .before .before .before .before .before .before .before .before .before .before .before .before .before .before .before .before .before .pre in
+    let u = c .before .before .before .before .before .before .before .before .before .before .before .before .before .before .before .show .last .0 in
+    let y = c .before .before .before .before .before .before .before .before .before .before .before .split-all .last .0 in
+    let o = c .before .before .before .before .before .before .before .before .before .before .before .before .before .before .before .show .ensures in
+    let d = c .before .before .before .before .before .before .before .before .before .before .before .split-all .ensures in
+    let fits : baseEnd ≤ length y = omega (arith, p .0, o .slotted .outside .size, d .outside .size) in
+    let b = part (ofsSlot * slotBytes + headSize) (c .before .before .before .before .before .before .before .before .before .before .before .before .before .before .before .show .result) y in
+    let lb : length b ≡ c .before .before .before .before .before .before .before .before .before .before .before .before .before .before .before .show .result = length-part (ofsSlot * slotBytes + headSize) (c .before .before .before .before .before .before .before .before .before .before .before .before .before .before .before .show .result) y (omega (arith, fits, o .most)) in
+    set-some (a .edition .number) (a .t .now) (a .kind) (a .work .now) u y (a .line) (c .before .before .before .before .before .before .before .before .before .before .before .split-all .result) (a .k) (a .v) (c .before .before .before .before .before .before .before .before .field-count .result) (c .before .before .before .before .before .before .before .before .before .before .before .before .before .before .before .show .result) (p .0) (p .1) o d (p .4) (c .before .before .before .before .before .before .before .before .field-count .ensures) (c .before .before .before .join-all .last .0) _ (c .before .before .before .join-all .result) (omega (arith, c .before .before .before .before .before .before .before .before .field-count .ensures, p .3, d .few)) (c .before .before .before .join-all .ensures)
+    (omega (arith, c .before .before .before .before .before .before .measure .ensures .short (c .before .before .before .before .before .if1 .left) b lb, c .before .before .before .before .before .if1 .left)) refl refl refl refl
+
+pub set-field-spec : {M : Type 1} → statement M
+set-field-spec =
+    tie.close
+    (tie.spec
+    show-requires
+    split-all-requires
+    field-count-requires
+    measure-requires
+    same-length
+    returns
+    mul-from
+    add-from
+    join-all-requires
+    sub-t21
+    add-t24
+    same-length-2
+    returns-2)

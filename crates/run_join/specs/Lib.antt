@@ -1,0 +1,3 @@
+-- Fields joined, and assigned.
+pub mod Join
+pub mod Stores
