@@ -1,4 +1,4 @@
--- The fields after an assignment, and the rooms on the way.
+-- Internal: cited by private contracts only. The fields after an assignment, and the rooms on the way.
 use mathlib.Core.Path.{_≡_}
 use mathlib.Core.Logic.{_⊎_}
 use mathlib.Core.Bool.{cond}

@@ -1,4 +1,4 @@
--- Document 01, "Values": a field that is assigned, as the definition has it.
+-- Internal: cited by private contracts only. Document 01, "Values": a field that is assigned, as the definition has it.
 use mathlib.Core.Path.{_≡_}
 use mathlib.Core.List.{List, [], _∷_}
 use Prim.Native.Nat.{ℕ, _+_}

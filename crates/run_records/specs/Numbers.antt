@@ -1,4 +1,4 @@
--- What the code answers for the number of a value, and for a field number.
+-- Internal: cited by private contracts only. What the code answers for the number of a value, and for a field number.
 use mathlib.Core.Path.{_≡_}
 use Prim.Native.Nat.{ℕ, _≤_}
 use lib.IntN.{ℤ}
