@@ -3,3 +3,4 @@ pub mod Below
 pub mod Naming
 pub mod Bytes
 pub mod Assigning
+pub mod Counting

@@ -1,2 +1,3 @@
--- The table of codes, as numbers.
+-- The table of codes, as numbers, and that of the special variables.
 pub mod Rows
+pub mod Sources

@@ -5,8 +5,30 @@ ghost use Rattle.image_format.specs.Image.{known};
 ghost use Rattle.opcodes.specs.Rows.{isKnown, rowIn, operandsIn};
 use edition::Edition;
 
-// The codes that the rules of a section and of its flow speak of.
+// The codes that go by their number elsewhere too.
 pub const END: u64 = 0;
+
+pub const ADD: u64 = 7;
+
+pub const SUBTRACT: u64 = 8;
+
+pub const MULTIPLY: u64 = 9;
+
+pub const DIVIDE: u64 = 10;
+
+pub const REMAINDER: u64 = 11;
+
+pub const LESS: u64 = 15;
+
+pub const AT_MOST: u64 = 16;
+
+pub const EQUAL: u64 = 17;
+
+pub const DIFFERENT: u64 = 18;
+
+pub const GREATER: u64 = 19;
+
+pub const AT_LEAST: u64 = 20;
 
 pub const JUMP: u64 = 27;
 

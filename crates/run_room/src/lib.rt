@@ -31,6 +31,7 @@ pub use slots::set_value;
 pub use slots::slot_kind;
 pub use slots::slot_number;
 pub use texts::set_constant;
+pub use texts::set_length;
 pub use texts::set_text;
 pub use texts::show;
 pub use texts::slot_text;

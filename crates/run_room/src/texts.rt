@@ -6,7 +6,7 @@ ghost use lib.ListN.{length};
 ghost use Rattle.edition.specs.Limits.{textBytes};
 ghost use Rattle.values.specs.Value.{text, textOf};
 ghost use Rattle.buffer.specs.Parts.{part};
-ghost use Rattle.run_room.specs.Layout.{slotsEnd, slotCount};
+ghost use Rattle.run_room.specs.Layout.{headSize, slotBytes, slotsEnd, slotCount};
 ghost use Rattle.run_room.specs.Room.{slotAt, isNumber, Texted};
 ghost use Rattle.run_room.specs.Held.{SlotHeld, Slotted, Shown};
 use crate::blocks;
@@ -61,6 +61,14 @@ pub fn set_constant(work: &mut [u8], i: usize, image: &[u8], from: usize, n: usi
         return;
     }
     lanes::copy(work, i * SLOT + HEAD, &image[from..end]);
+}
+
+// Sets a slot to the first n of its text bytes, as a text.
+pub fn set_length(work: &mut [u8], i: usize, n: usize)
+    requires { ⌜ (slotsEnd ≤ length (now work)) × (i < slotCount) × (n ≤ textBytes) ⌝ }
+    ensures { λ _. ⌜ Slotted (now (work .entry)) (now (work .exit)) i (text (part (i * slotBytes + headSize) n (now (work .entry)))) Unit ⌝ }
+{
+    slots::put_head(work, i * SLOT, TEXT, n, 0);
 }
 
 // Returns the length of the text of a slot's value, which is in the slot: a number's is written there. The value stays as it is.
