@@ -1,18 +1,17 @@
 -- A step of the code is the next field.
-use mathlib.Core.Path.{_≡_, refl, sym, ap, subst, _∙_}
-use mathlib.Core.Bool.{Bool, true, false, cond, not, Bool·beq, true≢false}
+use mathlib.Core.Path.{_≡_, sym, ap, subst, _∙_}
+use mathlib.Core.Bool.{Bool, true, false}
 use mathlib.Core.List.{List}
 use Prim.Native.Nat.{ℕ, suc, _+_, _-_, _≤_, _<_}
 use native.Mathlib.Omega.{arith}
 use lib.ListN.{length, drop, length-drop}
 use borrow.Rule.Slice.PartMut.{midOf}
-use borrow.Author.Tests.{lt-ltb, le-ltb, le-leb}
-use Rattle.lists.specs.Elements.{oneOf, leading}
+use borrow.Author.Tests.{le-ltb, le-leb}
+use Rattle.lists.specs.Elements.{leading}
 use Rattle.buffer.specs.First.{firstByte}
 use Rattle.buffer.proofs.First.{first-byte-most}
 use Rattle.buffer.proofs.Lent.{tail-lent}
-use Rattle.ere_meaning.specs.Tree.{Class, accepts, Ere}
-use Rattle.ere_meaning.specs.Meaning.{Match}
+use Rattle.ere_meaning.specs.Tree.{Class, Ere}
 use Rattle.ere_search.specs.Find.{Finds, Inside, matchOf}
 use Rattle.ere_search.specs.declared.search.Found.{Found}
 use Rattle.ere_search.specs.declared.search.Found.the-variants.{At}
@@ -23,18 +22,9 @@ use native.Mathlib.Numerals.{add-one}
 use Rattle.splitting.proofs.Turns.{word-more, blank-field, goes}
 use Rattle.splitting.specs.Field.{span, Next, field, none, Goes, isIn, untilSeparator, nextField}
 
--- a byte is not of the kind that is looked for, or is
-pub other-kind : (inside x : Bool) (set : List ℕ) (b : ℕ) → x ≡ oneOf set b → not (Bool·beq x inside) ≡ true → isIn inside set b ≡ false
-other-kind true true set b e h = absurd (true≢false (sym h))
-other-kind true false set b e h = sym e
-other-kind false true set b e h = ap not (sym e)
-other-kind false false set b e h = absurd (true≢false (sym h))
-
-pub same-kind : (inside x : Bool) (set : List ℕ) (b : ℕ) → x ≡ oneOf set b → not (Bool·beq x inside) ≡ false → isIn inside set b ≡ true
-same-kind true true set b e h = sym e
-same-kind true false set b e h = absurd (true≢false h)
-same-kind false true set b e h = absurd (true≢false h)
-same-kind false false set b e h = ap not (sym e)
+-- a run of the bytes of a set, or of the others
+pub run-kind : (inside x : Bool) (set t : List ℕ) → inside ≡ x → leading (isIn x set) t ≡ leading (isIn inside set) t
+run-kind inside x set t e = ap (λ (y : Bool). leading (isIn y set) t) (sym e)
 
 module _ (text : List ℕ) (at : ℕ) where
   -- ---- blanks
@@ -55,20 +45,20 @@ module _ (text : List ℕ) (at : ℕ) where
 
   -- ---- a byte
 
-  pub byte-size : (b n : ℕ) → at ≤ length text → n ≡ firstByte b (midOf at (length text - at) text) → at + n ≤ length text
-  byte-size b n h e =
+  pub byte-within : (b end : ℕ) → at ≤ length text → end ≡ at + firstByte b (drop at text)
+      → (at ≤ end) × (end ≤ length text)
+  byte-within b end h e =
       let l = length-drop at text in
       let m = first-byte-most b (drop at text) in
-      let z = e ∙ ap (firstByte b) (tail-lent text at) in
-      omega arith
+      (omega arith, omega arith)
 
-  pub byte-is : (b n : ℕ) → at ≤ length text → n ≡ firstByte b (midOf at (length text - at) text)
-      → field (span at n) (at + n + 1) ≡ nextField text (byte b) at
+  pub byte-is : (b end : ℕ) → at ≤ length text → end ≡ at + firstByte b (drop at text)
+      → field (span at (end - at)) (end + 1) ≡ nextField text (byte b) at
   unfolding nextField
-  byte-is b n h e =
-      let z = e ∙ ap (firstByte b) (tail-lent text at) in
-      let s : at + n + 1 ≡ suc (at + n) = omega arith in
-      rw (le-leb at (length text) h, ← z, s)
+  byte-is b end h e =
+      let n : end - at ≡ firstByte b (drop at text) = omega arith in
+      let s : end + 1 ≡ suc (at + firstByte b (drop at text)) = omega arith in
+      rw (le-leb at (length text) h, n, s)
 
   -- ---- an ERE
 

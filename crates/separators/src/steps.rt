@@ -2,7 +2,7 @@
 ghost use mathlib.Core.Path.{_≡_};
 ghost use Prim.Native.Nat.{_+_, _≤_};
 ghost use lib.ListN.{length, drop};
-ghost use Rattle.lists.specs.Elements.{oneOf, leading};
+ghost use Rattle.lists.specs.Elements.{leading};
 ghost use Rattle.ere_meaning.specs.Tree.{Class, Ere};
 ghost use Rattle.ere_table.specs.Table.{tableWords};
 ghost use Rattle.ere.specs.Answer.{Serves};
@@ -22,28 +22,15 @@ pub struct Step {
     pub after: usize,
 }
 
-fn is_blank(b: u8, edition: Edition) -> bool
-    ensures { λ r. ⌜ r ≡ oneOf (blanks (edition .number)) b ⌝ }
-{
-    if 32 < b {
-        return false;
-    }
-    b == 32 || b == 9
-}
-
-// The end of the blanks from `at` on, or, where `blank` is false, of the other bytes.
+// Returns the end of the run of blanks from `at` on, or, if `blank` is false, of the run of other bytes.
 fn run_end(text: &[u8], edition: Edition, blank: bool, at: usize) -> usize
     requires { ⌜ at ≤ length (now text) ⌝ }
     ensures { λ r. ⌜ r ≡ at + leading (isIn «blank» (blanks (edition .number))) (drop at (now (text .entry))) ⌝ }
 {
-    let mut i = at;
-    while i < text.len() {
-        if is_blank(text[i], edition) != blank {
-            return i;
-        }
-        i += 1;
+    if blank {
+        return lanes::past_two(text, at, 32, 9);
     }
-    i
+    lanes::first_of_two(text, at, 32, 9)
 }
 
 fn next_word(text: &[u8], edition: Edition, at: usize) -> Step
@@ -74,12 +61,12 @@ fn next_by_byte(text: &[u8], b: u8, at: usize) -> Step
     requires { ⌜ at ≤ length (now text) ⌝ }
     ensures { λ r. ⌜ (Goes at (length (now (text .entry))) (nextOf r)) × (nextOf r ≡ nextField (now (text .entry)) (byte b) at) ⌝ }
 {
-    let n = buffer::first_byte(&text[at..], b);
+    let end = lanes::first_byte_from(text, at, b);
     Step {
         found: true,
         start: at,
-        size: n,
-        after: at + n + 1,
+        size: end - at,
+        after: end + 1,
     }
 }
 

@@ -1,43 +1,30 @@
--- `next_by_byte` meets its contract, by what `first_byte` answers.
-use Rattle.separators.proofs.Stepping.{byte-size, byte-is, next-goes}
-use Rattle.splitting.specs.Separator.{byte}
+-- `next_by_byte` meets its contract, by what `first_byte_from` answers.
 use native.Mathlib.Omega.{arith}
+use Rattle.splitting.specs.Separator.{byte}
+use Rattle.separators.proofs.Stepping.{byte-within, byte-is, next-goes}
 use borrow.Author.Needs.{needs}
 use Rattle.separators.proofs.steps.next_by_byte.Statement.{statement}
 use Rattle.separators.proofs.steps.next_by_byte.Tie as tie
 
-sub-first-byte : tie.Need-sub-first-byte
-sub-first-byte c = search needs
+first-byte-from-requires : tie.Need-first-byte-from-requires
+first-byte-from-requires c κs = search needs
 
-part-first-byte-start : tie.Need-part-first-byte-start
-part-first-byte-start c = search needs
-
-part-first-byte-end : tie.Need-part-first-byte-end
-part-first-byte-end c = search needs
-
-first-byte-requires : tie.Need-first-byte-requires
-first-byte-requires c κs = search needs
+sub-t5 : tie.Need-sub-t5
+sub-t5 c = search needs
 
 add-t6 : tie.Need-add-t6
-add-t6 c = omega (arith, byte-size (c .before .before .before .args .text .now) (c .before .before .before .args .at) (c .before .before .before .args .b) (c .first-byte .result) (c .before .before .before .pre) (c .first-byte .ensures))
-
-add-t9 : tie.Need-add-t9
-add-t9 c = omega (arith, byte-size (c .before .before .before .args .text .now) (c .before .before .before .args .at) (c .before .before .before .args .b) (c .first-byte .result) (c .before .before .before .pre) (c .first-byte .ensures))
+add-t6 c =
+    let a = c .before .before .args in
+    let f = c .first-byte-from in
+    let h = byte-within (a .text .now) (a .at) (a .b) (f .result) (c .before .before .pre) (f .ensures) in
+    omega (arith, h .1)
 
 returns : tie.Need-returns
 returns c =
-    let a = c .before .before .before .args in
-    let e = byte-is (a .text .now) (a .at) (a .b) (c .first-byte .result) (c .before .before .before .pre) (c .first-byte .ensures) in
+    let a = c .before .before .args in
+    let f = c .first-byte-from in
+    let e = byte-is (a .text .now) (a .at) (a .b) (f .result) (c .before .before .pre) (f .ensures) in
     (next-goes (a .text .now) (a .at) (byte (a .b)) _ e, e)
 
 pub next-by-byte-spec : {M : Type 1} → statement M
-next-by-byte-spec =
-    tie.close
-    (tie.spec
-    sub-first-byte
-    part-first-byte-start
-    part-first-byte-end
-    first-byte-requires
-    add-t6
-    add-t9
-    returns)
+next-by-byte-spec = tie.close (tie.spec first-byte-from-requires sub-t5 add-t6 returns)
