@@ -10,7 +10,6 @@ pub use search::Found;
 pub use search::Order;
 pub use search::compare;
 pub use search::equal;
-pub use search::find;
 pub use search::first_byte;
 pub use words::get_short;
 pub use words::get_word;

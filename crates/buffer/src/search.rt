@@ -1,8 +1,8 @@
-// Comparison of byte strings, and the first place of a byte or of a part.
+// Comparison of byte strings, and the first place of a byte.
 ghost use mathlib.Core.Path.{_≡_};
 ghost use lib.ListN.{length};
 ghost use Rattle.buffer.specs.Order.{ordering, equalBytes};
-ghost use Rattle.buffer.specs.First.{firstByte, firstPart, foundOf};
+ghost use Rattle.buffer.specs.First.{firstByte};
 
 // How one byte string stands to another.
 pub enum Order {
@@ -11,7 +11,7 @@ pub enum Order {
     Greater,
 }
 
-// Where something was found.
+// Where a part was found; `foundOf` of specs/First.antt says what an answer means.
 pub enum Found {
     At(usize),
     Nothing,
@@ -69,20 +69,4 @@ pub fn first_byte(s: &[u8], b: u8) -> usize
         k += 1;
     }
     k
-}
-
-// The first index of `s` at which `t` stands. An empty `t` stands at index 0.
-pub fn find(s: &[u8], t: &[u8]) -> Found
-    ensures { λ r. ⌜ foundOf r ≡ firstPart (now (t .entry)) (now (s .entry)) ⌝ }
-{
-    let mut k = 0;
-    let mut e = t.len();
-    while e <= s.len() {
-        if equal(&s[k..e], t) {
-            return Found::At(k);
-        }
-        k += 1;
-        e += 1;
-    }
-    Found::Nothing
 }

@@ -1,7 +1,8 @@
-// Bytes in slices, many at a time: the first place of a byte or of one of two, and copies.
+// Bytes in slices, many at a time: the first place of a byte, of one of two, or of a part, and copies.
 mod blocks;
 mod copies;
 mod pairs;
+mod parts;
 mod search;
 mod words;
 
@@ -11,6 +12,7 @@ pub use copies::copy_over;
 pub use pairs::first_byte_from;
 pub use pairs::first_of_two;
 pub use pairs::past_two;
+pub use parts::find;
 pub use search::first_byte;
 pub use words::first_in_8;
 pub use words::lanes_of;

@@ -28,7 +28,7 @@ fn finds_part(p: &[u8]) -> bool {
     }
     let middle = 6 + n;
     found(
-        buffer::find(&p[middle..], &p[6..middle]),
+        lanes::find(&p[middle..], &p[6..middle]),
         p[1],
         vectors_frames::short(p, 2),
     )
