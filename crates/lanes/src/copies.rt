@@ -26,13 +26,34 @@ fn copy_8(dst: &mut [u8], to: usize, src: &[u8], from: usize)
     put_word(dst, to, get_word(src, from));
 }
 
-// Copies less than 16 bytes: the first eight and the last eight, which may overlap, or byte by byte.
+// Copies four bytes in the same way; they are compiled to one read and one write.
+fn copy_4(dst: &mut [u8], to: usize, src: &[u8], from: usize)
+    requires { ⌜ (to + 4 ≤ length (now dst)) × (from + 4 ≤ length (now src)) ⌝ }
+    ensures { λ _. ⌜ now (dst .exit) ≡ put (now (dst .entry)) to (part from 4 (now (src .entry))) ⌝ }
+{
+    let a = src[from];
+    let b = src[from + 1];
+    let c = src[from + 2];
+    let d = src[from + 3];
+    dst[to] = a;
+    dst[to + 1] = b;
+    dst[to + 2] = c;
+    dst[to + 3] = d;
+}
+
+// Copies less than 16 bytes: the first eight and the last eight, which may overlap, or four and four, or byte by byte.
 fn copy_short(dst: &mut [u8], at: usize, src: &[u8])
     requires { ⌜ (at + length (now src) ≤ length (now dst)) × (length (now src) < 16) ⌝ }
     ensures { λ _. ⌜ now (dst .exit) ≡ put (now (dst .entry)) at (now (src .entry)) ⌝ }
 {
-    if src.len() < 8 {
+    if src.len() < 4 {
         buffer::copy(dst, at, src);
+        return;
+    }
+    if src.len() < 8 {
+        let last = src.len() - 4;
+        copy_4(dst, at, src, 0);
+        copy_4(dst, at + last, src, last);
         return;
     }
     let last = src.len() - 8;
