@@ -8,7 +8,7 @@ use lib.Dec.{eqb}
 use Rattle.lists.specs.Elements.{allBelow}
 use Rattle.lists.proofs.Elements.{below-at}
 use Rattle.lists.proofs.Tests.{beq-same}
-use Rattle.program_tokens.specs.Kinds.{Kind, NUMBER, STRING, NEXT, open-paren, dollar, ERE, among, same, rank}
+use Rattle.program_tokens.specs.Kinds.{Kind, newline, NUMBER, STRING, NEXT, open-paren, dollar, ERE, among, same, rank}
 use Rattle.program_grammar.specs.Sets.{names, prefixes, enders}
 use Rattle.program_lexer.specs.Coded.{kindOf, kindCount}
 use Rattle.program_parser.specs.Tables.{forms}
@@ -21,6 +21,10 @@ agree f g h n l = beq-same (f n) (g (kindOf n)) (below-at (λ m. Bool·beq (f m)
 pub ender-kind : (n : ℕ) → n < kindCount → (eqb n 1 || eqb n 43) ≡ among enders (kindOf n)
 unfolding allBelow among kindOf rank
 ender-kind n h = agree (λ m. eqb m 1 || eqb m 43) (among enders) refl n h
+
+pub newline-kind : (n : ℕ) → n < kindCount → (eqb n 1 || false) ≡ among (newline ∷ []) (kindOf n)
+unfolding allBelow among kindOf rank
+newline-kind n h = agree (λ m. eqb m 1 || false) (among (newline ∷ [])) refl n h
 
 pub name-kind : (n : ℕ) → n < kindCount → (eqb n 7 || (eqb n 8 || eqb n 9)) ≡ among names (kindOf n)
 unfolding allBelow among kindOf rank

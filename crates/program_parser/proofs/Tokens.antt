@@ -131,7 +131,7 @@ unfolding ereRead
 read-kind P y z a n none = y
 read-kind P y z a n (some e) = z
 
-ere-kind : (P : Kind → Type 0) → P bad → P bad-ere → P ERE → (edition a : ℕ) (l : List ℕ) (o : Option ℕ) → P (ereToken edition a l o .kind)
+pub ere-kind : (P : Kind → Type 0) → P bad → P bad-ere → P ERE → (edition a : ℕ) (l : List ℕ) (o : Option ℕ) → P (ereToken edition a l o .kind)
 unfolding ereToken
 ere-kind P x y z edition a l none = x
 ere-kind P x y z edition a l (some n) = read-kind P y z a (2 + n) (readEre edition (take n l))
@@ -147,7 +147,7 @@ module _ (edition a : ℕ) (l : List ℕ) where
   ere-shaped none h = shaped a (suc (length l)) bad 1 (omega arith) (omega arith)
   ere-shaped (some n) h = read-shaped n (readEre edition (take n l)) h
 
-abbrev Slashes : List Kind
+abbrev pub Slashes : List Kind
 Slashes = slash ∷ div-assign ∷ []
 
 no-slash : (edition a : ℕ) (l : List ℕ) (o : Option ℕ) → isOneOf Slashes (ereToken edition a l o) ≡ false
@@ -202,7 +202,7 @@ module _ (edition : ℕ) (s : List ℕ) where
 
   -- ---- a token where the grammar allows an operand
 
-  abbrev Again : Token → Token
+  abbrev pub Again : Token → Token
   Again t = ereToken edition (t .start) (drop (suc (t .start)) s) (ereLength false (drop (suc (t .start)) s))
 
   -- what is read again is no slash any more

@@ -2,3 +2,4 @@
 pub mod Tables
 pub mod Meaning
 pub mod Reading
+pub mod Passing

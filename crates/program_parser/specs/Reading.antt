@@ -103,7 +103,7 @@ module _ (edition : ℕ) (s : List ℕ) where
   pub record ReadExpression (t : Token) (n d : ℕ) (xs : List ℕ) (e : Expression) (u : Token) (r : Read) (ys : List ℕ) : Type 0 where
     pub answer : r ≡ success u (n + size e) (formOf edition e)
     pub good : Good (t .stop) u
-    pub bound : size e + 8 * t .start ≤ 8 * u .start
+    pub bound : size e + 8 * t .start < 8 * u .start
     pub wrote : Wrote edition s xs n (compile e n d) ys
     pub named : (v : List ℕ) → e ≡ variable v → nameAt edition s (t .start) ≡ v
 

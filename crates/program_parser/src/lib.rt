@@ -1,7 +1,8 @@
-// The reader of filter texts: it reads a text once, by its tokens, and writes the code of each section.
-mod calls;
-mod kinds;
-mod operators;
-mod read;
+// The base of the reader of filter texts: its tables, what it answers, and the tokens after a token.
+pub mod calls;
+pub mod kinds;
+pub mod newlines;
+pub mod operators;
+pub mod read;
 
 pub use read::Read;

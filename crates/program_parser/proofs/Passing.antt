@@ -22,7 +22,8 @@ use Rattle.program_parser.proofs.Tokens.{good-after, good-past}
 use Rattle.program_parser.proofs.Codes.{kind-below, decoded-back}
 use Rattle.program_parser.proofs.Sets.{ender-kind, newline-kind}
 
-pub passing-kind : (semicolons : Bool) (n : ℕ) → n < kindCount → (eqb n 1 || (semicolons && eqb n 43)) ≡ among (passing semicolons) (kindOf n)
+pub passing-kind : (semicolons : Bool) (n : ℕ) → n < kindCount → (eqb n 1 || (semicolons && eqb n 43))
+    ≡ among (passing semicolons) (kindOf n)
 passing-kind true n h = ender-kind n h
 passing-kind false n h = newline-kind n h
 
@@ -33,7 +34,8 @@ begun true k e = ne-eqb (rank k) 0 (λ z. clash (sym e ∙ rw z))
 begun false k e = ne-eqb (rank k) 0 (λ z. clash (sym e ∙ rw z))
 
 module _ (edition : ℕ) (s : List ℕ) where
-  pub pass-start : (ks : List Kind) (t : Coded) → Good edition s 0 (decoded t) → t .kind < kindCount → Passes edition s ks t t
+  pub pass-start : (ks : List Kind) (t : Coded) → Good edition s 0 (decoded t) → t .kind < kindCount
+      → Passes edition s ks t t
   pass-start ks t g h = record { good = g; known = h; left = length s; enough = omega arith; same = refl }
 
   still : (ks : List Kind) (n : ℕ) (t : Token) → isOneOf ks t ≡ false → pastIn edition s ks n t ≡ t
@@ -41,7 +43,8 @@ module _ (edition : ℕ) (s : List ℕ) where
   still ks zero t e = refl
   still ks (suc n) t e = rw e
 
-  turned : (ks : List Kind) (n : ℕ) (t : Token) → isOneOf ks t ≡ true → 0 < n → pastIn edition s ks n t ≡ pastIn edition s ks (n - 1) (tokenAfter edition s t)
+  turned : (ks : List Kind) (n : ℕ) (t : Token) → isOneOf ks t ≡ true → 0 < n → pastIn edition s ks n t
+      ≡ pastIn edition s ks (n - 1) (tokenAfter edition s t)
   unfolding pastIn
   turned ks zero t e h = absurd (omega arith)
   turned ks (suc n) t e h =
@@ -49,12 +52,15 @@ module _ (edition : ℕ) (s : List ℕ) where
       rw e (ap (λ (k : ℕ). pastIn edition s ks k (tokenAfter edition s t)) m)
 
   module _ (semicolons : Bool) (t u : Coded) (p : Passes edition s (passing semicolons) t u) where
-    pub pass-done : among (passing semicolons) (kindOf (u .kind)) ≡ false → u ≡ coded (past edition s (passing semicolons) (decoded t))
+    pub pass-done : among (passing semicolons) (kindOf (u .kind)) ≡ false → u
+        ≡ coded (past edition s (passing semicolons) (decoded t))
     pass-done e =
-        let back : u ≡ coded (decoded u) = ap (λ (k : ℕ). record { start = u .start; kind = k; stop = u .stop }) (sym (rank-of (u .kind) (p .known))) in
+        let back : u ≡ coded (decoded u) = ap (λ (k : ℕ). record { start = u .start; kind = k; stop = u .stop })
+        (sym (rank-of (u .kind) (p .known))) in
         back ∙ ap coded (sym (still (passing semicolons) (p .left) (decoded u) e) ∙ p .same)
 
-    module _ (v : Coded) (e : among (passing semicolons) (kindOf (u .kind)) ≡ true) (f : v ≡ coded (tokenAfter edition s (decoded u))) where
+    module _ (v : Coded) (e : among (passing semicolons) (kindOf (u .kind)) ≡ true)
+        (f : v ≡ coded (tokenAfter edition s (decoded u))) where
       w : Token
       w = tokenAfter edition s (decoded u)
 
@@ -75,16 +81,26 @@ module _ (edition : ℕ) (s : List ℕ) where
       pub pass-more : Passes edition s (passing semicolons) t v
       unfolding w
       pass-more =
-          let back : decoded v ≡ tokenAfter edition s (decoded u) = decoded-back v (tokenAfter edition s (decoded u)) f in
+          let back : decoded v ≡ tokenAfter edition s (decoded u) = decoded-back v (tokenAfter edition s (decoded u))
+          f in
           let kind : v .kind ≡ rank (tokenAfter edition s (decoded u) .kind) = ap (λ (x : Coded). x .kind) f in
           record {
-            good = subst (λ (x : Token). Good edition s 0 x) (sym back) (record { after = omega arith; ordered = after .ordered; within = after .within; longer = after .longer; placed = after .placed });
+            good = subst (λ (x : Token). Good edition s 0 x) (sym back)
+                (record {
+                  after = omega arith;
+                  ordered = after .ordered;
+                  within = after .within;
+                  longer =
+                      after .longer;
+                  placed = after .placed;
+                });
             known = omega (arith, kind, kind-below (tokenAfter edition s (decoded u) .kind));
             left = p .left - 1;
             enough = omega (arith, longer, after .after, starts, p .enough, p .good .within);
             same =
                 ap (pastIn edition s (passing semicolons) (p .left - 1)) back
-                ∙ (sym (turned (passing semicolons) (p .left) (decoded u) e (omega (arith, longer, p .enough, p .good .within))) ∙ p .same);
+                ∙ (sym (turned (passing semicolons) (p .left) (decoded u) e
+                (omega (arith, longer, p .enough, p .good .within))) ∙ p .same);
           }
 
   -- ---- "newlines may follow"
@@ -98,5 +114,7 @@ module _ (edition : ℕ) (s : List ℕ) where
         let a : u .start ≡ x .start = ap (λ (y : Coded). y .start) e in
         (omega (arith, k, kind-below (x .kind)), omega (arith, a, f .ordered, f .within))
 
-    pub newlines-again : (r : Coded) → r ≡ coded (asOperand edition s (decoded u)) → r ≡ coded (pastNewlines edition s (decoded t))
-    newlines-again r h = h ∙ ap (λ (x : Token). coded (asOperand edition s x)) (decoded-back u (past edition s (passing false) (decoded t)) e)
+    pub newlines-again : (r : Coded) → r ≡ coded (asOperand edition s (decoded u)) → r
+        ≡ coded (pastNewlines edition s (decoded t))
+    newlines-again r h = h ∙ ap (λ (x : Token). coded (asOperand edition s x))
+        (decoded-back u (past edition s (passing false) (decoded t)) e)

@@ -38,25 +38,29 @@ module _ (edition : ℕ) (s : List ℕ) where
   word-spells o d x operand f h = one-more (word-means o d x operand f h) none-left
 
   -- a run that goes on where another ends
-  pub wrote-after : (xs ys zs : List ℕ) (n m : ℕ) (is js : List Emitted) → n + length is ≡ m → Wrote edition s xs n is ys
+  pub wrote-after : (xs ys zs : List ℕ) (n m : ℕ) (is js : List Emitted) → n + length is ≡ m
+      → Wrote edition s xs n is ys
       → Wrote edition s ys m js zs → Wrote edition s xs n (is ++ js) zs
   wrote-after xs ys zs n m is js e a b =
       let at : n + length (a .words) ≡ m = omega (arith, e, spell-length (a .spelled)) in
       record {
         words = a .words ++ b .words;
         stored =
-            b .stored ∙ (ap (λ (l : List ℕ). sets l m (b .words)) (a .stored) ∙ sets-after (a .words) (b .words) xs n m at);
+            b .stored ∙ (ap (λ (l : List ℕ). sets l m (b .words)) (a .stored)
+            ∙ sets-after (a .words) (b .words) xs n m at);
         spelled = spell-append (a .spelled) (b .spelled);
       }
 
   -- a run that is stored before one that begins where it ends: a jump whose target was not known
-  pub wrote-before : (xs ys zs : List ℕ) (j m : ℕ) (is js : List Emitted) → j + length is ≡ m → Wrote edition s xs m js ys
+  pub wrote-before : (xs ys zs : List ℕ) (j m : ℕ) (is js : List Emitted) → j + length is ≡ m
+      → Wrote edition s xs m js ys
       → Wrote edition s ys j is zs → Wrote edition s xs j (is ++ js) zs
   wrote-before xs ys zs j m is js e b a =
       let at : j + length (a .words) ≡ m = omega (arith, e, spell-length (a .spelled)) in
       record {
         words = a .words ++ b .words;
         stored =
-            a .stored ∙ (ap (λ (l : List ℕ). sets l j (a .words)) (b .stored) ∙ sets-before (a .words) (b .words) xs m j at);
+            a .stored ∙ (ap (λ (l : List ℕ). sets l j (a .words)) (b .stored)
+            ∙ sets-before (a .words) (b .words) xs m j at);
         spelled = spell-append (a .spelled) (b .spelled);
       }

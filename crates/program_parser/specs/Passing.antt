@@ -1,4 +1,4 @@
--- The kinds that a reader passes, and how far it is.
+-- Internal: cited by private contracts only. The kinds that a reader passes, and how far it is.
 use mathlib.Core.Path.{_≡_}
 use mathlib.Core.Bool.{Bool, cond}
 use mathlib.Core.List.{List, [], _∷_}
