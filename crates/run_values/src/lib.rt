@@ -1,0 +1,21 @@
+// Operations on the values of operands. Each takes its operands from slot `a` on, leaves its value in slot `a`, and
+// returns 0 or the outcome that it stops with; a stop leaves all values as they were.
+mod arithmetic;
+mod comparing;
+mod numbers;
+mod texts;
+
+pub use arithmetic::calculate;
+pub use arithmetic::negate;
+pub use arithmetic::to_number;
+pub use comparing::compare;
+pub use numbers::Judged;
+pub use numbers::Truth;
+pub use numbers::is_true;
+pub use numbers::judge;
+pub use numbers::negation;
+pub use numbers::set_truth;
+pub use texts::index;
+pub use texts::join;
+pub use texts::length_of;
+pub use texts::substr;
