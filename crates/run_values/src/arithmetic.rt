@@ -48,15 +48,16 @@ pub fn calculate(work: &mut [u8], a: usize, code: u64) -> u64
     ensures { λ r. ⌜ Left (now (work .entry)) (now (work .exit)) a r
         (arithmeticOf (arithmeticBy code) (slotAt (now (work .entry)) a) (slotAt (now (work .entry)) (a + 1))) ⌝ }
 {
-    let x = run_records::take_number(work, a);
-    if x.stop != 0 {
-        return x.stop;
+    let b = a + 1;
+    let left = run_records::take_number(work, a);
+    if left.stop != 0 {
+        return left.stop;
     }
-    let y = run_records::take_number(work, a + 1);
-    if y.stop != 0 {
-        return y.stop;
+    let right = run_records::take_number(work, b);
+    if right.stop != 0 {
+        return right.stop;
     }
-    put_computed(work, a, computed(code, x.word, y.word))
+    put_computed(work, a, computed(code, left.word, right.word))
 }
 
 // Replaces a value by its number with the other sign.

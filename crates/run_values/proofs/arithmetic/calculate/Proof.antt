@@ -10,6 +10,9 @@ use borrow.Author.Needs.{needs}
 use Rattle.run_values.proofs.arithmetic.calculate.Statement.{statement}
 use Rattle.run_values.proofs.arithmetic.calculate.Tie as tie
 
+add-b : tie.Need-add-b
+add-b c = search needs
+
 take-number-requires : tie.Need-take-number-requires
 take-number-requires c κs = search needs
 
@@ -27,9 +30,6 @@ returns c =
     (arithmetic-stops-left (arithmeticBy (a .code)) v w
     (taken-stops (numberOf v) (x .result) (x .ensures) (if1 .taken)))
     (if1 .taken) (same-room (a .work .now))
-
-add-take-number : tie.Need-add-take-number
-add-take-number c = search needs
 
 take-number-requires-2 : tie.Need-take-number-requires-2
 take-number-requires-2 c κs = search needs
@@ -90,10 +90,10 @@ pub calculate-spec : {M : Type 1} → statement M
 calculate-spec =
     tie.close
     (tie.spec
+    add-b
     take-number-requires
     same-length
     returns
-    add-take-number
     take-number-requires-2
     same-length-2
     returns-2
