@@ -1,0 +1,3 @@
+-- What a run keeps of its image.
+pub mod Constants
+pub mod Tables
