@@ -57,7 +57,7 @@ fn place_of(work: &[u8], a: usize, n: usize, m: usize) -> u64
     let t = s + run_room::SLOT;
     let e = s + n;
     let f = t + m;
-    let found = buffer::find(&work[s..e], &work[t..f]);
+    let found = lanes::find(&work[s..e], &work[t..f]);
     match found {
         buffer::Found::At(p) => p as u64 + 1,
         buffer::Found::Nothing => 0,
