@@ -236,6 +236,7 @@ module _ (edition : ℕ) (t : List ℕ) (kind : Kind) (x u y : List ℕ) (l all 
           λ fs tells s f w ew eb.
               subst (Becomes edition fs x z l r 0) (sym (short-is fs tells s f w ew eb h)) (
                 refl,
+                (s, λ q. absurd (omega (arith, q, e2, e4))),
                 λ s₀ s' g.
                     joined-store y z all r k v count at b fits-y (lined-all .placed) few j h e1 e2 e3 e4 s s'
                     ∙ ap (λ (st : Store). withLine st (joinedText b (newFields y all k v count)) (newFields y all k v count)) (store-y fs s s tells f)

@@ -39,9 +39,10 @@ module _ (edition : ℕ) (fs x y z : List ℕ) (l r : Line) (a : ℕ) (inside : 
       → Effected edition fs x z l r a 0 (bind q (λ w. gives (effect (slotAt x (a + 1) ∷ []) w)))
   effected (gives w) b = (
     refl,
+    b .1,
     refl,
     λ s s' f.
-        let e = b .1 s s' f in
+        let e = b .2 s s' f in
         store-slot y z r a (slotAt y (a + 1)) o (omega arith) s'
         ∙ ap₂ (λ (st : Store) (v : Value). withSlot st a v) e (slot-store x y l r s s' (w .current .line) (w .current .fields) (a + 1) inside e),
   )

@@ -12,7 +12,7 @@ use Rattle.semantics.specs.Operations.{Effect, assigned, setField}
 use Rattle.run_room.specs.Room.{slotAt, lineOf, fieldsOf, storeOf, withSlot, withLine}
 use Rattle.run_room.specs.Held.{Did}
 use Rattle.run_room.specs.declared.lines.Line.{Line}
-use Rattle.run_records.specs.Records.{ofsSlot, Safe, InForce, Same, Becomes}
+use Rattle.run_records.specs.Records.{ofsSlot, Safe, InForce, Forced, Same, Becomes}
 
 -- what is told of the world: its record is that of the room, and FS and OFS are those of their slots
 pub record Stands (edition : ℕ) (t : List ℕ) (kind : Kind) (x : List ℕ) (l : Line) (s : Separator) (w : World) : Type 0 where
@@ -28,10 +28,11 @@ Assigns edition t kind x y l r k v outcome =
     ((s : Separator) (w : World) → Stands edition t kind x l s w
     → Becomes edition (special w FS) x y l r outcome (assigned edition w k (slotAt x v)))
 
--- The world has another record, and the value is left in slot a; or it stops, and nothing has changed.
+-- The world has another record, for which a separator is in force, and the value is left in slot a; or it stops, and
+-- nothing has changed.
 abbrev pub Effected : ℕ → List ℕ → List ℕ → List ℕ → Line → Line → ℕ → ℕ → Result Effect → Type 0
 Effected edition fs x y l r a outcome (gives e) =
-    (outcome ≡ 0) × (e .left ≡ slotAt x (a + 1) ∷ [])
+    (outcome ≡ 0) × (Forced edition fs r) × (e .left ≡ slotAt x (a + 1) ∷ [])
     × ((s s' : Separator) → InForce edition fs r s'
     → storeOf y r s' ≡ withSlot (withLine (storeOf x l s) (e .world .current .line) (e .world .current .fields)) a (slotAt x (a + 1)))
 Effected edition fs x y l r a outcome (stops z) = (z ≡ stop outcome) × (outcome ≡ 0 → ⊥) × (Same edition fs x y l r)

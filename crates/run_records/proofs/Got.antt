@@ -91,19 +91,23 @@ module _ (edition : ℕ) (t : List ℕ) (kind : Kind) (x y z : List ℕ) (l r : 
 
     pub set-all : (j : ℕ) → j < slotCount → Slotted y z i (slotAt y j) (SlotHeld y j)
         → Did x l z r (Safe x z r)
-        ((fs : List ℕ) → Tells edition fs t kind → (s s' : Separator) → InForce edition fs l s
-        → storeOf z r s' ≡ withSlot (storeOf x l s) i (slotAt x j))
+        ((r .size < r .after)
+        × ((fs : List ℕ) → Tells edition fs t kind → (s s' : Separator) → InForce edition fs l s
+        → storeOf z r s' ≡ withSlot (storeOf x l s) i (slotAt x j)))
     set-all j hj o =
         record {
           safe = record { size = o .outside .size ∙ p .outside .size; lined = lined-all };
           next = λ held.
               let h = p .held held in (
                 held-slot y z r i (slotAt y j) o inside (h .slots j hj) h,
-                λ fs tells s s' f.
-                    store-slot y z r i (slotAt y j) o inside s'
-                    ∙ ap₂ (λ (st : Store) (v : Value). withSlot st i v)
-                    (store-all edition t kind x y l r s s' fits lined p (force-pends edition fs t kind l s tells f))
-                    (slot-before entriesStart baseEnd x y j (p .outside) (omega arith)),
+                (
+                  p .done,
+                  λ fs tells s s' f.
+                      store-slot y z r i (slotAt y j) o inside s'
+                      ∙ ap₂ (λ (st : Store) (v : Value). withSlot st i v)
+                      (store-all edition t kind x y l r s s' fits lined p (force-pends edition fs t kind l s tells f))
+                      (slot-before entriesStart baseEnd x y j (p .outside) (omega arith)),
+                ),
               );
         }
 

@@ -39,7 +39,7 @@ split-some edition w a s e =
 becomes-from : (edition : ℕ) (fs x u y : List ℕ) (l r : Line) (o : ℕ) (q : Result World) → ((s : Separator) → storeOf u l s ≡ storeOf x l s)
     → Becomes edition fs u y l r o q → Becomes edition fs x y l r o q
 becomes-from edition fs x u y l r o (gives w) e b =
-    (b .0, λ s s' f. b .1 s s' f ∙ ap (λ (st : Store). withLine st (w .current .line) (w .current .fields)) (e s))
+    (b .0, b .1, λ s s' f. b .2 s s' f ∙ ap (λ (st : Store). withLine st (w .current .line) (w .current .fields)) (e s))
 becomes-from edition fs x u y l r o (stops z) e b = (b .0, b .1, λ s f. let g = b .2 s f in (g .0, g .1 ∙ e s))
 
 module _ (edition : ℕ) (t : List ℕ) (kind : Kind) (x : List ℕ) (l : Line) (v o : ℕ) (lined : Lined l) (eo : o ≡ refusal kind) where

@@ -31,8 +31,11 @@ pub fn set_separator(
 ) -> Line
     requires { ⌜ (baseEnd ≤ length (now work)) × Lined line × Sized kind (now t) × (from < slotCount) ⌝ }
     ensures { λ r. ⌜ Did (now (work .entry)) line (now (work .exit)) r (Safe (now (work .entry)) (now (work .exit)) r)
-        ((fs : List ℕ) → Tells (edition .number) fs (now (t .entry)) kind → (s s' : Separator) → InForce (edition .number) fs line s
-        → storeOf (now (work .exit)) r s' ≡ withSlot (storeOf (now (work .entry)) line s) fsSlot (slotAt (now (work .entry)) from)) ⌝ }
+        ((r .size < r .after)
+        × ((fs : List ℕ) → Tells (edition .number) fs (now (t .entry)) kind
+        → (s s' : Separator) → InForce (edition .number) fs line s
+        → storeOf (now (work .exit)) r s'
+        ≡ withSlot (storeOf (now (work .entry)) line s) fsSlot (slotAt (now (work .entry)) from))) ⌝ }
 {
     let r = lines::split_all(work, t, kind, edition, line);
     run_room::copy_slot(work, from, FS);
