@@ -218,11 +218,12 @@ module _ (edition : ℕ) (t : List ℕ) (kind : Kind) (x u y : List ℕ) (l all 
         );
       }
 
-  pub set-some : (z : List ℕ) (r : Line) (at : ℕ) → count ≤ fieldCount
+  pub set-some : (z : List ℕ) (r : Line) (at outcome : ℕ) → count ≤ fieldCount
       → Joins y z all k v (part (ofsSlot * slotBytes + headSize) n y) count at
       → length (joinedText (part (ofsSlot * slotBytes + headSize) n y) (newFields y all k v count)) ≤ textBytes
-      → r .side ≡ 1 - all .side → r .size ≡ at → r .known ≡ count → r .after ≡ at + 1 → Assigns z r 0
-  set-some z r at few j h e1 e2 e3 e4 =
+      → r .side ≡ 1 - all .side → r .size ≡ at → r .known ≡ count → r .after ≡ at + 1 → outcome ≡ 0
+      → Assigns z r outcome
+  set-some z r at outcome few j h e1 e2 e3 e4 e5 =
       let b = part (ofsSlot * slotBytes + headSize) n y in
       let fits-y : baseEnd ≤ length y = omega (arith, p .outside .size, o .slotted .outside .size) in
       record {
@@ -234,8 +235,8 @@ module _ (edition : ℕ) (t : List ℕ) (kind : Kind) (x u y : List ℕ) (l all 
         next = λ held. (
           joined-held y z all r k v count at b fits-y (lined-all .placed) few j h e1 e2 e3 e4 (held-y held),
           λ fs tells s f w ew eb.
-              subst (Becomes edition fs x z l r 0) (sym (short-is fs tells s f w ew eb h)) (
-                refl,
+              subst (Becomes edition fs x z l r outcome) (sym (short-is fs tells s f w ew eb h)) (
+                e5,
                 (s, λ q. absurd (omega (arith, q, e2, e4))),
                 λ s₀ s' g.
                     joined-store y z all r k v count at b fits-y (lined-all .placed) few j h e1 e2 e3 e4 s s'

@@ -127,8 +127,9 @@ returns-2 c =
     let fits : baseEnd ≤ length y = omega (arith, p .0, o .slotted .outside .size, d .outside .size) in
     let b = part (ofsSlot * slotBytes + headSize) (c .before .before .before .before .before .before .before .before .before .before .before .before .before .before .before .show .result) y in
     let lb : length b ≡ c .before .before .before .before .before .before .before .before .before .before .before .before .before .before .before .show .result = length-part (ofsSlot * slotBytes + headSize) (c .before .before .before .before .before .before .before .before .before .before .before .before .before .before .before .show .result) y (omega (arith, fits, o .most)) in
-    set-some (a .edition .number) (a .t .now) (a .kind) (a .work .now) u y (a .line) (c .before .before .before .before .before .before .before .before .before .before .before .split-all .result) (a .k) (a .v) (c .before .before .before .before .before .before .before .before .field-count .result) (c .before .before .before .before .before .before .before .before .before .before .before .before .before .before .before .show .result) (p .0) (p .1) o d (p .4) (c .before .before .before .before .before .before .before .before .field-count .ensures) (c .before .before .before .join-all .last .0) _ (c .before .before .before .join-all .result) (omega (arith, c .before .before .before .before .before .before .before .before .field-count .ensures, p .3, d .few)) (c .before .before .before .join-all .ensures)
-    (omega (arith, c .before .before .before .before .before .before .measure .ensures .short (c .before .before .before .before .before .if1 .left) b lb, c .before .before .before .before .before .if1 .left)) refl refl refl refl
+    set-some (a .edition .number) (a .t .now) (a .kind) (a .work .now) u y (a .line) (c .before .before .before .before .before .before .before .before .before .before .before .split-all .result) (a .k) (a .v) (c .before .before .before .before .before .before .before .before .field-count .result) (c .before .before .before .before .before .before .before .before .before .before .before .before .before .before .before .show .result) (p .0) (p .1) o d (p .4) (c .before .before .before .before .before .before .before .before .field-count .ensures) (c .before .before .before .join-all .last .0) _ (c .before .before .before .join-all .result) _ (omega (arith, c .before .before .before .before .before .before .before .before .field-count .ensures, p .3, d .few)) (c .before .before .before .join-all .ensures)
+    (omega (arith, c .before .before .before .before .before .before .measure .ensures .short (c .before .before .before .before .before .if1 .left) b lb, c .before .before .before .before .before .if1 .left))
+    (omega arith) (omega arith) (omega arith) (omega arith) (omega arith)
 
 pub set-field-spec : {M : Type 1} → statement M
 set-field-spec =
