@@ -24,7 +24,7 @@ use Rattle.program_reader.specs.Programs.{readProgram}
 use Rattle.program_reader.proofs.Fine.{Honest, Good, FineProgram, program-good}
 
 -- a kind that is neither an ERE nor a name
-abbrev Quiet : Kind → Bool
+abbrev pub Quiet : Kind → Bool
 Quiet k = not (same k ERE) && not (among names k)
 
 choose : {A : Type 0} (P : A → Type 0) (b : Bool) (x y : A) → P x → P y → P (cond b x y)
@@ -41,7 +41,7 @@ kind-has test edition other w (x ∷ l) h each =
     choose (λ (k : Kind). test k ≡ true) (leb (x .since) edition && sameBytes w (x .spelling)) (x .kind)
     (kindIn edition other w l) (both .0) (kind-has test edition other w l h (both .1))
 
-operator-quiet : (edition : ℕ) (w : List ℕ) → Quiet (operatorKind edition w) ≡ true
+pub operator-quiet : (edition : ℕ) (w : List ℕ) → Quiet (operatorKind edition w) ≡ true
 unfolding rank among
 operator-quiet edition w = kind-has Quiet edition bad w operators refl refl
 

@@ -1,0 +1,36 @@
+use borrow.Author.Needs.{needs}
+use Rattle.program_expressions.proofs.Readings.{answered-as}
+use Rattle.program_expressions.proofs.parts.leaf.Statement.{statement}
+use Rattle.program_expressions.proofs.parts.leaf.Tie as tie
+use Rattle.program_expressions.proofs.parts.leaf.Reads as reads
+use Rattle.program_expressions.proofs.parts.leaf.Lts as lts
+use Rattle.program_emitter.proofs.emit.Reads as emit-reads
+use Rattle.program_lexer.proofs.token_after.Reads as token-after-reads
+use Rattle.program_parser.proofs.read.ok.Reads as ok-reads
+
+-- src/parts.rt:25:9
+emit-requires : tie.Need-emit-requires
+emit-requires c κs = search needs
+
+-- src/parts.rt:26:14
+token-after-requires : tie.Need-token-after-requires
+token-after-requires c κs = search needs
+
+-- src/parts.rt:26:5
+ok-requires : tie.Need-ok-requires
+ok-requires c κs = search needs
+
+-- src/parts.rt:21:1
+same-length : tie.Need-same-length
+same-length c = search needs
+
+-- src/parts.rt:21:1
+returns : tie.Need-returns
+returns c = (
+  answered-as _ _ _ _ _ _ (c .ok .ensures) (c .before .token-after .ensures)
+      (c .before .before .before .before .emit .ensures .0),
+  c .before .before .before .before .emit .ensures .1,
+)
+
+pub leaf-spec : {M : Type 1} → statement M
+leaf-spec = tie.close (tie.spec emit-requires token-after-requires ok-requires same-length returns)

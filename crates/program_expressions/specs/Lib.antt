@@ -1,0 +1,2 @@
+-- What the parts of the reader of expressions answer and write.
+pub mod Parts
