@@ -128,7 +128,8 @@ module _ (edition : ℕ) (s : List ℕ) (d : ℕ) (r : Read) (xs : List ℕ) (re
 
           begun : operandAfter edition s u .start < operandAfter edition s u .stop
           unfolding rank
-          begun = after t n ws e u h .longer (found t n ws e u h text-end ∙ ne-eqb (v .kind) 0 (λ y. omega (arith, y, z)))
+          begun = after t n ws e u h .longer (found t n ws e u h text-end
+              ∙ ne-eqb (v .kind) 0 (λ y. omega (arith, y, z)))
 
           beyond : Good edition s (operandAfter edition s u .stop) (tokenAfter edition s (operandAfter edition s u))
           beyond = good-after edition s (u .stop) (operandAfter edition s u) (after t n ws e u h)

@@ -32,8 +32,8 @@ use Rattle.program_expressions.proofs.Written.{wrote-one}
 never : (e : Expression) (v : List ℕ) → parentheses e ≡ variable v → ⊥
 never e v y = let z : _≡_ {A = ℕ} 0 1 = cc in omega arith
 
--- a tree f e for each expression e: its code from instruction n on, at the depth d, is a run up to instruction m, that of e, at
--- the depth k, and one instruction more
+-- a tree f e for each expression e: its code from instruction n on, at the depth d, is a run up to instruction m, that
+-- of e, at the depth k, and one instruction more
 pub record Ends (edition n d : ℕ) (is : List Emitted) (m k : ℕ) (o : Operation) (j : ℕ) (x : Operand) (form : ℕ)
     (f : Expression → Expression) : Type 0 where
   pub sized : (e : Expression) → n + size (f e) ≡ m + size e + 1

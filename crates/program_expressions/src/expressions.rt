@@ -30,7 +30,9 @@ pub fn inside(
     k: u64,
 ) -> Read
     requires { ⌜ Ready (edition .number) (now s) t n × (depth + 16 * levels ≤ 60006) × (k ≤ 10) ⌝ }
-    ensures { λ r. ⌜ Reading (edition .number) (now (s .entry)) (decoded t) n depth (now (section .entry)) (insideOf (edition .number) (now (s .entry)) levels printed k (decoded opener) (decoded t)) r (now (section .exit)) ⌝ }
+    ensures { λ r. ⌜ Reading (edition .number) (now (s .entry)) (decoded t) n depth (now (section .entry))
+        (insideOf (edition .number) (now (s .entry)) levels printed k (decoded opener) (decoded t)) r
+        (now (section .exit)) ⌝ }
 {
     if levels == 0 {
         return read::too_deep(opener);
@@ -38,8 +40,8 @@ pub fn inside(
     tier(s, section, edition, t, n, depth, levels - 1, printed, k)
 }
 
-// Reads the arguments of a call that are left, after the token t: the `(`, or what follows an argument; and the `)`. The token
-// `opener` is the `(`; `operand` is the place of an ERE among the arguments before.
+// Reads the arguments of a call that are left, after the token t: the `(`, or what follows an argument; and the `)`.
+// The token `opener` is the `(`; `operand` is the place of an ERE among the arguments before.
 fn arguments(
     s: &[u8],
     section: &mut [u64],
@@ -53,8 +55,10 @@ fn arguments(
     operand: u64,
     first: bool,
 ) -> Read
-    requires { ⌜ Ready (edition .number) (now s) t n × (depth + 16 * levels + argumentsLeft (f .shapes) ≤ 60003) × (f .shapes < 64) × (f .op < 256) × (operand < 1048576) ⌝ }
-    ensures { λ r. ⌜ Calls (edition .number) (now (s .entry)) levels f opener first t n depth operand (now (section .entry)) r (now (section .exit)) ⌝ }
+    requires { ⌜ Ready (edition .number) (now s) t n × (depth + 16 * levels + argumentsLeft (f .shapes) ≤ 60003) ×
+        (f .shapes < 64) × (f .op < 256) × (operand < 1048576) ⌝ }
+    ensures { λ r. ⌜ Calls (edition .number) (now (s .entry)) levels f opener first t n depth operand
+        (now (section .entry)) r (now (section .exit)) ⌝ }
 {
     let shapes = f.shapes;
     if shapes == 0 {
@@ -131,7 +135,9 @@ fn call(
     levels: usize,
 ) -> Read
     requires { ⌜ Ready (edition .number) (now s) t n × (depth + 16 * levels ≤ 60000) ⌝ }
-    ensures { λ r. ⌜ Reading (edition .number) (now (s .entry)) (decoded t) n depth (now (section .entry)) (calling (edition .number) (now (s .entry)) (insideOf (edition .number) (now (s .entry)) levels) (decoded t) (functionOf (edition .number) (kindOf (t .kind)))) r (now (section .exit)) ⌝ }
+    ensures { λ r. ⌜ Reading (edition .number) (now (s .entry)) (decoded t) n depth (now (section .entry))
+        (calling (edition .number) (now (s .entry)) (insideOf (edition .number) (now (s .entry)) levels) (decoded t)
+        (functionOf (edition .number) (kindOf (t .kind)))) r (now (section .exit)) ⌝ }
 {
     let f = calls::function_of(t.kind, edition);
     if f.op == 0 {
@@ -156,7 +162,9 @@ fn primary(
     levels: usize,
 ) -> Read
     requires { ⌜ Ready (edition .number) (now s) t n × (depth + 16 * levels ≤ 60000) ⌝ }
-    ensures { λ r. ⌜ Reading (edition .number) (now (s .entry)) (decoded t) n depth (now (section .entry)) (primaryOf (edition .number) (now (s .entry)) (insideOf (edition .number) (now (s .entry)) levels) (decoded t)) r (now (section .exit)) ⌝ }
+    ensures { λ r. ⌜ Reading (edition .number) (now (s .entry)) (decoded t) n depth (now (section .entry))
+        (primaryOf (edition .number) (now (s .entry)) (insideOf (edition .number) (now (s .entry)) levels) (decoded t))
+        r (now (section .exit)) ⌝ }
 {
     let kind = t.kind;
     if (kind == kinds::NUMBER) | (kind == kinds::STRING) {
@@ -216,7 +224,9 @@ fn field_form(
     levels: usize,
 ) -> Read
     requires { ⌜ Ready (edition .number) (now s) t n × (depth + 16 * levels ≤ 60000) ⌝ }
-    ensures { λ r. ⌜ Reading (edition .number) (now (s .entry)) (decoded t) n depth (now (section .entry)) (fieldForm (edition .number) (now (s .entry)) (insideOf (edition .number) (now (s .entry)) levels) (decoded t)) r (now (section .exit)) ⌝ }
+    ensures { λ r. ⌜ Reading (edition .number) (now (s .entry)) (decoded t) n depth (now (section .entry))
+        (fieldForm (edition .number) (now (s .entry)) (insideOf (edition .number) (now (s .entry)) levels) (decoded t))
+        r (now (section .exit)) ⌝ }
 {
     let kind = t.kind;
     if kind != kinds::DOLLAR {
@@ -256,7 +266,10 @@ fn prefix_form(
     levels: usize,
 ) -> Read
     requires { ⌜ Ready (edition .number) (now s) t n × (depth + 16 * levels ≤ 60000) ⌝ }
-    ensures { λ r. ⌜ Reading (edition .number) (now (s .entry)) (decoded t) n depth (now (section .entry)) (prefixForm (edition .number) (now (s .entry)) (insideOf (edition .number) (now (s .entry)) levels) (fieldForm (edition .number) (now (s .entry)) (insideOf (edition .number) (now (s .entry)) levels)) (decoded t)) r (now (section .exit)) ⌝ }
+    ensures { λ r. ⌜ Reading (edition .number) (now (s .entry)) (decoded t) n depth (now (section .entry))
+        (prefixForm (edition .number) (now (s .entry)) (insideOf (edition .number) (now (s .entry)) levels)
+        (fieldForm (edition .number) (now (s .entry)) (insideOf (edition .number) (now (s .entry)) levels))
+        (decoded t)) r (now (section .exit)) ⌝ }
 {
     let kind = t.kind;
     if !kinds::is_prefix(kind) {
@@ -296,8 +309,11 @@ fn assignment(
     levels: usize,
     printed: bool,
 ) -> Read
-    requires { ⌜ Ready (edition .number) (now s) (r .token) (r .count) × (0 < r .count) × (start < 1048576) × (depth + 16 * levels ≤ 60000) ⌝ }
-    ensures { λ q. ⌜ ContinuesFrom (edition .number) (now (s .entry)) start depth (assignmentOf (edition .number) (now (s .entry)) (insideOf (edition .number) (now (s .entry)) levels) printed) r (now (section .entry)) q (now (section .exit)) ⌝ }
+    requires { ⌜ Ready (edition .number) (now s) (r .token) (r .count) × (0 < r .count) × (start < 1048576) ×
+        (depth + 16 * levels ≤ 60000) ⌝ }
+    ensures { λ q. ⌜ ContinuesFrom (edition .number) (now (s .entry)) start depth
+        (assignmentOf (edition .number) (now (s .entry)) (insideOf (edition .number) (now (s .entry)) levels) printed)
+        r (now (section .entry)) q (now (section .exit)) ⌝ }
 {
     let t = r.token;
     let kind = t.kind;
@@ -361,8 +377,12 @@ fn more(
     printed: bool,
     k: u64,
 ) -> Read
-    requires { ⌜ Ready (edition .number) (now s) (left .token) (left .count) × (depth + 16 * levels + k ≤ 60000) × (2 ≤ k) × (k ≤ 10) ⌝ }
-    ensures { λ q. ⌜ Continues (edition .number) (now (s .entry)) depth (moreOf (edition .number) (now (s .entry)) printed k (tierOf (edition .number) (now (s .entry)) (insideOf (edition .number) (now (s .entry)) levels) printed (k - 1)) (turns (now (s .entry)) k)) left (now (section .entry)) q (now (section .exit)) ⌝ }
+    requires { ⌜ Ready (edition .number) (now s) (left .token) (left .count) × (depth + 16 * levels + k ≤ 60000) ×
+        (2 ≤ k) × (k ≤ 10) ⌝ }
+    ensures { λ q. ⌜ Continues (edition .number) (now (s .entry)) depth
+        (moreOf (edition .number) (now (s .entry)) printed k (tierOf (edition .number) (now (s .entry))
+        (insideOf (edition .number) (now (s .entry)) levels) printed (k - 1)) (turns (now (s .entry)) k)) left
+        (now (section .entry)) q (now (section .exit)) ⌝ }
 {
     let mut r = left;
     loop {
@@ -408,7 +428,9 @@ pub fn tier(
     k: u64,
 ) -> Read
     requires { ⌜ Ready (edition .number) (now s) t n × (depth + 16 * levels + k ≤ 60000) × (k ≤ 10) ⌝ }
-    ensures { λ r. ⌜ Reading (edition .number) (now (s .entry)) (decoded t) n depth (now (section .entry)) (tierOf (edition .number) (now (s .entry)) (insideOf (edition .number) (now (s .entry)) levels) printed k (decoded t)) r (now (section .exit)) ⌝ }
+    ensures { λ r. ⌜ Reading (edition .number) (now (s .entry)) (decoded t) n depth (now (section .entry))
+        (tierOf (edition .number) (now (s .entry)) (insideOf (edition .number) (now (s .entry)) levels) printed k
+        (decoded t)) r (now (section .exit)) ⌝ }
 {
     if k == operators::FIELDS {
         return field_form(s, section, edition, t, n, depth, levels);

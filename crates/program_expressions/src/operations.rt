@@ -19,7 +19,8 @@ use program_parser::read;
 // Gives the first token after t and newlines.
 fn line_after(s: &[u8], t: Token, edition: Edition) -> Token
     requires { ⌜ Good (edition .number) (now s) 0 (decoded t) × (t .kind < kindCount) ⌝ }
-    ensures { λ r. ⌜ r ≡ coded (pastNewlines (edition .number) (now (s .entry)) (tokenAfter (edition .number) (now (s .entry)) (decoded t))) ⌝ }
+    ensures { λ r. ⌜ r ≡ coded (pastNewlines (edition .number) (now (s .entry))
+        (tokenAfter (edition .number) (now (s .entry)) (decoded t))) ⌝ }
 {
     newlines::past_newlines(s, program_lexer::token_after(s, t, edition), edition)
 }
@@ -27,7 +28,9 @@ fn line_after(s: &[u8], t: Token, edition: Edition) -> Token
 // Gives the token where an argument starts: newlines may follow the `,` before it, and not the `(`.
 pub fn argument_after(s: &[u8], t: Token, first: bool, edition: Edition) -> Token
     requires { ⌜ Good (edition .number) (now s) 0 (decoded t) × (t .kind < kindCount) ⌝ }
-    ensures { λ r. ⌜ r ≡ coded (cond first (operandAfter (edition .number) (now (s .entry)) (decoded t)) (pastNewlines (edition .number) (now (s .entry)) (tokenAfter (edition .number) (now (s .entry)) (decoded t)))) ⌝ }
+    ensures { λ r. ⌜ r ≡ coded (cond first (operandAfter (edition .number) (now (s .entry)) (decoded t))
+        (pastNewlines (edition .number) (now (s .entry)) (tokenAfter (edition .number) (now (s .entry))
+        (decoded t)))) ⌝ }
 {
     if first {
         return read::operand_after(s, t, edition);
@@ -49,31 +52,24 @@ pub fn right_of(s: &[u8], t: Token, tier: u64, edition: Edition) -> Token
     read::operand_after(s, t, edition)
 }
 
-// Writes an operator's instructions, but its operands'; j is the first after the left operand, r what follows the right one.
+// Writes an operator's instructions, but its operands'; j is the first after the left operand, r what follows the
+// right one.
 pub fn apply(section: &mut [u64], r: Read, kind: u64, depth: u64, j: usize) -> Read
     requires { ⌜ (r .count < 1000000) × (j < 1000000) × (depth ≤ 60000) × (kind < kindCount) ⌝ }
-    ensures { λ q. ⌜ (q ≡ applied r kind) × (now (section .exit) ≡ appliedTo (now (section .entry)) (r .count) kind depth j) ⌝ }
+    ensures { λ q. ⌜ (q ≡ applied r kind) × (now (section .exit) ≡ appliedTo (now (section .entry)) (r .count) kind
+        depth j) ⌝ }
 {
     let n = r.count;
     let t = r.token;
     if kind == kinds::AND_AND {
-        return read::ok(
-            t,
-            program_emitter::emit_both(section, n, depth, j),
-            read::OTHER,
-        );
+        let count = program_emitter::emit_both(section, n, depth, j);
+        return read::ok(t, count, read::OTHER);
     }
     if kind == kinds::OR_OR {
-        return read::ok(
-            t,
-            program_emitter::emit_either(section, n, depth, j),
-            read::OTHER,
-        );
+        let count = program_emitter::emit_either(section, n, depth, j);
+        return read::ok(t, count, read::OTHER);
     }
     let op = operators::operator_code(kind);
-    read::ok(
-        t,
-        program_emitter::emit(section, n, op, depth + 2, 0),
-        read::OTHER,
-    )
+    let count = program_emitter::emit(section, n, op, depth + 2, 0);
+    read::ok(t, count, read::OTHER)
 }

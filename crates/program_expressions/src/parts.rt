@@ -29,7 +29,8 @@ pub fn leaf(
     form: u64,
 ) -> Read
     requires { ⌜ Ready (edition .number) (now s) t n × (depth ≤ 60000) × (op < 256) ⌝ }
-    ensures { λ r. ⌜ (r ≡ success (tokenAfter (edition .number) (now (s .entry)) (decoded t)) (n + 1) form) × (now (section .exit) ≡ sets (now (section .entry)) n (word op depth (t .start) ∷ [])) ⌝ }
+    ensures { λ r. ⌜ (r ≡ success (tokenAfter (edition .number) (now (s .entry)) (decoded t)) (n + 1) form) ×
+        (now (section .exit) ≡ sets (now (section .entry)) n (word op depth (t .start) ∷ [])) ⌝ }
 {
     let count = program_emitter::emit(section, n, op, depth, t.start as u64);
     read::ok(program_lexer::token_after(s, t, edition), count, form)
@@ -60,7 +61,8 @@ pub fn name_form(kind: u64) -> u64
 // Reads an ERE alone.
 pub fn ere(s: &[u8], section: &mut [u64], edition: Edition, t: Token, n: usize, depth: u64) -> Read
     requires { ⌜ Ready (edition .number) (now s) t n × (depth ≤ 60000) ⌝ }
-    ensures { λ r. ⌜ (r ≡ success (tokenAfter (edition .number) (now (s .entry)) (decoded t)) (n + 3) 0) × (now (section .exit) ≡ sets (now (section .entry)) n (ereWords depth (t .start))) ⌝ }
+    ensures { λ r. ⌜ (r ≡ success (tokenAfter (edition .number) (now (s .entry)) (decoded t)) (n + 3) 0) ×
+        (now (section .exit) ≡ sets (now (section .entry)) n (ereWords depth (t .start))) ⌝ }
 {
     let count = program_emitter::emit_ere(section, n, depth, t.start);
     read::ok(
@@ -73,7 +75,8 @@ pub fn ere(s: &[u8], section: &mut [u64], edition: Edition, t: Token, n: usize, 
 // Reads `~` or `!~` and its ERE, if one follows what was read.
 pub fn matching(s: &[u8], section: &mut [u64], edition: Edition, r: Read, depth: u64) -> Read
     requires { ⌜ Ready (edition .number) (now s) (r .token) (r .count) × (depth ≤ 60000) ⌝ }
-    ensures { λ q. ⌜ Continues (edition .number) (now (s .entry)) depth (matchingOf (edition .number) (now (s .entry))) r (now (section .entry)) q (now (section .exit)) ⌝ }
+    ensures { λ q. ⌜ Continues (edition .number) (now (s .entry)) depth (matchingOf (edition .number) (now (s .entry)))
+        r (now (section .entry)) q (now (section .exit)) ⌝ }
 {
     let t = r.token;
     let kind = t.kind;

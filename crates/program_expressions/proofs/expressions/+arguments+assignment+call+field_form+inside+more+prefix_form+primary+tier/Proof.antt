@@ -291,11 +291,9 @@ tier-calls t = (
   more.Post,
 )
 
--- src/expressions.rt:61:33
 arguments-ok-requires : (t : ℕ) → arguments-lts.Need-ok-requires (arguments-calls t) (arguments-at t) arguments.Post
 arguments-ok-requires t c κs = search needs
 
--- src/expressions.rt:61:13
 arguments-closed-requires : (t : ℕ) → arguments-lts.Need-closed-requires (arguments-calls t) (arguments-at t)
     arguments.Post
 arguments-closed-requires t c κs =
@@ -303,7 +301,6 @@ arguments-closed-requires t c κs =
     let pre = c .before .before .before .before .pre in
     subst (λ (y : Read). y .token .kind < kindCount) (sym (ok .ensures)) (pre .1 .0 .known)
 
--- src/expressions.rt:62:9
 arguments-suffix-requires : (t : ℕ) → arguments-lts.Need-suffix-requires (arguments-calls t) (arguments-at t)
     arguments.Post
 arguments-suffix-requires t c κs =
@@ -325,11 +322,9 @@ arguments-suffix-requires t c κs =
       fits _ _ _ (pre .1 .3) (omega (arith, pre .1 .1)) (pre .1 .4),
     )
 
--- src/expressions.rt:62:9
 arguments-same-length : (t : ℕ) → arguments-lts.Need-same-length (arguments-calls t) (arguments-at t) arguments.Post
 arguments-same-length t c = search needs
 
--- src/expressions.rt:62:9
 arguments-returns : (t : ℕ) → arguments-lts.Need-returns (arguments-calls t) (arguments-at t) arguments.Post
 arguments-returns t c =
     let suffix = c .before .before .suffix in
@@ -342,12 +337,10 @@ arguments-returns t c =
     calls-end _ _ _ _ _ _ (args .t) _ _ _ _ (pre .1 .0) _ _ (if1 .taken) (omega (arith, pre .1 .1)) (pre .1 .4) _
     (closed .ensures ∙ ap (closedOf (args .edition .number) (args .s .now)) (ok .ensures)) (suffix .ensures)
 
--- src/expressions.rt:66:9
 arguments-refuse-requires : (t : ℕ) → arguments-lts.Need-refuse-requires (arguments-calls t) (arguments-at t)
     arguments.Post
 arguments-refuse-requires t c κs = c .before .before .before .before .pre .1 .0 .known
 
--- src/expressions.rt:66:9
 arguments-returns-2 : (t : ℕ) → arguments-lts.Need-returns-2 (arguments-calls t) (arguments-at t) arguments.Post
 arguments-returns-2 t c =
     let refuse = c .refuse in
@@ -359,14 +352,12 @@ arguments-returns-2 t c =
     calls-comma _ _ _ (args .f) _ (args .first) (args .t) _ _ _ _ (pre .1 .0) _ _ (if1 .left) (if2 .taken)
     (refuse .ensures)
 
--- src/expressions.rt:68:9
 arguments-argument-after-requires : (t : ℕ) → arguments-lts.Need-argument-after-requires (arguments-calls t)
     (arguments-at t) arguments.Post
 arguments-argument-after-requires t c κs =
     let pre = c .before .before .before .before .pre in
     (pre .1 .0 .good, pre .1 .0 .known)
 
--- src/expressions.rt:74:13
 arguments-inside-requires : (t : ℕ) → arguments-lts.Need-inside-requires (arguments-calls t) (arguments-at t)
     arguments.Post
 arguments-inside-requires t c κs =
@@ -383,11 +374,9 @@ arguments-inside-requires t c κs =
       ),
     )
 
--- src/expressions.rt:76:13
 arguments-same-length-2 : (t : ℕ) → arguments-lts.Need-same-length-2 (arguments-calls t) (arguments-at t) arguments.Post
 arguments-same-length-2 t c = search needs
 
--- src/expressions.rt:76:13
 arguments-returns-3 : (t : ℕ) → arguments-lts.Need-returns-3 (arguments-calls t) (arguments-at t) arguments.Post
 arguments-returns-3 t c =
     let if4 = c .if4 in
@@ -403,11 +392,9 @@ arguments-returns-3 t c =
     calls-failed _ _ _ (args .f) _ (args .first) (args .t) _ _ _ _ (pre .1 .0) (inside .result) [] (if1 .left)
     (if2 .left) _ (argument-after .ensures) (if3 .taken) _ _ (inside .ensures) (if4 .taken)
 
--- src/expressions.rt:78:79
 arguments-add-arguments : (t : ℕ) → arguments-lts.Need-add-arguments (arguments-calls t) (arguments-at t) arguments.Post
 arguments-add-arguments t c = search needs
 
--- src/expressions.rt:78:9
 arguments-arguments-requires : (t : ℕ) → arguments-lts.Need-arguments-requires (arguments-calls t) (arguments-at t)
     arguments.Post
 arguments-arguments-requires t c κs =
@@ -431,11 +418,9 @@ arguments-arguments-requires t c κs =
       ),
     )
 
--- src/expressions.rt:78:9
 arguments-same-length-3 : (t : ℕ) → arguments-lts.Need-same-length-3 (arguments-calls t) (arguments-at t) arguments.Post
 arguments-same-length-3 t c = search needs
 
--- src/expressions.rt:78:9
 arguments-returns-4 : (t : ℕ) → arguments-lts.Need-returns-4 (arguments-calls t) (arguments-at t) arguments.Post
 arguments-returns-4 t c =
     let arguments = c .before .before .arguments in
@@ -453,7 +438,6 @@ arguments-returns-4 t c =
     (argument-after .ensures) (if3 .taken) _ _ (inside .ensures) (if4 .left) _ refl
     (arguments .ensures)
 
--- src/expressions.rt:82:9
 arguments-refuse-requires-2 : (t : ℕ) → arguments-lts.Need-refuse-requires-2 (arguments-calls t) (arguments-at t)
     arguments.Post
 arguments-refuse-requires-2 t c κs =
@@ -463,7 +447,6 @@ arguments-refuse-requires-2 t c κs =
     let pre = p1 .pre in
     (start-ready _ _ (args .first) (args .t) (args .n) (pre .1 .0) _ (argument-after .ensures)) .known
 
--- src/expressions.rt:82:9
 arguments-returns-5 : (t : ℕ) → arguments-lts.Need-returns-5 (arguments-calls t) (arguments-at t) arguments.Post
 arguments-returns-5 t c =
     let refuse2 = c .refuse2 in
@@ -478,12 +461,10 @@ arguments-returns-5 t c =
     calls-no-ere _ _ _ (args .f) _ (args .first) (args .t) _ _ _ _ (pre .1 .0) _ _ (if1 .left) (if2 .left) _
     (argument-after .ensures) (if3 .left) (if5 .taken) (refuse2 .ensures)
 
--- src/expressions.rt:84:9
 arguments-token-after-requires : (t : ℕ) → arguments-lts.Need-token-after-requires (arguments-calls t)
     (arguments-at t) arguments.Post
 arguments-token-after-requires t c κs = search needs
 
--- src/expressions.rt:85:5
 arguments-arguments-requires-2 : (t : ℕ) → arguments-lts.Need-arguments-requires-2 (arguments-calls t)
     (arguments-at t) arguments.Post
 arguments-arguments-requires-2 t c κs =
@@ -505,11 +486,9 @@ arguments-arguments-requires-2 t c κs =
       ),
     )
 
--- src/expressions.rt:43:1
 arguments-same-length-4 : (t : ℕ) → arguments-lts.Need-same-length-4 (arguments-calls t) (arguments-at t) arguments.Post
 arguments-same-length-4 t c = search needs
 
--- src/expressions.rt:43:1
 arguments-returns-6 : (t : ℕ) → arguments-lts.Need-returns-6 (arguments-calls t) (arguments-at t) arguments.Post
 arguments-returns-6 t c =
     let arguments2 = c .before .before .arguments2 in
@@ -527,7 +506,6 @@ arguments-returns-6 t c =
     (argument-after .ensures) (if3 .left) (if5 .left) _ (token-after .ensures) _ refl
     (arguments2 .ensures)
 
--- src/expressions.rt:205:9
 assignment-returns : (t : ℕ) → assignment-lts.Need-returns (assignment-calls t) (assignment-at t) assignment.Post
 assignment-returns t c =
     let if1 = c .if1 in
@@ -535,16 +513,13 @@ assignment-returns t c =
     let args = p1 .args in
     assign-none _ _ _ _ _ _ (args .r) _ (if1 .taken)
 
--- src/expressions.rt:207:9
 assignment-operand-after-requires : (t : ℕ) → assignment-lts.Need-operand-after-requires (assignment-calls t)
     (assignment-at t) assignment.Post
 assignment-operand-after-requires t c κs = search needs
 
--- src/expressions.rt:208:13
 assignment-sub-n : (t : ℕ) → assignment-lts.Need-sub-n (assignment-calls t) (assignment-at t) assignment.Post
 assignment-sub-n t c = search needs
 
--- src/expressions.rt:210:13
 assignment-inside-requires : (t : ℕ) → assignment-lts.Need-inside-requires (assignment-calls t) (assignment-at t)
     assignment.Post
 assignment-inside-requires t c κs =
@@ -562,7 +537,6 @@ assignment-inside-requires t c κs =
       ),
     )
 
--- src/expressions.rt:211:64
 assignment-add-suffix : (t : ℕ) → assignment-lts.Need-add-suffix (assignment-calls t) (assignment-at t) assignment.Post
 assignment-add-suffix t c =
     let p1 = c .before .before .before .before .before .before .before .before .before in
@@ -570,7 +544,6 @@ assignment-add-suffix t c =
     let pre = p2 .pre in
     record { fits = omega (arith, pre .1 .3) }
 
--- src/expressions.rt:211:9
 assignment-suffix-requires : (t : ℕ) → assignment-lts.Need-suffix-requires (assignment-calls t) (assignment-at t)
     assignment.Post
 assignment-suffix-requires t c κs =
@@ -586,12 +559,10 @@ assignment-suffix-requires t c κs =
       fits 3 _ _ (omega arith) (omega (arith, pre .1 .3)) (pre .1 .2),
     )
 
--- src/expressions.rt:211:9
 assignment-same-length : (t : ℕ) → assignment-lts.Need-same-length (assignment-calls t) (assignment-at t)
     assignment.Post
 assignment-same-length t c = search needs
 
--- src/expressions.rt:211:9
 assignment-returns-2 : (t : ℕ) → assignment-lts.Need-returns-2 (assignment-calls t) (assignment-at t) assignment.Post
 assignment-returns-2 t c =
     let suffix = c .before .before .suffix in
@@ -607,11 +578,9 @@ assignment-returns-2 t c =
     assign-name _ _ _ _ _ _ (args .r) _ (if1 .left) _ (operand-after .ensures) (omega (arith, pre .1 .3)) (pre .1 .2)
     _ _ _ _ (if2 .taken) (inside .ensures) (suffix .ensures)
 
--- src/expressions.rt:213:54
 assignment-add-inside : (t : ℕ) → assignment-lts.Need-add-inside (assignment-calls t) (assignment-at t) assignment.Post
 assignment-add-inside t c = search needs
 
--- src/expressions.rt:213:9
 assignment-inside-requires-2 : (t : ℕ) → assignment-lts.Need-inside-requires-2 (assignment-calls t) (assignment-at t)
     assignment.Post
 assignment-inside-requires-2 t c κs =
@@ -629,7 +598,6 @@ assignment-inside-requires-2 t c κs =
       ),
     )
 
--- src/expressions.rt:214:59
 assignment-add-suffix-2 : (t : ℕ) → assignment-lts.Need-add-suffix-2 (assignment-calls t) (assignment-at t)
     assignment.Post
 assignment-add-suffix-2 t c =
@@ -638,7 +606,6 @@ assignment-add-suffix-2 t c =
     let pre = p2 .pre in
     record { fits = omega (arith, pre .1 .3) }
 
--- src/expressions.rt:214:5
 assignment-suffix-requires-2 : (t : ℕ) → assignment-lts.Need-suffix-requires-2 (assignment-calls t) (assignment-at t)
     assignment.Post
 assignment-suffix-requires-2 t c κs =
@@ -654,12 +621,10 @@ assignment-suffix-requires-2 t c κs =
       fits 5 _ 0 (omega arith) (omega (arith, pre .1 .3)) (omega arith),
     )
 
--- src/expressions.rt:189:1
 assignment-same-length-2 : (t : ℕ) → assignment-lts.Need-same-length-2 (assignment-calls t) (assignment-at t)
     assignment.Post
 assignment-same-length-2 t c = search needs
 
--- src/expressions.rt:189:1
 assignment-returns-3 : (t : ℕ) → assignment-lts.Need-returns-3 (assignment-calls t) (assignment-at t) assignment.Post
 assignment-returns-3 t c =
     let suffix2 = c .before .before .suffix2 in
@@ -675,15 +640,12 @@ assignment-returns-3 t c =
     assign-to-field _ _ _ _ _ _ (args .r) _ (if1 .left) _ (operand-after .ensures) (omega (arith, pre .1 .3))
     (pre .1 .2) _ _ _ _ (if2 .left) (inside2 .ensures) (suffix2 .ensures)
 
--- src/expressions.rt:101:9
 call-function-of-requires : (t : ℕ) → call-lts.Need-function-of-requires (call-calls t) (call-at t) call.Post
 call-function-of-requires t c κs = c .before .before .pre .1 .0 .known
 
--- src/expressions.rt:103:9
 call-refuse-requires : (t : ℕ) → call-lts.Need-refuse-requires (call-calls t) (call-at t) call.Post
 call-refuse-requires t c κs = c .before .before .before .before .before .pre .1 .0 .known
 
--- src/expressions.rt:103:9
 call-returns : (t : ℕ) → call-lts.Need-returns (call-calls t) (call-at t) call.Post
 call-returns t c =
     let refuse = c .refuse in
@@ -695,11 +657,9 @@ call-returns t c =
     call-none _ _ _ (args .t) _ _ _ (pre .1 .0) _ _ (functionOf (args .edition .number) (kindOf (args .t .kind)))
     (sym (ap (λ (y : Function). y .op) (function-of .ensures)) ∙ if1 .taken) (refuse .ensures)
 
--- src/expressions.rt:105:9
 call-token-after-requires : (t : ℕ) → call-lts.Need-token-after-requires (call-calls t) (call-at t) call.Post
 call-token-after-requires t c κs = search needs
 
--- src/expressions.rt:108:9
 call-refuse-requires-2 : (t : ℕ) → call-lts.Need-refuse-requires-2 (call-calls t) (call-at t) call.Post
 call-refuse-requires-2 t c κs =
     let token-after = c .before .token-after in
@@ -708,7 +668,6 @@ call-refuse-requires-2 t c κs =
     let pre = p1 .pre in
     ready-next _ _ (args .t) (args .n) (pre .1 .0) _ (token-after .ensures) .known
 
--- src/expressions.rt:108:9
 call-returns-2 : (t : ℕ) → call-lts.Need-returns-2 (call-calls t) (call-at t) call.Post
 call-returns-2 t c =
     let refuse2 = c .refuse2 in
@@ -724,7 +683,6 @@ call-returns-2 t c =
     (λ z. if1 .left (ap (λ (y : Function). y .op) (function-of .ensures) ∙ z))
     (if2 .taken) (refuse2 .ensures)
 
--- src/expressions.rt:110:5
 call-arguments-requires : (t : ℕ) → call-lts.Need-arguments-requires (call-calls t) (call-at t) call.Post
 call-arguments-requires t c κs =
     let token-after = c .before .before .token-after in
@@ -748,11 +706,9 @@ call-arguments-requires t c κs =
       ),
     )
 
--- src/expressions.rt:89:1
 call-same-length : (t : ℕ) → call-lts.Need-same-length (call-calls t) (call-at t) call.Post
 call-same-length t c = search needs
 
--- src/expressions.rt:89:1
 call-returns-3 : (t : ℕ) → call-lts.Need-returns-3 (call-calls t) (call-at t) call.Post
 call-returns-3 t c =
     let arguments = c .before .before .arguments in
@@ -778,19 +734,16 @@ call-returns-3 t c =
     (args .n) (args .depth) 0 (args .section .now) (arguments .result) (arguments .last .1 .0)) (function-of .ensures)
     (arguments .ensures))
 
--- src/expressions.rt:159:9
 field-form-primary-requires : (t : ℕ) → field-form-lts.Need-primary-requires (field-form-calls t) (field-form-at t)
     field-form.Post
 field-form-primary-requires t c κs =
     let pre = c .before .before .before .before .pre in
     (omega (arith, pre .0), pre .1)
 
--- src/expressions.rt:159:9
 field-form-same-length : (t : ℕ) → field-form-lts.Need-same-length (field-form-calls t) (field-form-at t)
     field-form.Post
 field-form-same-length t c = search needs
 
--- src/expressions.rt:159:9
 field-form-returns : (t : ℕ) → field-form-lts.Need-returns (field-form-calls t) (field-form-at t) field-form.Post
 field-form-returns t c =
     let primary = c .before .before .primary in
@@ -800,12 +753,10 @@ field-form-returns t c =
     let pre = p1 .pre in
     field-other _ _ _ (args .t) _ _ _ (pre .1 .0) _ _ (if1 .taken) (primary .ensures)
 
--- src/expressions.rt:161:9
 field-form-operand-after-requires : (t : ℕ) → field-form-lts.Need-operand-after-requires (field-form-calls t)
     (field-form-at t) field-form.Post
 field-form-operand-after-requires t c κs = search needs
 
--- src/expressions.rt:162:9
 field-form-inside-requires : (t : ℕ) → field-form-lts.Need-inside-requires (field-form-calls t) (field-form-at t)
     field-form.Post
 field-form-inside-requires t c κs =
@@ -822,11 +773,9 @@ field-form-inside-requires t c κs =
       ),
     )
 
--- src/expressions.rt:163:55
 field-form-add-suffix : (t : ℕ) → field-form-lts.Need-add-suffix (field-form-calls t) (field-form-at t) field-form.Post
 field-form-add-suffix t c = search needs
 
--- src/expressions.rt:163:5
 field-form-suffix-requires : (t : ℕ) → field-form-lts.Need-suffix-requires (field-form-calls t) (field-form-at t)
     field-form.Post
 field-form-suffix-requires t c κs =
@@ -840,12 +789,10 @@ field-form-suffix-requires t c κs =
       fits 4 _ 0 (omega arith) (omega (arith, pre .1 .1)) (omega arith),
     )
 
--- src/expressions.rt:145:1
 field-form-same-length-2 : (t : ℕ) → field-form-lts.Need-same-length-2 (field-form-calls t) (field-form-at t)
     field-form.Post
 field-form-same-length-2 t c = search needs
 
--- src/expressions.rt:145:1
 field-form-returns-2 : (t : ℕ) → field-form-lts.Need-returns-2 (field-form-calls t) (field-form-at t) field-form.Post
 field-form-returns-2 t c =
     let suffix = c .before .before .suffix in
@@ -860,11 +807,9 @@ field-form-returns-2 t c =
     (if1 .left)
     (inside .ensures) (suffix .ensures)
 
--- src/expressions.rt:36:9
 inside-too-deep-requires : (t : ℕ) → inside-lts.Need-too-deep-requires (inside-calls t) (inside-at t) inside.Post
 inside-too-deep-requires t c κs = search needs
 
--- src/expressions.rt:36:9
 inside-returns : (t : ℕ) → inside-lts.Need-returns (inside-calls t) (inside-at t) inside.Post
 inside-returns t c =
     let too-deep = c .too-deep in
@@ -873,11 +818,9 @@ inside-returns t c =
     refused-level _ _ _ _ _ _ _ _ _ (decoded (args .opener)) (inside-none _ _ (args .levels) _ _ _ _ (if1 .taken))
     (too-deep .ensures)
 
--- src/expressions.rt:38:44
 inside-sub-tier : (t : ℕ) → inside-lts.Need-sub-tier (inside-calls t) (inside-at t) inside.Post
 inside-sub-tier t c = search needs
 
--- src/expressions.rt:38:5
 inside-tier-requires : (t : ℕ) → inside-lts.Need-tier-requires (inside-calls t) (inside-at t) inside.Post
 inside-tier-requires t c κs =
     let if1 = c .before .if1 in
@@ -890,11 +833,9 @@ inside-tier-requires t c κs =
       ),
     )
 
--- src/expressions.rt:20:1
 inside-same-length : (t : ℕ) → inside-lts.Need-same-length (inside-calls t) (inside-at t) inside.Post
 inside-same-length t c = search needs
 
--- src/expressions.rt:20:1
 inside-returns-2 : (t : ℕ) → inside-lts.Need-returns-2 (inside-calls t) (inside-at t) inside.Post
 inside-returns-2 t c =
     let tier = c .before .before .tier in
@@ -912,25 +853,20 @@ more-Inv-loop s section₀ edition depth levels printed k r₀ section r =
 abbrev more-μ-loop : more-lts.MeasureT-loop
 more-μ-loop s section₀ edition depth levels printed k r₀ section r = length s - r .token .start
 
--- src/expressions.rt:232:5
 more-loop-holds : (t : ℕ) → more-lts.Need-loop-holds (more-calls t) (more-at t) more.Post more-Inv-loop more-μ-loop
 more-loop-holds t c = (refl, c .before .before .pre .1 .0, turning-first _ _ _ _ _ _ _ _)
 
--- src/expressions.rt:235:12
 more-tier-of-requires : (t : ℕ) → more-lts.Need-tier-of-requires (more-calls t) (more-at t) more.Post more-Inv-loop
     more-μ-loop
 more-tier-of-requires t c κs = c .before .loop .inv .1 .known
 
--- src/expressions.rt:236:13
 more-same-length : (t : ℕ) → more-lts.Need-same-length (more-calls t) (more-at t) more.Post more-Inv-loop more-μ-loop
 more-same-length t c = c .before .before .before .loop .inv .0
 
--- src/expressions.rt:236:13
 more-returns : (t : ℕ) → more-lts.Need-returns (more-calls t) (more-at t) more.Post more-Inv-loop more-μ-loop
 more-returns t c = turning-stop _ _ _ _ _ _ _ _ _ _ (c .before .before .before .loop .inv .2)
     (λ z. c .if1 .taken (c .before .tier-of .ensures ∙ z))
 
--- src/expressions.rt:238:13
 more-right-of-requires : (t : ℕ) → more-lts.Need-right-of-requires (more-calls t) (more-at t) more.Post more-Inv-loop
     more-μ-loop
 more-right-of-requires t c κs = (
@@ -938,12 +874,10 @@ more-right-of-requires t c κs = (
   c .before .before .before .loop .inv .1 .known,
 )
 
--- src/expressions.rt:240:21
 more-between-requires : (t : ℕ) → more-lts.Need-between-requires (more-calls t) (more-at t) more.Post more-Inv-loop
     more-μ-loop
 more-between-requires t c κs = search needs
 
--- src/expressions.rt:240:17
 more-add-m : (t : ℕ) → more-lts.Need-add-m (more-calls t) (more-at t) more.Post more-Inv-loop more-μ-loop
 more-add-m t c =
     let between = c .between in
@@ -962,7 +896,6 @@ more-add-m t c =
       );
     }
 
--- src/expressions.rt:241:57
 more-right-depth-requires : (t : ℕ) → more-lts.Need-right-depth-requires (more-calls t) (more-at t) more.Post
     more-Inv-loop more-μ-loop
 more-right-depth-requires t c κs =
@@ -970,11 +903,9 @@ more-right-depth-requires t c κs =
     let pre = p1 .pre in
     omega (arith, pre .1 .1)
 
--- src/expressions.rt:241:111
 more-sub-tier : (t : ℕ) → more-lts.Need-sub-tier (more-calls t) (more-at t) more.Post more-Inv-loop more-μ-loop
 more-sub-tier t c = search needs
 
--- src/expressions.rt:241:13
 more-tier-requires : (t : ℕ) → more-lts.Need-tier-requires (more-calls t) (more-at t) more.Post more-Inv-loop
     more-μ-loop
 more-tier-requires t c κs =
@@ -1000,12 +931,10 @@ more-tier-requires t c κs =
       ),
     )
 
--- src/expressions.rt:243:13
 more-same-length-2 : (t : ℕ) → more-lts.Need-same-length-2 (more-calls t) (more-at t) more.Post more-Inv-loop
     more-μ-loop
 more-same-length-2 t c = search needs
 
--- src/expressions.rt:243:13
 more-returns-2 : (t : ℕ) → more-lts.Need-returns-2 (more-calls t) (more-at t) more.Post more-Inv-loop more-μ-loop
 more-returns-2 t c =
     let if2 = c .if2 in
@@ -1020,7 +949,6 @@ more-returns-2 t c =
     turning-failed _ _ _ _ _ _ _ _ (loop .r) _ (loop .inv .2) (λ z. omega (arith, z, pre .1 .2)) (loop .inv .1)
     (sym (tier-of .ensures) ∙ if1 .left) _ (right-of .ensures) _ _ _ _ (tier .ensures) (if2 .taken)
 
--- src/expressions.rt:245:9
 more-apply-requires : (t : ℕ) → more-lts.Need-apply-requires (more-calls t) (more-at t) more.Post more-Inv-loop
     more-μ-loop
 more-apply-requires t c κs =
@@ -1047,7 +975,6 @@ more-apply-requires t c κs =
       h .known,
     )
 
--- src/expressions.rt:247:13
 more-same-length-3 : (t : ℕ) → more-lts.Need-same-length-3 (more-calls t) (more-at t) more.Post more-Inv-loop
     more-μ-loop
 more-same-length-3 t c =
@@ -1058,7 +985,6 @@ more-same-length-3 t c =
     let loop = p2 .loop in
     omega (arith, loop .inv .0, tier .kept .1 .0, apply .kept .0)
 
--- src/expressions.rt:247:13
 more-returns-3 : (t : ℕ) → more-lts.Need-returns-3 (more-calls t) (more-at t) more.Post more-Inv-loop more-μ-loop
 more-returns-3 t c =
     let if3 = c .if3 in
@@ -1088,7 +1014,6 @@ more-returns-3 t c =
     )) _ _
     (apply .ensures .0) (apply .ensures .1) (if3 .taken)
 
--- src/expressions.rt:232:5
 more-loop-less : (t : ℕ) → more-lts.Need-loop-less (more-calls t) (more-at t) more.Post more-Inv-loop more-μ-loop
 more-loop-less t c =
     let apply = c .before .before .before .apply in
@@ -1118,7 +1043,6 @@ more-loop-less t c =
       next .good .within,
     )
 
--- src/expressions.rt:232:5
 more-loop-again : (t : ℕ) → more-lts.Need-loop-again (more-calls t) (more-at t) more.Post more-Inv-loop more-μ-loop
 more-loop-again t c =
     let if3 = c .if3 in
@@ -1154,12 +1078,10 @@ more-loop-again t c =
           (apply .ensures .0) (apply .ensures .1) (if3 .left),
     )
 
--- src/expressions.rt:180:9
 prefix-form-is-prefix-requires : (t : ℕ) → prefix-form-lts.Need-is-prefix-requires (prefix-form-calls t)
     (prefix-form-at t) prefix-form.Post
 prefix-form-is-prefix-requires t c κs = search needs
 
--- src/expressions.rt:181:9
 prefix-form-field-form-requires : (t : ℕ) → prefix-form-lts.Need-field-form-requires (prefix-form-calls t)
     (prefix-form-at t) prefix-form.Post
 prefix-form-field-form-requires t c κs =
@@ -1167,12 +1089,10 @@ prefix-form-field-form-requires t c κs =
     let pre = p1 .pre in
     (omega (arith, pre .0), pre .1)
 
--- src/expressions.rt:181:9
 prefix-form-same-length : (t : ℕ) → prefix-form-lts.Need-same-length (prefix-form-calls t) (prefix-form-at t)
     prefix-form.Post
 prefix-form-same-length t c = search needs
 
--- src/expressions.rt:181:9
 prefix-form-returns : (t : ℕ) → prefix-form-lts.Need-returns (prefix-form-calls t) (prefix-form-at t) prefix-form.Post
 prefix-form-returns t c =
     let field-form = c .before .before .field-form in
@@ -1184,12 +1104,10 @@ prefix-form-returns t c =
     prefix-other _ _ _ (args .t) _ _ _ (pre .1 .0) _ _ _ (sym (is-prefix .ensures) ∙ not-true _ (if1 .taken))
     (field-form .ensures)
 
--- src/expressions.rt:183:9
 prefix-form-operand-after-requires : (t : ℕ) → prefix-form-lts.Need-operand-after-requires (prefix-form-calls t)
     (prefix-form-at t) prefix-form.Post
 prefix-form-operand-after-requires t c κs = search needs
 
--- src/expressions.rt:184:9
 prefix-form-inside-requires : (t : ℕ) → prefix-form-lts.Need-inside-requires (prefix-form-calls t) (prefix-form-at t)
     prefix-form.Post
 prefix-form-inside-requires t c κs =
@@ -1206,17 +1124,14 @@ prefix-form-inside-requires t c κs =
       ),
     )
 
--- src/expressions.rt:185:31
 prefix-form-prefix-code-requires : (t : ℕ) → prefix-form-lts.Need-prefix-code-requires (prefix-form-calls t)
     (prefix-form-at t) prefix-form.Post
 prefix-form-prefix-code-requires t c κs = search needs
 
--- src/expressions.rt:185:61
 prefix-form-add-suffix : (t : ℕ) → prefix-form-lts.Need-add-suffix (prefix-form-calls t) (prefix-form-at t)
     prefix-form.Post
 prefix-form-add-suffix t c = search needs
 
--- src/expressions.rt:185:5
 prefix-form-suffix-requires : (t : ℕ) → prefix-form-lts.Need-suffix-requires (prefix-form-calls t) (prefix-form-at t)
     prefix-form.Post
 prefix-form-suffix-requires t c κs =
@@ -1233,12 +1148,10 @@ prefix-form-suffix-requires t c κs =
           (omega (arith, pre .1 .1)) (omega arith),
     )
 
--- src/expressions.rt:167:1
 prefix-form-same-length-2 : (t : ℕ) → prefix-form-lts.Need-same-length-2 (prefix-form-calls t) (prefix-form-at t)
     prefix-form.Post
 prefix-form-same-length-2 t c = search needs
 
--- src/expressions.rt:167:1
 prefix-form-returns-2 : (t : ℕ) → prefix-form-lts.Need-returns-2 (prefix-form-calls t) (prefix-form-at t)
     prefix-form.Post
 prefix-form-returns-2 t c =
@@ -1258,17 +1171,14 @@ prefix-form-returns-2 t c =
     (suffix .last .0))
     (prefix-code .ensures) (suffix .ensures))
 
--- src/expressions.rt:128:9
 primary-leaf-requires : (t : ℕ) → primary-lts.Need-leaf-requires (primary-calls t) (primary-at t) primary.Post
 primary-leaf-requires t c κs =
     let pre = c .before .before .before .before .pre in
     (pre .1 .0, omega (arith, pre .1 .1), omega arith)
 
--- src/expressions.rt:128:9
 primary-same-length : (t : ℕ) → primary-lts.Need-same-length (primary-calls t) (primary-at t) primary.Post
 primary-same-length t c = search needs
 
--- src/expressions.rt:128:9
 primary-returns : (t : ℕ) → primary-lts.Need-returns (primary-calls t) (primary-at t) primary.Post
 primary-returns t c =
     let leaf = c .before .before .leaf in
@@ -1279,18 +1189,15 @@ primary-returns t c =
     primary-constant _ _ _ (args .t) _ _ _ (pre .1 .0) (omega (arith, pre .1 .1)) _ _ (if1 .taken) (leaf .ensures .0)
     (leaf .ensures .1)
 
--- src/expressions.rt:131:9
 primary-ere-requires : (t : ℕ) → primary-lts.Need-ere-requires (primary-calls t) (primary-at t) primary.Post
 primary-ere-requires t c κs =
     let p1 = c .before .before .before .before .before in
     let pre = p1 .pre in
     (pre .1 .0, omega (arith, pre .1 .1))
 
--- src/expressions.rt:131:9
 primary-same-length-2 : (t : ℕ) → primary-lts.Need-same-length-2 (primary-calls t) (primary-at t) primary.Post
 primary-same-length-2 t c = search needs
 
--- src/expressions.rt:131:9
 primary-returns-2 : (t : ℕ) → primary-lts.Need-returns-2 (primary-calls t) (primary-at t) primary.Post
 primary-returns-2 t c =
     let ere = c .before .before .ere in
@@ -1301,26 +1208,21 @@ primary-returns-2 t c =
     primary-ere _ _ _ (args .t) _ _ _ (pre .1 .0) (omega (arith, pre .1 .1)) _ _ (if2 .taken) (ere .ensures .0)
     (ere .ensures .1)
 
--- src/expressions.rt:133:8
 primary-is-name-requires : (t : ℕ) → primary-lts.Need-is-name-requires (primary-calls t) (primary-at t) primary.Post
 primary-is-name-requires t c κs = search needs
 
--- src/expressions.rt:134:84
 primary-name-form-requires : (t : ℕ) → primary-lts.Need-name-form-requires (primary-calls t) (primary-at t) primary.Post
 primary-name-form-requires t c κs = search needs
 
--- src/expressions.rt:134:9
 primary-leaf-requires-2 : (t : ℕ) → primary-lts.Need-leaf-requires-2 (primary-calls t) (primary-at t) primary.Post
 primary-leaf-requires-2 t c κs =
     let p1 = c .before .before .before .before .before .before .before .before in
     let pre = p1 .pre in
     (pre .1 .0, omega (arith, pre .1 .1), omega arith)
 
--- src/expressions.rt:134:9
 primary-same-length-3 : (t : ℕ) → primary-lts.Need-same-length-3 (primary-calls t) (primary-at t) primary.Post
 primary-same-length-3 t c = search needs
 
--- src/expressions.rt:134:9
 primary-returns-3 : (t : ℕ) → primary-lts.Need-returns-3 (primary-calls t) (primary-at t) primary.Post
 primary-returns-3 t c =
     let leaf2 = c .before .before .leaf2 in
@@ -1336,18 +1238,15 @@ primary-returns-3 t c =
     primary-name _ _ _ (args .t) _ _ _ (pre .1 .0) (if1 .left) (if2 .left) (omega (arith, pre .1 .1)) _ _ _
     (sym (is-name .ensures) ∙ if3 .taken) (name-form .ensures) (leaf2 .ensures .0) (leaf2 .ensures .1)
 
--- src/expressions.rt:137:9
 primary-call-requires : (t : ℕ) → primary-lts.Need-call-requires (primary-calls t) (primary-at t) primary.Post
 primary-call-requires t c κs =
     let p1 = c .before .before .before .before .before .before .before .before in
     let pre = p1 .pre in
     (omega (arith, pre .0), pre .1)
 
--- src/expressions.rt:137:9
 primary-same-length-4 : (t : ℕ) → primary-lts.Need-same-length-4 (primary-calls t) (primary-at t) primary.Post
 primary-same-length-4 t c = search needs
 
--- src/expressions.rt:137:9
 primary-returns-4 : (t : ℕ) → primary-lts.Need-returns-4 (primary-calls t) (primary-at t) primary.Post
 primary-returns-4 t c =
     let call = c .before .before .call in
@@ -1364,12 +1263,10 @@ primary-returns-4 t c =
     (if4 .taken) _ _
     (call .ensures)
 
--- src/expressions.rt:139:9
 primary-operand-after-requires : (t : ℕ) → primary-lts.Need-operand-after-requires (primary-calls t) (primary-at t)
     primary.Post
 primary-operand-after-requires t c κs = search needs
 
--- src/expressions.rt:140:9
 primary-inside-requires : (t : ℕ) → primary-lts.Need-inside-requires (primary-calls t) (primary-at t) primary.Post
 primary-inside-requires t c κs =
     let operand-after = c .before .operand-after in
@@ -1385,7 +1282,6 @@ primary-inside-requires t c κs =
       ),
     )
 
--- src/expressions.rt:141:5
 primary-closed-requires : (t : ℕ) → primary-lts.Need-closed-requires (primary-calls t) (primary-at t) primary.Post
 primary-closed-requires t c κs =
     let inside = c .before .before .inside in
@@ -1396,11 +1292,9 @@ primary-closed-requires t c κs =
     reading-fits _ _ _ _ _ _ (ready-operand _ _ (args .t) (args .n) (pre .1 .0) _ (operand-after .ensures)) _ _ _
     (inside .ensures) .1
 
--- src/expressions.rt:114:1
 primary-same-length-5 : (t : ℕ) → primary-lts.Need-same-length-5 (primary-calls t) (primary-at t) primary.Post
 primary-same-length-5 t c = search needs
 
--- src/expressions.rt:114:1
 primary-returns-5 : (t : ℕ) → primary-lts.Need-returns-5 (primary-calls t) (primary-at t) primary.Post
 primary-returns-5 t c =
     let closed = c .closed in
@@ -1419,17 +1313,14 @@ primary-returns-5 t c =
     (if4 .left) _ _ _ _
     (operand-after .ensures) (inside .ensures) (closed .ensures)
 
--- src/expressions.rt:268:9
 tier-field-form-requires : (t : ℕ) → tier-lts.Need-field-form-requires (tier-calls t) (tier-at t) tier.Post
 tier-field-form-requires t c κs =
     let pre = c .before .before .before .before .pre in
     (omega (arith, pre .0), (pre .1 .0, omega (arith, pre .1 .1)))
 
--- src/expressions.rt:268:9
 tier-same-length : (t : ℕ) → tier-lts.Need-same-length (tier-calls t) (tier-at t) tier.Post
 tier-same-length t c = search needs
 
--- src/expressions.rt:268:9
 tier-returns : (t : ℕ) → tier-lts.Need-returns (tier-calls t) (tier-at t) tier.Post
 tier-returns t c =
     let field-form = c .before .before .field-form in
@@ -1438,18 +1329,15 @@ tier-returns t c =
     let args = p1 .args in
     read-fields _ _ _ _ (args .k) _ _ _ _ _ _ (if1 .taken) (field-form .ensures)
 
--- src/expressions.rt:271:9
 tier-prefix-form-requires : (t : ℕ) → tier-lts.Need-prefix-form-requires (tier-calls t) (tier-at t) tier.Post
 tier-prefix-form-requires t c κs =
     let p1 = c .before .before .before .before .before in
     let pre = p1 .pre in
     (omega (arith, pre .0), (pre .1 .0, omega (arith, pre .1 .1)))
 
--- src/expressions.rt:271:9
 tier-same-length-2 : (t : ℕ) → tier-lts.Need-same-length-2 (tier-calls t) (tier-at t) tier.Post
 tier-same-length-2 t c = search needs
 
--- src/expressions.rt:271:9
 tier-returns-2 : (t : ℕ) → tier-lts.Need-returns-2 (tier-calls t) (tier-at t) tier.Post
 tier-returns-2 t c =
     let prefix-form = c .before .before .prefix-form in
@@ -1458,11 +1346,9 @@ tier-returns-2 t c =
     let args = p1 .args in
     read-prefixed _ _ _ _ (args .k) _ _ _ _ _ _ (if2 .taken) (prefix-form .ensures)
 
--- src/expressions.rt:273:69
 tier-sub-tier : (t : ℕ) → tier-lts.Need-sub-tier (tier-calls t) (tier-at t) tier.Post
 tier-sub-tier t c = search needs
 
--- src/expressions.rt:273:9
 tier-tier-requires : (t : ℕ) → tier-lts.Need-tier-requires (tier-calls t) (tier-at t) tier.Post
 tier-tier-requires t c κs =
     let if1 = c .before .before .if1 in
@@ -1470,11 +1356,9 @@ tier-tier-requires t c κs =
     let pre = p1 .pre in
     (omega (arith, pre .0, if1 .left), (pre .1 .0, omega (arith, pre .1 .1), omega (arith, pre .1 .2)))
 
--- src/expressions.rt:275:9
 tier-same-length-3 : (t : ℕ) → tier-lts.Need-same-length-3 (tier-calls t) (tier-at t) tier.Post
 tier-same-length-3 t c = search needs
 
--- src/expressions.rt:275:9
 tier-returns-3 : (t : ℕ) → tier-lts.Need-returns-3 (tier-calls t) (tier-at t) tier.Post
 tier-returns-3 t c =
     let if3 = c .if3 in
@@ -1485,7 +1369,6 @@ tier-returns-3 t c =
     let args = p1 .before .before .before .before .args in
     tier-failed _ _ _ _ (args .k) _ _ _ _ _ _ (if1 .left) (if2 .left) (tier .ensures) (if3 .taken)
 
--- src/expressions.rt:278:9
 tier-matching-requires : (t : ℕ) → tier-lts.Need-matching-requires (tier-calls t) (tier-at t) tier.Post
 tier-matching-requires t c κs =
     let if3 = c .before .before .if3 in
@@ -1495,11 +1378,9 @@ tier-matching-requires t c κs =
     let pre = p2 .pre in
     (reading-ready _ _ _ _ _ _ (pre .1 .0) _ _ _ (tier .ensures) (if3 .left), omega (arith, pre .1 .1))
 
--- src/expressions.rt:278:9
 tier-same-length-4 : (t : ℕ) → tier-lts.Need-same-length-4 (tier-calls t) (tier-at t) tier.Post
 tier-same-length-4 t c = search needs
 
--- src/expressions.rt:278:9
 tier-returns-4 : (t : ℕ) → tier-lts.Need-returns-4 (tier-calls t) (tier-at t) tier.Post
 tier-returns-4 t c =
     let matching = c .before .before .matching in
@@ -1511,7 +1392,6 @@ tier-returns-4 t c =
     let args = p2 .before .args in
     read-matched _ _ _ _ (args .k) _ _ _ _ _ _ _ _ (tier .ensures) (if3 .left) (if4 .taken) (matching .ensures)
 
--- src/expressions.rt:281:9
 tier-assignment-requires : (t : ℕ) → tier-lts.Need-assignment-requires (tier-calls t) (tier-at t) tier.Post
 tier-assignment-requires t c κs =
     let if5 = c .before .if5 in
@@ -1531,11 +1411,9 @@ tier-assignment-requires t c κs =
       ),
     )
 
--- src/expressions.rt:281:9
 tier-same-length-5 : (t : ℕ) → tier-lts.Need-same-length-5 (tier-calls t) (tier-at t) tier.Post
 tier-same-length-5 t c = search needs
 
--- src/expressions.rt:281:9
 tier-returns-5 : (t : ℕ) → tier-lts.Need-returns-5 (tier-calls t) (tier-at t) tier.Post
 tier-returns-5 t c =
     let assignment = c .before .before .assignment in
@@ -1548,7 +1426,6 @@ tier-returns-5 t c =
     read-assigned _ _ _ _ (args .k) _ _ _ _ _ _ _ _ (tier .ensures) (if3 .left) (if5 .taken) _ refl
     (assignment .ensures)
 
--- src/expressions.rt:283:5
 tier-more-requires : (t : ℕ) → tier-lts.Need-more-requires (tier-calls t) (tier-at t) tier.Post
 tier-more-requires t c κs =
     let if3 = c .before .before .before .if3 in
@@ -1568,11 +1445,9 @@ tier-more-requires t c κs =
       ),
     )
 
--- src/expressions.rt:253:1
 tier-same-length-6 : (t : ℕ) → tier-lts.Need-same-length-6 (tier-calls t) (tier-at t) tier.Post
 tier-same-length-6 t c = search needs
 
--- src/expressions.rt:253:1
 tier-returns-6 : (t : ℕ) → tier-lts.Need-returns-6 (tier-calls t) (tier-at t) tier.Post
 tier-returns-6 t c =
     let more = c .before .before .more in

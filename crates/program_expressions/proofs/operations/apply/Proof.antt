@@ -22,89 +22,88 @@ use Rattle.program_emitter.proofs.emit_either.Reads as emit-either-reads
 use Rattle.program_parser.proofs.operators.operator_code.Reads as operator-code-reads
 use Rattle.program_parser.proofs.read.ok.Reads as ok-reads
 
--- src/operations.rt:60:28
 emit-both-requires : tie.Need-emit-both-requires
 emit-both-requires c κs = search needs
 
--- src/operations.rt:60:9
 ok-requires : tie.Need-ok-requires
 ok-requires c κs = search needs
 
--- src/operations.rt:60:9
 same-length : tie.Need-same-length
 same-length c = search needs
 
--- src/operations.rt:60:9
 returns : tie.Need-returns
 returns c =
-    let kind = eq-eqb _ 61 (c .before .before .before .before .before .if1 .taken) in (
-      c .ok .ensures ∙ (ap
-          (λ (i : ℕ). answered (c .before .before .before .before .before .before .before .before .args .r .token) i 0)
-          (c .before .before .before .emit-both .ensures .0) ∙ sym (rw kind)),
-      c .before .before .before .emit-both .ensures .1 ∙ sym (rw kind),
+    let ok = c .ok in
+    let emit-both = c .before .before .before .emit-both in
+    let p1 = c .before .before .before .before .before in
+    let if1 = p1 .if1 in
+    let args = p1 .before .before .before .args in
+    let kind = eq-eqb _ 61 (if1 .taken) in (
+      ok .ensures ∙ (ap (λ (i : ℕ). answered (args .r .token) i 0) (emit-both .ensures .0) ∙ sym (rw kind)),
+      emit-both .ensures .1 ∙ sym (rw kind),
     )
 
--- src/operations.rt:63:28
 emit-either-requires : tie.Need-emit-either-requires
 emit-either-requires c κs = search needs
 
--- src/operations.rt:63:9
 ok-requires-2 : tie.Need-ok-requires-2
 ok-requires-2 c κs = search needs
 
--- src/operations.rt:63:9
 same-length-2 : tie.Need-same-length-2
 same-length-2 c = search needs
 
--- src/operations.rt:63:9
 returns-2 : tie.Need-returns-2
 returns-2 c =
-    let first = ne-eqb _ 61 (c .before .before .before .before .before .before .if1 .left) in
-    let kind = eq-eqb _ 60 (c .before .before .before .before .before .if2 .taken) in (
-      c .ok2 .ensures ∙ (ap
-          (λ (i : ℕ). answered (c .before .before .before .before .before .before .before .before .before .args .r .token) i 0) (c .before .before .before .emit-either .ensures .0) ∙ sym (rw (first, kind))),
-      c .before .before .before .emit-either .ensures .1 ∙ sym (rw (first, kind)),
+    let ok2 = c .ok2 in
+    let emit-either = c .before .before .before .emit-either in
+    let p1 = c .before .before .before .before .before in
+    let if2 = p1 .if2 in
+    let if1 = p1 .before .if1 in
+    let args = p1 .before .before .before .before .args in
+    let first = ne-eqb _ 61 (if1 .left) in
+    let kind = eq-eqb _ 60 (if2 .taken) in (
+      ok2 .ensures ∙ (ap (λ (i : ℕ). answered (args .r .token) i 0) (emit-either .ensures .0) ∙ sym (rw (first, kind))),
+      emit-either .ensures .1 ∙ sym (rw (first, kind)),
     )
 
--- src/operations.rt:65:9
 operator-code-requires : tie.Need-operator-code-requires
 operator-code-requires c κs = search needs
 
--- src/operations.rt:66:55
 add-emit : tie.Need-add-emit
 add-emit c = search needs
 
--- src/operations.rt:66:17
 emit-requires : tie.Need-emit-requires
 unfolding opcode
 emit-requires c κs =
-    let small = code-small
-    (action (actionOf (kindOf (c .before .before .before .before .before .before .args .kind)))) in (
-      fits _ _ 0 (subst (λ (i : ℕ). i < 256) (sym (c .before .operator-code .ensures)) small) (search needs)
-          (search needs),
+    let operator-code = c .before .operator-code in
+    let p1 = c .before .before .before .before .before .before in
+    let args = p1 .args in
+    let small = code-small (action (actionOf (kindOf (args .kind)))) in (
+      fits _ _ 0 (subst (λ (i : ℕ). i < 256) (sym (operator-code .ensures)) small) (search needs) (search needs),
       search needs,
     )
 
--- src/operations.rt:66:5
 ok-requires-3 : tie.Need-ok-requires-3
 ok-requires-3 c κs = search needs
 
--- src/operations.rt:53:1
 same-length-3 : tie.Need-same-length-3
 same-length-3 c = search needs
 
--- src/operations.rt:53:1
 returns-3 : tie.Need-returns-3
 returns-3 c =
-    let first = ne-eqb _ 61 (c .before .before .before .before .before .before .before .if1 .left) in
-    let second = ne-eqb _ 60 (c .before .before .before .before .before .before .if2 .left) in (
-      c .ok3 .ensures ∙ (ap
-          (λ (i : ℕ). answered (c .before .before .before .before .before .before .before .before .before .before .args .r .token) i 0) (c .before .before .before .emit .ensures .0) ∙ sym (rw (first, second))),
-      c .before .before .before .emit .ensures .1 ∙ (ap (λ (i : ℕ). sets
-          (c .before .before .before .before .before .before .before .before .before .before .args .section .now)
-          (c .before .before .before .before .before .before .before .before .before .before .args .r .count)
-          (word i (c .before .before .before .before .before .before .before .before .before .before .args .depth + 2) 0
-          ∷ [])) (c .before .before .before .before .before .operator-code .ensures)
+    let ok3 = c .ok3 in
+    let emit = c .before .before .before .emit in
+    let p1 = c .before .before .before .before .before in
+    let operator-code = p1 .operator-code in
+    let if2 = p1 .before .if2 in
+    let if1 = p1 .before .before .if1 in
+    let p2 = p1 .before .before .before .before .before in
+    let args = p2 .args in
+    let first = ne-eqb _ 61 (if1 .left) in
+    let second = ne-eqb _ 60 (if2 .left) in (
+      ok3 .ensures ∙ (ap (λ (i : ℕ). answered (args .r .token) i 0) (emit .ensures .0) ∙ sym (rw (first, second))),
+      emit .ensures .1 ∙ (ap (λ (i : ℕ). sets (args .section .now) (args .r .count) (word i (args .depth + 2) 0 ∷ []))
+          (operator-code .ensures)
           ∙ sym (rw (first, second))),
     )
 

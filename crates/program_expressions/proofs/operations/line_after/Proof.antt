@@ -12,15 +12,12 @@ use Rattle.program_expressions.proofs.operations.line_after.Lts as lts
 use Rattle.program_lexer.proofs.token_after.Reads as token-after-reads
 use Rattle.program_parser.proofs.newlines.past_newlines.Reads as past-newlines-reads
 
--- src/operations.rt:24:32
 token-after-requires : tie.Need-token-after-requires
 token-after-requires c κs = search needs
 
--- src/operations.rt:24:5
 past-newlines-requires : tie.Need-past-newlines-requires
 past-newlines-requires c κs = token-ready _ _ _ _ (c .before .before .pre .0) (c .token-after .ensures)
 
--- src/operations.rt:20:1
 returns : tie.Need-returns
 returns c =
     c .past-newlines .ensures

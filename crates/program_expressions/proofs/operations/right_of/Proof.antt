@@ -13,7 +13,6 @@ use Rattle.program_expressions.proofs.operations.right_of.Lts as lts
 use Rattle.program_expressions.proofs.operations.line_after.Reads as line-after-reads
 use Rattle.program_parser.proofs.read.operand_after.Reads as operand-after-reads
 
--- src/operations.rt:44:9
 returns : tie.Need-returns
 returns c =
     ap (λ (i : ℕ). record {
@@ -26,11 +25,9 @@ returns c =
     ∙ sym (ap coded (at-right (c .before .before .args .edition .number) (c .before .before .args .s .now)
     (c .before .before .args .tier) (decoded (c .before .before .args .t)) (eq-eqb _ 4 (c .if1 .taken))))
 
--- src/operations.rt:47:9
 line-after-requires : tie.Need-line-after-requires
 line-after-requires c κs = search needs
 
--- src/operations.rt:47:9
 returns-2 : tie.Need-returns-2
 unfolding rightOf
 returns-2 c = c .line-after .ensures ∙ sym (rw (
@@ -39,11 +36,9 @@ returns-2 c = c .line-after .ensures ∙ sym (rw (
       (c .before .if2 .taken),
 ))
 
--- src/operations.rt:49:5
 operand-after-requires : tie.Need-operand-after-requires
 operand-after-requires c κs = search needs
 
--- src/operations.rt:39:1
 returns-3 : tie.Need-returns-3
 unfolding rightOf
 returns-3 c = c .operand-after .ensures ∙ sym (rw (

@@ -8,23 +8,18 @@ use Rattle.program_emitter.proofs.emit_ere.Reads as emit-ere-reads
 use Rattle.program_lexer.proofs.token_after.Reads as token-after-reads
 use Rattle.program_parser.proofs.read.ok.Reads as ok-reads
 
--- src/parts.rt:56:9
 emit-ere-requires : tie.Need-emit-ere-requires
 emit-ere-requires c κs = search needs
 
--- src/parts.rt:57:14
 token-after-requires : tie.Need-token-after-requires
 token-after-requires c κs = search needs
 
--- src/parts.rt:57:5
 ok-requires : tie.Need-ok-requires
 ok-requires c κs = search needs
 
--- src/parts.rt:52:1
 same-length : tie.Need-same-length
 same-length c = search needs
 
--- src/parts.rt:52:1
 returns : tie.Need-returns
 returns c = (
   answered-as _ _ _ _ _ _ (c .ok .ensures) (c .before .token-after .ensures)

@@ -8,23 +8,18 @@ use Rattle.program_emitter.proofs.emit.Reads as emit-reads
 use Rattle.program_lexer.proofs.token_after.Reads as token-after-reads
 use Rattle.program_parser.proofs.read.ok.Reads as ok-reads
 
--- src/parts.rt:25:9
 emit-requires : tie.Need-emit-requires
 emit-requires c κs = search needs
 
--- src/parts.rt:26:14
 token-after-requires : tie.Need-token-after-requires
 token-after-requires c κs = search needs
 
--- src/parts.rt:26:5
 ok-requires : tie.Need-ok-requires
 ok-requires c κs = search needs
 
--- src/parts.rt:21:1
 same-length : tie.Need-same-length
 same-length c = search needs
 
--- src/parts.rt:21:1
 returns : tie.Need-returns
 returns c = (
   answered-as _ _ _ _ _ _ (c .ok .ensures) (c .before .token-after .ensures)

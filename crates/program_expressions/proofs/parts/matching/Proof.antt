@@ -19,88 +19,104 @@ use Rattle.program_parser.proofs.read.ok.Reads as ok-reads
 use Rattle.program_parser.proofs.read.operand_after.Reads as operand-after-reads
 use Rattle.program_parser.proofs.read.refuse.Reads as refuse-reads
 
--- src/parts.rt:68:9
 returns : tie.Need-returns
-returns c = match-none _ _ _ _ _ (c .before .before .before .before .pre .0) (c .if1 .taken)
+returns c =
+    let if1 = c .if1 in
+    let pre = c .before .before .before .before .pre in
+    match-none _ _ _ _ _ (pre .0) (if1 .taken)
 
--- src/parts.rt:70:9
 operand-after-requires : tie.Need-operand-after-requires
 operand-after-requires c κs = search needs
 
--- src/parts.rt:73:9
 refuse-requires : tie.Need-refuse-requires
-refuse-requires c κs = ready-operand _ _ _ _ (c .before .before .before .before .before .before .pre .0) _
-    (c .before .operand-after .ensures) .known
+refuse-requires c κs =
+    let operand-after = c .before .operand-after in
+    let p1 = c .before .before .before .before .before .before in
+    let pre = p1 .pre in
+    ready-operand _ _ _ _ (pre .0) _ (operand-after .ensures) .known
 
--- src/parts.rt:73:9
 returns-2 : tie.Need-returns-2
-returns-2 c = match-refused _ _ _ _ _ (c .before .before .before .before .before .before .before .pre .0)
-    (c .before .before .before .if1 .left) _ (c .before .before .operand-after .ensures) _ _ (c .before .if2 .taken)
-    (c .refuse .ensures)
+returns-2 c =
+    let refuse = c .refuse in
+    let if2 = c .before .if2 in
+    let operand-after = c .before .before .operand-after in
+    let if1 = c .before .before .before .if1 in
+    let p1 = c .before .before .before .before .before .before .before in
+    let pre = p1 .pre in
+    match-refused _ _ _ _ _ (pre .0) (if1 .left) _ (operand-after .ensures) _ _ (if2 .taken) (refuse .ensures)
 
--- src/parts.rt:75:79
 add-emit : tie.Need-add-emit
 add-emit c = search needs
 
--- src/parts.rt:75:9
 emit-requires : tie.Need-emit-requires
 emit-requires c κs =
-    let u = ready-operand _ _ _ _ (c .before .before .before .before .before .before .before .pre .0) _
-    (c .before .before .operand-after .ensures) in (
+    let operand-after = c .before .before .operand-after in
+    let p1 = c .before .before .before .before .before .before .before in
+    let pre = p1 .pre in
+    let u = ready-operand _ _ _ _ (pre .0) _ (operand-after .ensures) in (
       fits 22 _ _ (omega arith) (search needs) (omega (arith, u .good .ordered, u .good .within, u .small)),
       search
           needs,
     )
 
--- src/parts.rt:76:9
 token-after-requires : tie.Need-token-after-requires
 token-after-requires c κs = search needs
 
--- src/parts.rt:78:9
 ok-requires : tie.Need-ok-requires
 ok-requires c κs = search needs
 
--- src/parts.rt:78:9
 same-length : tie.Need-same-length
 same-length c = search needs
 
--- src/parts.rt:78:9
 returns-3 : tie.Need-returns-3
 returns-3 c =
-    match-tilde _ _ _ _ _
-    (c .before .before .before .before .before .before .before .before .before .before .before .before .before .pre .0) (c .before .before .before .before .before .before .before .before .before .if1 .left) _ (c .before .before .before .before .before .before .before .before .operand-after .ensures) (c .before .before .before .before .before .before .before .if2 .left) (c .before .before .before .before .before .before .before .before .before .before .before .before .before .pre .1) _ (c .before .before .token-after .ensures) _ (c .before .before .before .before .before .emit .ensures .1) _
-    (c .before .if3 .taken) (c .ok .ensures ∙ ap (λ (i : ℕ). answered (c .before .before .token-after .result) i 0)
-    (c .before .before .before .before .before .emit .ensures .0))
+    let ok = c .ok in
+    let if3 = c .before .if3 in
+    let token-after = c .before .before .token-after in
+    let p1 = c .before .before .before .before .before in
+    let emit = p1 .emit in
+    let if2 = p1 .before .before .if2 in
+    let operand-after = p1 .before .before .before .operand-after in
+    let if1 = p1 .before .before .before .before .if1 in
+    let p2 = p1 .before .before .before .before .before .before .before .before in
+    let pre = p2 .pre in
+    match-tilde _ _ _ _ _ (pre .0) (if1 .left) _ (operand-after .ensures) (if2 .left) (pre .1) _
+    (token-after .ensures) _ (emit .ensures .1) _
+    (if3 .taken) (ok .ensures ∙ ap (λ (i : ℕ). answered (token-after .result) i 0) (emit .ensures .0))
 
--- src/parts.rt:80:73
 add-emit-2 : tie.Need-add-emit-2
 add-emit-2 c = search needs
 
--- src/parts.rt:80:9
 emit-requires-2 : tie.Need-emit-requires-2
 emit-requires-2 c κs = search needs
 
--- src/parts.rt:81:5
 ok-requires-2 : tie.Need-ok-requires-2
 ok-requires-2 c κs = search needs
 
--- src/parts.rt:61:1
 same-length-2 : tie.Need-same-length-2
 same-length-2 c = search needs
 
--- src/parts.rt:61:1
 returns-4 : tie.Need-returns-4
 returns-4 c =
-    match-not _ _ _ _ _ (c .before .before .before .before .before .before .before .before .before .before .before .before .before .before .before .before .before .pre .0) (c .before .before .before .before .before .before .before .before .before .before .before .before .before .if1 .left) _ (c .before .before .before .before .before .before .before .before .before .before .before .before .operand-after .ensures) (c .before .before .before .before .before .before .before .before .before .before .before .if2 .left) (c .before .before .before .before .before .before .before .before .before .before .before .before .before .before .before .before .before .pre .1) _ (c .before .before .before .before .before .before .token-after .ensures) _ (c .before .before .before .before .before .before .before .before .before .emit .ensures .1) _ _
-    (c .before .before .before .before .before .if3 .left) (c .before .before .before .emit2 .ensures .1
-    ∙ ap (λ (i : ℕ). sets
-    (c .before .before .before .before .before .before .before .before .before .emit .last .0) i
-    (word 14 (c .before .before .before .before .before .before .before .before .before .before .before .before .before .before .before .before .before .args .depth + 1) 0 ∷ [])) (c .before .before .before .before .before .before .before .before .before .emit .ensures .0))
-    (c .ok2 .ensures ∙ (ap
-    (λ (i : ℕ). answered (c .before .before .before .before .before .before .token-after .result) i 0)
-    (c .before .before .before .emit2 .ensures .0)
-    ∙ ap (λ (i : ℕ). answered (c .before .before .before .before .before .before .token-after .result) (i + 1) 0)
-    (c .before .before .before .before .before .before .before .before .before .emit .ensures .0)))
+    let ok2 = c .ok2 in
+    let emit2 = c .before .before .before .emit2 in
+    let p1 = c .before .before .before .before .before in
+    let if3 = p1 .if3 in
+    let token-after = p1 .before .token-after in
+    let emit = p1 .before .before .before .before .emit in
+    let p2 = p1 .before .before .before .before .before .before in
+    let if2 = p2 .if2 in
+    let operand-after = p2 .before .operand-after in
+    let if1 = p2 .before .before .if1 in
+    let p3 = p2 .before .before .before .before .before .before in
+    let pre = p3 .pre in
+    let args = p3 .args in
+    match-not _ _ _ _ _ (pre .0) (if1 .left) _ (operand-after .ensures) (if2 .left) (pre .1) _ (token-after .ensures)
+    _ (emit .ensures .1) _ _
+    (if3 .left) (emit2 .ensures .1 ∙ ap (λ (i : ℕ). sets (emit .last .0) i (word 14 (args .depth + 1) 0 ∷ []))
+    (emit .ensures .0))
+    (ok2 .ensures ∙ (ap (λ (i : ℕ). answered (token-after .result) i 0) (emit2 .ensures .0)
+    ∙ ap (λ (i : ℕ). answered (token-after .result) (i + 1) 0) (emit .ensures .0)))
 
 pub matching-spec : {M : Type 1} → statement M
 matching-spec =

@@ -5,11 +5,9 @@ use Rattle.program_expressions.proofs.parts.name_form.Tie as tie
 use Rattle.program_expressions.proofs.parts.name_form.Reads as reads
 use Rattle.program_expressions.proofs.parts.name_form.Lts as lts
 
--- src/parts.rt:46:9
 returns : tie.Need-returns
 returns c = sym (rw (eq-eqb _ 9 (c .if1 .taken)))
 
--- src/parts.rt:42:1
 returns-2 : tie.Need-returns-2
 returns-2 c = sym (rw (ne-eqb _ 9 (c .if1 .left)))
 

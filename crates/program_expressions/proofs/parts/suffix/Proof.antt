@@ -11,23 +11,18 @@ use Rattle.program_expressions.proofs.parts.suffix.Lts as lts
 use Rattle.program_emitter.proofs.emit.Reads as emit-reads
 use Rattle.program_parser.proofs.read.ok.Reads as ok-reads
 
--- src/parts.rt:35:9
 returns : tie.Need-returns
 returns c = suffixed-no 0 [] _ _ _ _ _ _ (c .if1 .taken)
 
--- src/parts.rt:37:9
 emit-requires : tie.Need-emit-requires
 emit-requires c κs = search needs
 
--- src/parts.rt:38:5
 ok-requires : tie.Need-ok-requires
 ok-requires c κs = search needs
 
--- src/parts.rt:30:1
 same-length : tie.Need-same-length
 same-length c = search needs
 
--- src/parts.rt:30:1
 returns-2 : tie.Need-returns-2
 returns-2 c =
     suffixed-ok 0 [] _ _ _ _ _ _ _ _ (c .before .before .before .before .before .if1 .left)
