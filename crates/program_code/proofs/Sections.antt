@@ -14,7 +14,7 @@ use Rattle.program_code.specs.Expressions.{size, compile}
 use Rattle.program_code.specs.Sections.{sizeAll, compileAll, sizePrint, compilePrint, sizeOf, compileStatement, partsOf, sectionCode}
 use Rattle.program_code.proofs.Flows.{Stands, Flows, move, stands-at, flows-at, stands-left, stands-right, flows-join, size-length, first, after, flows, constant-flows, unary-flows}
 
-all-length : (es : List Expression) (n d : ℕ) → length (compileAll es n d) ≡ sizeAll es
+pub all-length : (es : List Expression) (n d : ℕ) → length (compileAll es n d) ≡ sizeAll es
 unfolding compileAll sizeAll
 all-length [] n d = refl
 all-length (e ∷ l) n d = omega (arith, length-append (compile e n d) (compileAll l (n + size e) (d + 1)), size-length e n d, all-length l (n + size e) (d + 1))

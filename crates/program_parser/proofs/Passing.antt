@@ -38,7 +38,7 @@ module _ (edition : ℕ) (s : List ℕ) where
       → Passes edition s ks t t
   pass-start ks t g h = record { good = g; known = h; left = length s; enough = omega arith; same = refl }
 
-  still : (ks : List Kind) (n : ℕ) (t : Token) → isOneOf ks t ≡ false → pastIn edition s ks n t ≡ t
+  pub still : (ks : List Kind) (n : ℕ) (t : Token) → isOneOf ks t ≡ false → pastIn edition s ks n t ≡ t
   unfolding pastIn
   still ks zero t e = refl
   still ks (suc n) t e = rw e

@@ -1,0 +1,39 @@
+use Rattle.program_tokens.specs.Tokens.{tokenAfter}
+use Rattle.program_lexer.specs.Coded.{decoded}
+use Rattle.program_statements.proofs.Answers.{answers}
+use borrow.Author.Needs.{needs}
+use Rattle.program_statements.proofs.simple.single.Statement.{statement}
+use Rattle.program_statements.proofs.simple.single.Tie as tie
+
+-- src/simple.rt:34:9
+emit-requires : tie.Need-emit-requires
+emit-requires c κs = search needs
+
+-- src/simple.rt:35:14
+token-after-requires : tie.Need-token-after-requires
+token-after-requires c κs = search needs
+
+-- src/simple.rt:35:5
+ok-requires : tie.Need-ok-requires
+ok-requires c κs = search needs
+
+-- src/simple.rt:27:1
+same-length : tie.Need-same-length
+same-length c = search needs
+
+-- src/simple.rt:27:1
+returns : tie.Need-returns
+returns c =
+    let at-token-after = c .before in
+    let at-emit = at-token-after .before .before .before in
+    let start = at-emit .before .before .before .before in
+    let a = start .args in (
+      answers _ _ (tokenAfter (a .edition .number) (a .s .now) (decoded (a .t))) _ _ 0 (c .ok .ensures)
+          (at-token-after .token-after .ensures)
+          (at-emit .emit .ensures .0),
+      at-emit .emit .ensures .1,
+    )
+
+pub single-spec : {M : Type 1} → statement M
+single-spec =
+    tie.close (tie.spec emit-requires token-after-requires ok-requires same-length returns)

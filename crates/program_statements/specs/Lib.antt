@@ -1,0 +1,4 @@
+-- What the readers of statements, of items and of programs answer.
+pub mod Statements
+pub mod Programs
+pub mod Items
