@@ -1,0 +1,43 @@
+-- Internal: cited by private contracts only. What a match leaves in the working room.
+use mathlib.Core.Path.{_≡_}
+use mathlib.Core.List.{List}
+use Prim.Native.Nat.{ℕ, suc, _+_}
+use lib.ListN.{length}
+use lib.IntN.{pos, negsuc}
+use Rattle.edition.specs.Limits.{operandDepth}
+use Rattle.ere_meaning.specs.Meaning.{Match, found, nowhere}
+use Rattle.values.specs.Value.{Value, number}
+use Rattle.semantics.specs.Variables.{RSTART, RLENGTH}
+use Rattle.number.specs.Range.{unbias}
+use Rattle.splitting.specs.Separator.{Separator}
+use Rattle.run_room.specs.Room.{Store, storeOf, withSlot}
+use Rattle.run_room.specs.Held.{Did}
+use Rattle.run_room.specs.declared.lines.Line.{Line}
+
+abbrev pub rstartSlot : ℕ
+rstartSlot = operandDepth + RSTART
+
+abbrev pub rlengthSlot : ℕ
+rlengthSlot = operandDepth + RLENGTH
+
+-- what RSTART and RLENGTH are after a match
+abbrev pub rstartOf : Match → Value
+rstartOf (found s n) = number (pos (suc s))
+rstartOf nowhere = number (pos 0)
+
+abbrev pub rlengthOf : Match → Value
+rlengthOf (found s n) = number (pos n)
+rlengthOf nowhere = number (negsuc 0)
+
+-- the two variables, and the answer in slot a
+abbrev pub withMark : Store → ℕ → Value → Value → Store
+withMark st a start size = withSlot (withSlot (withSlot st rstartSlot start) rlengthSlot size) a start
+
+abbrev pub markedIn : Store → ℕ → Match → Store
+markedIn st a m = withMark st a (rstartOf m) (rlengthOf m)
+
+-- the same, of the numbers at two distances
+abbrev pub Marks : List ℕ → List ℕ → ℕ → ℕ → ℕ → Type 0
+Marks x y a start size =
+    (l : Line) → Did x l y l (length y ≡ length x)
+    ((s : Separator) → storeOf y l s ≡ withMark (storeOf x l s) a (number (unbias start)) (number (unbias size)))
