@@ -1,5 +1,5 @@
 -- Variables, got and set.
-use mathlib.Core.Path.{_≡_, refl, sym, ap, subst, _∙_}
+use mathlib.Core.Path.{_≡_, refl, sym, ap, ap₂, subst, _∙_}
 use mathlib.Core.Bool.{Bool}
 use mathlib.Core.List.{List}
 use mathlib.Core.Option.{Option, some, none}
@@ -12,7 +12,7 @@ use Rattle.lists.specs.Elements.{nth}
 use Rattle.edition.specs.Limits.{operandDepth, numberBound}
 use Rattle.number.specs.Range.{unbias}
 use Rattle.number.proofs.Bias.{unbias-plus}
-use Rattle.splitting.specs.Separator.{Separator}
+use Rattle.splitting.specs.Separator.{Separator, separatorOf}
 use Rattle.ere_table.specs.Table.{tableWords}
 use Rattle.separators.specs.Kinds.{Sized, Tells}
 use Rattle.separators.specs.declared.kinds.Kind.{Kind}
@@ -25,7 +25,7 @@ use Rattle.run_room.specs.Layout.{slotCount, baseEnd}
 use Rattle.run_room.specs.Room.{slotAt, slotsFrom, lineOf, fieldsOf, Lined, Store, storeOf, withSlot}
 use Rattle.run_room.specs.Held.{SlotHeld, Held, Slotted, Did}
 use Rattle.run_room.specs.declared.lines.Line.{Line}
-use Rattle.run_room.proofs.Stored.{did-slot, did-so}
+use Rattle.run_room.proofs.Stored.{did-slot, did-so, store-slot, held-slot}
 use Rattle.run_records.specs.Records.{fsSlot, Safe, InForce, SeparatorOf}
 use Rattle.run_records.proofs.Stored.{some-one, all-known}
 use Rattle.run_operations.specs.Assigns.{Known, fsOf, Assigns}
@@ -151,6 +151,7 @@ module _ (edition : ℕ) (t : List ℕ) (kind : Kind) (x : List ℕ) (l : Line) 
       let same : fsOf y ≡ fsOf x =
       ap textOf (slot-other x y (operandDepth + v) (slotAt x a) o fsSlot (λ z. ne (sym z))) in (
         subst (λ (fs : List ℕ). Tells edition fs t kind) (sym same) tells,
+        λ f. (f .0, subst (λ (fs : List ℕ). InForce edition fs l (f .0)) (sym same) (f .1)),
         λ s s' f g.
             h s'
             ∙ ap (λ (st : Store). withSlot st (operandDepth + v) (slotAt x a))
@@ -176,6 +177,7 @@ module _ (edition : ℕ) (t : List ℕ) (kind : Kind) (x : List ℕ) (l : Line) 
               held-again y z fsSlot o (omega arith) r (n .0),
               λ tells. (
                 subst (λ (u : Value). Tells edition (textOf u) t' kind') (sym (o .value)) (p .tells),
+                λ f. (f .0, λ h. absurd (omega (arith, n .1 .0))),
                 λ s s' f g.
                     store-again y z fsSlot o (omega arith) r s'
                     ∙ n .1 .1 (fsOf x) tells s s' f

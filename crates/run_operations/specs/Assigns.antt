@@ -12,7 +12,7 @@ use Rattle.values.specs.Value.{Value, textOf}
 use Rattle.semantics.specs.World.{World, recordOf}
 use Rattle.run_room.specs.Room.{slotAt, lineOf, fieldsOf, storeOf, withSlot}
 use Rattle.run_room.specs.declared.lines.Line.{Line}
-use Rattle.run_records.specs.Records.{fsSlot, InForce}
+use Rattle.run_records.specs.Records.{fsSlot, InForce, Forced}
 
 -- what is told of the world: its variables are those of the slots, its record that of the room, and so many records
 -- were begun
@@ -30,5 +30,6 @@ abbrev pub Assigns : ℕ → List ℕ → List ℕ → Kind → Kind → List �
 Assigns edition t t' kind kind' x y l r v a =
     Tells edition (fsOf x) t kind
     → Tells edition (fsOf y) t' kind'
+    × (Forced edition (fsOf x) l → Forced edition (fsOf y) r)
     × ((s s' : Separator) → InForce edition (fsOf x) l s → InForce edition (fsOf y) r s'
     → storeOf y r s' ≡ withSlot (storeOf x l s) (operandDepth + v) (slotAt x a))
