@@ -5,8 +5,8 @@
 
 Reads `objdump -dr` of FILE (default: what `rt staticlib capi` writes). A function's frame is its return address, what it pushes and what it takes off
 the stack pointer. The 128 bytes below the stack pointer, which a function may use unasked while it calls nothing, are added once, at the end.
-Calls are followed from NAME (default: each function of include/flowawk.h); functions that call each other in a circle count once for each level of an ERE's groups, one
-more than the edition's `ERE_GROUPS`. Only the ERE reader may be such a circle. Functions outside the archive (memset and its like) are named, and not
+Calls are followed from NAME (default: each function of include/flowawk.h); functions that call each other in a circle count for each level, one level more than the edition
+allows. The circles that may be there are in the table CIRCLES: how often a function can be on the stack in one level is said there. Functions outside the archive (memset and its like) are named, and not
 counted. BYTES is 16,384 unless given, and for `flowawk_check`, which has a section's index of 4 KiB beside the ERE reader's table, 20,992. Calls through a pointer, and other changes of the stack pointer than those known here, are errors.
 """
 import argparse
@@ -25,9 +25,17 @@ MOST = 16384
 MOST_OF = {'flowawk_check': MOST + 4096 + 512}
 
 
-def levels():
+# The circles of calls: how the names of their functions begin, the edition's constant that bounds their levels, and how often a function can be on the stack
+# in one level, if more than once: `tier` once for each tier, `more` for each tier of operators, `arguments` once for each argument and once for the end.
+CIRCLES = [
+    ('ere_parser::reader::', 'ERE_GROUPS', {}),
+    ('program_expressions::expressions::', 'NESTING', {'tier': 11, 'more': 7, 'arguments': 4}),
+]
+
+
+def levels(constant):
     with open(os.path.join(ROOT, 'crates', 'edition', 'src', 'lib.rt'), encoding='utf-8') as f:
-        return int(re.search(r'ERE_GROUPS: usize = (\d+);', f.read()).group(1)) + 1
+        return int(re.search(constant + r': usize = (\d+);', f.read()).group(1)) + 1
 
 
 def taken(op, words):
@@ -81,16 +89,22 @@ def reached(calls, start):
     return seen
 
 
-def deepest(name, frames, calls, times):
+def counted(circle):
+    """The levels of a circle, and how often each of its functions can be on the stack in one."""
+    for prefix, constant, often in CIRCLES:
+        if all(f.startswith(prefix) for f in circle):
+            return levels(constant), {f: often.get(f[len(prefix):], 1) for f in circle}
+    sys.exit('frames.py: a circle that is not known here: %s' % ', '.join(sorted(circle)))
+
+
+def deepest(name, frames, calls):
     """The greatest sum of frames on a way of calls from a function, and the way: circles, each with its bytes."""
     circle = [f for f in reached(calls, name) if name in reached(calls, f)]
-    if circle and not all(f.startswith('ere_parser::reader::') for f in circle):
-        sys.exit('frames.py: a circle outside the ERE reader: %s' % ', '.join(sorted(circle)))
-    members = circle or [name]
-    own = sum(frames[f] for f in members) * (times if circle else 1)
-    below = [deepest(f, frames, calls, times) for f in sorted({f for m in members for f in calls[m]} - set(members)) if f in frames]
+    times, often = counted(circle) if circle else (1, {name: 1})
+    own = sum(frames[f] * n for f, n in often.items()) * times
+    below = [deepest(f, frames, calls) for f in sorted({f for m in often for f in calls[m]} - set(often)) if f in frames]
     rest, way = max(below, default=(0, []))
-    label = ' + '.join(sorted(members)) + (' (%d levels)' % times if circle else '')
+    label = ' + '.join(sorted(f if n == 1 else '%d %s' % (n, f) for f, n in often.items())) + (' (%d levels)' % times if circle else '')
     return own + rest, [(label, own)] + way
 
 
@@ -104,7 +118,7 @@ def entry(name, frames, calls, most):
     """Prints the deepest way of calls from a function; whether it stays within so many bytes."""
     if name not in frames:
         sys.exit('frames.py: no function %s' % name)
-    total, way = deepest(name, frames, calls, levels())
+    total, way = deepest(name, frames, calls)
     total += RED_ZONE
     for label, own in way + [('below the stack pointer', RED_ZONE)]:
         print('%6d  %s' % (own, label))
