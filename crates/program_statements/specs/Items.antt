@@ -21,8 +21,7 @@ use Rattle.program_statements.specs.Programs.{countIn, Refused}
 
 module _ (edition : ℕ) (s : List ℕ) where
   -- what an item that is read from the token t on, up to the token u, puts into a section, which was xs and is ys: the
-  -- count was n and is m.
-  -- (A pattern without an action has three instructions more; an end or the text's end follows it.)
+  -- count was n and is m. (A pattern without an action has three instructions more; an end or the text's end follows.)
   pub record Put (t u : Token) (n m : ℕ) (xs : List ℕ) (a : Statement) (ys : List ℕ) : Type 0 where
     pub count : m ≡ n + sizeOf a
     pub bound : sizeOf a + 8 * t .start ≤ 8 * u .start + 3

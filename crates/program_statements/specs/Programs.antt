@@ -1,5 +1,5 @@
--- Internal: cited by private contracts only. What the reader of whole programs answers: the definition's refusal, or the
--- code of the definition's tree.
+-- Internal: cited by private contracts only. What the reader of whole programs answers: the definition's refusal, or
+-- the code of the definition's tree.
 use mathlib.Core.Path.{_≡_}
 use mathlib.Core.List.{List}
 use Prim.Native.Nat.{ℕ}
@@ -29,8 +29,7 @@ pub record Refused (outcome place : ℕ) (r : Program) : Type 0 where
 
 module _ (edition : ℕ) (s : List ℕ) where
   -- a program that was read: for each section, "each section ends in 0" included, how many instructions its code has,
-  -- and words for
-  -- them, stored from instruction 0 on; the sections were xs and are ys
+  -- and words for them, stored from instruction 0 on; the sections were xs and are ys
   pub record Translated (xs : Section → List ℕ) (p : Tree) (r : Program) (ys : Section → List ℕ) : Type 0 where
     pub outcome : r .outcome ≡ 0
     pub counts : (x : Section) → countIn r x ≡ length (sectionCode x p)

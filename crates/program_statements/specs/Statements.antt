@@ -39,8 +39,7 @@ module _ (edition : ℕ) (s : List ℕ) where
   bracesOf inMain (suc levels) = blockOf edition s (statementAt edition s inMain levels)
 
   -- ---- a condition in parentheses, from its `(` on, with n instructions written: as an expression at depth 0; what
-  -- the tree
-  -- exactly is does not matter
+  -- the tree exactly is does not matter
   pub record ReadCondition (t : Token) (n : ℕ) (xs : List ℕ) (e : Expression) (u : Token) (r : Read) (ys : List ℕ)
       : Type 0 where
     pub answer : r ≡ success u (n + size e) 0

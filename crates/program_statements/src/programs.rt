@@ -20,8 +20,7 @@ use program_parser::operators;
 use program_parser::read;
 
 // What was read of a program: the first token after it and how many instructions each section has; or an outcome, and a
-// token
-// that starts at its place.
+// token that starts at its place.
 pub struct Program {
     pub token: Token,
     pub outcome: u64,
@@ -158,8 +157,7 @@ fn item(
 }
 
 // Reads a whole text: writes the code of each section, its last instruction included; or answers the outcome and the
-// place of its
-// refusal.
+// place of its refusal.
 pub fn read_program(
     s: &[u8],
     begin: &mut [u64],

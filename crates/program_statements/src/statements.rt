@@ -142,26 +142,12 @@ fn statement(
         return read::ok(program_lexer::token_after(s, t, edition), n, read::ENDED);
     }
     if kind == kinds::IF {
-        return if_else(
-            s,
-            section,
-            edition,
-            program_lexer::token_after(s, t, edition),
-            n,
-            levels,
-            in_main,
-        );
+        let u = program_lexer::token_after(s, t, edition);
+        return if_else(s, section, edition, u, n, levels, in_main);
     }
     if kind == kinds::WHILE {
-        return repeat(
-            s,
-            section,
-            edition,
-            program_lexer::token_after(s, t, edition),
-            n,
-            levels,
-            in_main,
-        );
+        let v = program_lexer::token_after(s, t, edition);
+        return repeat(s, section, edition, v, n, levels, in_main);
     }
     if kind == kinds::PRINT {
         return simple::print(s, section, edition, t, n, levels);

@@ -1052,14 +1052,15 @@ statement-token-after-requires-2 t c κs = search needs
 statement-if-else-requires : (t : ℕ) → statement-lts.Need-if-else-requires (statement-calls t) (statement-at t)
     statement′.Post
 statement-if-else-requires t c κs =
-    let at-if4 = c .before .before in
+    let at-token-after2 = c .before in
+    let at-if4 = at-token-after2 .before in
     let start = at-if4 .before .before .before .before .before in
     let a = start .args in (
       omega (arith, start .pre .0),
       (
         after-ready (a .edition .number) (a .s .now) (a .in-main) (a .levels) (a .t) (a .n) (a .section .now)
             (start .pre .1 .0) (λ z. omega (arith, at-if4 .if4 .taken)) _
-            (c .token-after2 .ensures),
+            (at-token-after2 .token-after2 .ensures),
         start .pre .1 .1,
       ),
     )
@@ -1073,8 +1074,8 @@ statement-same-length-2 t c = search needs
 statement-returns-4 : (t : ℕ) → statement-lts.Need-returns-4 (statement-calls t) (statement-at t) statement′.Post
 statement-returns-4 t c =
     let at-if-else = c .before .before in
-    let at-token-after2 = at-if-else .before in
-    let at-if4 = at-token-after2 .before .before in
+    let at-token-after2 = at-if-else .before .before in
+    let at-if4 = at-token-after2 .before in
     let start = at-if4 .before .before .before .before .before in
     let a = start .args in
     if-read (a .edition .number) (a .s .now) (a .in-main) (a .levels) (a .t) (a .n) (a .section .now)
@@ -1090,14 +1091,15 @@ statement-token-after-requires-3 t c κs = search needs
 statement-repeat-requires : (t : ℕ) → statement-lts.Need-repeat-requires (statement-calls t) (statement-at t)
     statement′.Post
 statement-repeat-requires t c κs =
-    let at-if5 = c .before .before in
+    let at-token-after3 = c .before in
+    let at-if5 = at-token-after3 .before in
     let start = at-if5 .before .before .before .before .before .before in
     let a = start .args in (
       omega (arith, start .pre .0),
       (
         after-ready (a .edition .number) (a .s .now) (a .in-main) (a .levels) (a .t) (a .n) (a .section .now)
             (start .pre .1 .0) (λ z. omega (arith, at-if5 .if5 .taken)) _
-            (c .token-after3 .ensures),
+            (at-token-after3 .token-after3 .ensures),
         start .pre .1 .1,
       ),
     )
@@ -1111,8 +1113,8 @@ statement-same-length-3 t c = search needs
 statement-returns-5 : (t : ℕ) → statement-lts.Need-returns-5 (statement-calls t) (statement-at t) statement′.Post
 statement-returns-5 t c =
     let at-repeat = c .before .before in
-    let at-token-after3 = at-repeat .before in
-    let at-if5 = at-token-after3 .before .before in
+    let at-token-after3 = at-repeat .before .before in
+    let at-if5 = at-token-after3 .before in
     let start = at-if5 .before .before .before .before .before .before in
     let a = start .args in
     while-read (a .edition .number) (a .s .now) (a .in-main) (a .levels) (a .t) (a .n) (a .section .now)
