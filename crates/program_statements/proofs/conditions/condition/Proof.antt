@@ -5,11 +5,9 @@ use borrow.Author.Needs.{needs}
 use Rattle.program_statements.proofs.conditions.condition.Statement.{statement}
 use Rattle.program_statements.proofs.conditions.condition.Tie as tie
 
--- src/conditions.rt:28:9
 refuse-requires : tie.Need-refuse-requires
 refuse-requires c κs = search needs
 
--- src/conditions.rt:28:9
 returns : tie.Need-returns
 returns c =
     let at-if1 = c .before in
@@ -19,11 +17,9 @@ returns c =
     (at-if1 .if1 .taken)
     (c .refuse .ensures)
 
--- src/conditions.rt:30:9
 operand-after-requires : tie.Need-operand-after-requires
 operand-after-requires c κs = search needs
 
--- src/conditions.rt:31:9
 inside-requires : tie.Need-inside-requires
 inside-requires c κs =
     let at-operand-after = c .before in
@@ -35,7 +31,6 @@ inside-requires c κs =
     (at-operand-after .operand-after .ensures) in
     (h, omega (arith, start .pre .1), omega arith)
 
--- src/conditions.rt:32:5
 closed-requires : tie.Need-closed-requires
 closed-requires c κs =
     let at-inside = c .before .before in
@@ -43,11 +38,9 @@ closed-requires c κs =
     let a = start .args in
     expression-known (a .edition .number) (a .s .now) _ (a .n) (a .section .now) 0 _ _ _ (at-inside .inside .ensures)
 
--- src/conditions.rt:20:1
 same-length : tie.Need-same-length
 same-length c = search needs
 
--- src/conditions.rt:20:1
 returns-2 : tie.Need-returns-2
 returns-2 c =
     let at-inside = c .before .before .before in

@@ -19,15 +19,12 @@ Inv-loop s edition free u₀ ended₀ semicolons₀ u ended semicolons = ElseTur
 abbrev μ-loop : tie.MeasureT-loop
 μ-loop s edition free u₀ ended₀ semicolons₀ u ended semicolons = length s - u .start
 
--- src/conditions.rt:52:5
 loop-holds : tie.Need-loop-holds Inv-loop μ-loop
 loop-holds c = else-start _ _ _ _ (c .before .pre .0) (c .before .pre .1)
 
--- src/conditions.rt:54:13
 token-after-requires : tie.Need-token-after-requires Inv-loop μ-loop
 token-after-requires c κs = search needs
 
--- src/conditions.rt:56:13
 returns : tie.Need-returns Inv-loop μ-loop
 returns c =
     let at-token-after = c .before in
@@ -36,7 +33,6 @@ returns c =
     else-found _ _ _ (start .args .free) _ _ _ (at-loop .loop .inv) _ (at-token-after .token-after .ensures)
     (c .if1 .taken)
 
--- src/conditions.rt:59:13
 returns-2 : tie.Need-returns-2 Inv-loop μ-loop
 returns-2 c =
     let at-if1 = c .before in
@@ -44,7 +40,6 @@ returns-2 c =
     let start = at-loop .before .before in
     else-none _ _ _ (start .args .free) _ _ _ (at-loop .loop .inv) (at-if1 .if1 .left) (c .if2 .taken)
 
--- src/conditions.rt:52:5
 loop-less : tie.Need-loop-less Inv-loop μ-loop
 loop-less c =
     let at-token-after = c .before .before in
@@ -53,7 +48,6 @@ loop-less c =
     else-nearer _ _ _ (start .args .free) _ _ _ (at-loop .loop .inv) _ (at-token-after .token-after .ensures)
     (c .if2 .left)
 
--- src/conditions.rt:52:5
 loop-again : tie.Need-loop-again Inv-loop μ-loop
 loop-again c =
     let at-token-after = c .before .before in

@@ -3,11 +3,9 @@ use borrow.Author.Needs.{needs}
 use Rattle.program_statements.proofs.programs.action.Statement.{statement}
 use Rattle.program_statements.proofs.programs.action.Tie as tie
 
--- src/programs.rt:45:9
 refuse-requires : tie.Need-refuse-requires
 refuse-requires c κs = search needs
 
--- src/programs.rt:45:9
 returns : tie.Need-returns
 returns c =
     let at-if1 = c .before in
@@ -16,19 +14,15 @@ returns c =
     action-refused (a .edition .number) (a .s .now) (a .in-main) (a .t) (a .n) (a .section .now) (start .pre .known) _
     _ (at-if1 .if1 .taken) (c .refuse .ensures)
 
--- src/programs.rt:47:50
 sub-block : tie.Need-sub-block
 sub-block c = search needs
 
--- src/programs.rt:47:5
 block-requires : tie.Need-block-requires
 block-requires c κs = search needs
 
--- src/programs.rt:37:1
 same-length : tie.Need-same-length
 same-length c = search needs
 
--- src/programs.rt:37:1
 returns-2 : tie.Need-returns-2
 returns-2 c =
     let at-block = c .before .before in

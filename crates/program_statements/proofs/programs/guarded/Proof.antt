@@ -15,15 +15,12 @@ use borrow.Author.Needs.{needs}
 use Rattle.program_statements.proofs.programs.guarded.Statement.{statement}
 use Rattle.program_statements.proofs.programs.guarded.Tie as tie
 
--- src/programs.rt:59:9
 tier-requires : tie.Need-tier-requires
 tier-requires c κs = search needs
 
--- src/programs.rt:61:9
 same-length : tie.Need-same-length
 same-length c = search needs
 
--- src/programs.rt:61:9
 returns : tie.Need-returns
 returns c =
     let at-tier = c .before .before .before .before in
@@ -32,7 +29,6 @@ returns c =
     pattern-failed (a .edition .number) (a .s .now) (a .t) (a .n) (a .section .now) (start .pre) _ _
     (at-tier .tier .ensures) (c .if1 .taken)
 
--- src/programs.rt:66:8
 is-ender-requires : tie.Need-is-ender-requires
 is-ender-requires c κs =
     let at-if1 = c .before in
@@ -42,7 +38,6 @@ is-ender-requires c κs =
     pattern-ready (a .edition .number) (a .s .now) (a .t) (a .n) (a .section .now) (start .pre) _ _
     (at-tier .tier .ensures) (at-if1 .if1 .left) .known
 
--- src/programs.rt:67:58
 add-emit-print : tie.Need-add-emit-print
 add-emit-print c =
     let at-if1 = c .before .before .before .before in
@@ -55,7 +50,6 @@ add-emit-print c =
           (at-tier .tier .ensures) (at-if1 .if1 .left),
     )
 
--- src/programs.rt:67:13
 emit-print-requires : tie.Need-emit-print-requires
 emit-print-requires c κs =
     let at-if1 = c .before .before .before .before in
@@ -68,7 +62,6 @@ emit-print-requires c κs =
           (at-tier .tier .ensures) (at-if1 .if1 .left),
     )
 
--- src/programs.rt:68:9
 emit-requires : tie.Need-emit-requires
 emit-requires c κs =
     let at-emit-print = c .before .before .before in
@@ -83,15 +76,12 @@ emit-requires c κs =
       at-emit-print .emit-print .ensures .0,
     )
 
--- src/programs.rt:69:9
 ok-requires : tie.Need-ok-requires
 ok-requires c κs = search needs
 
--- src/programs.rt:69:9
 same-length-2 : tie.Need-same-length-2
 same-length-2 c = search needs
 
--- src/programs.rt:69:9
 returns-2 : tie.Need-returns-2
 returns-2 c =
     let at-emit = c .before .before .before in
@@ -108,7 +98,6 @@ returns-2 c =
     ∙ at-if2 .if2 .taken) (at-emit-print .emit-print .ensures .0)
     (at-emit-print .emit-print .ensures .1) (at-emit .emit .ensures .1) (c .ok .ensures)
 
--- src/programs.rt:71:44
 add-action : tie.Need-add-action
 add-action c =
     let at-if1 = c .before .before .before .before in
@@ -121,7 +110,6 @@ add-action c =
           (at-tier .tier .ensures) (at-if1 .if1 .left),
     )
 
--- src/programs.rt:71:9
 action-requires : tie.Need-action-requires
 action-requires c κs =
     let at-if1 = c .before .before .before .before in
@@ -131,11 +119,9 @@ action-requires c κs =
     pattern-ready (a .edition .number) (a .s .now) (a .t) (a .n) (a .section .now) (start .pre) _ _
     (at-tier .tier .ensures) (at-if1 .if1 .left)
 
--- src/programs.rt:73:9
 same-length-3 : tie.Need-same-length-3
 same-length-3 c = search needs
 
--- src/programs.rt:73:9
 returns-3 : tie.Need-returns-3
 returns-3 c =
     let at-action = c .before .before .before .before in
@@ -150,7 +136,6 @@ returns-3 c =
     (ap (λ (x : Bool). x || eqb (at-tier .tier .result .token .kind) 0) (sym (at-is-ender .is-ender .ensures))
     ∙ at-if2 .if2 .left) _ _ (at-action .action .ensures) (c .if3 .taken)
 
--- src/programs.rt:75:5
 emit-requires-2 : tie.Need-emit-requires-2
 emit-requires-2 c κs =
     let at-if3 = c .before in
@@ -169,11 +154,9 @@ emit-requires-2 c κs =
     ∙ at-if2 .if2 .left) _ _ (at-action .action .ensures) (at-if3 .if3 .left) in
     omega (arith, c0, r0)
 
--- src/programs.rt:51:1
 same-length-4 : tie.Need-same-length-4
 same-length-4 c = search needs
 
--- src/programs.rt:51:1
 returns-4 : tie.Need-returns-4
 returns-4 c =
     let at-emit2 = c .before .before in

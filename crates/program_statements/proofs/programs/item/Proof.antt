@@ -5,11 +5,9 @@ use borrow.Author.Needs.{needs}
 use Rattle.program_statements.proofs.programs.item.Statement.{statement}
 use Rattle.program_statements.proofs.programs.item.Tie as tie
 
--- src/programs.rt:127:13
 token-after-requires : tie.Need-token-after-requires
 token-after-requires c κs = search needs
 
--- src/programs.rt:128:13
 action-requires : tie.Need-action-requires
 action-requires c κs =
     let at-token-after = c .before in
@@ -20,11 +18,9 @@ action-requires c κs =
     (λ z. omega (arith, at-if1 .if1 .taken)) _
     (at-token-after .token-after .ensures) begin-section
 
--- src/programs.rt:130:9
 same-length : tie.Need-same-length
 same-length c = search needs
 
--- src/programs.rt:130:9
 returns : tie.Need-returns
 returns c =
     let at-action = c .before .before .before in
@@ -36,11 +32,9 @@ returns c =
     (λ z. omega (arith, at-if1 .if1 .taken)) _
     (at-token-after .token-after .ensures) _ _ (at-if1 .if1 .taken) (at-action .action .ensures)
 
--- src/programs.rt:139:13
 token-after-requires-2 : tie.Need-token-after-requires-2
 token-after-requires-2 c κs = search needs
 
--- src/programs.rt:140:13
 action-requires-2 : tie.Need-action-requires-2
 action-requires-2 c κs =
     let at-token-after2 = c .before in
@@ -51,11 +45,9 @@ action-requires-2 c κs =
     (λ z. omega (arith, at-if2 .if2 .taken)) _
     (at-token-after2 .token-after2 .ensures) end-section
 
--- src/programs.rt:142:9
 same-length-2 : tie.Need-same-length-2
 same-length-2 c = search needs
 
--- src/programs.rt:142:9
 returns-2 : tie.Need-returns-2
 returns-2 c =
     let at-action2 = c .before .before .before in
@@ -67,7 +59,6 @@ returns-2 c =
     (λ z. omega (arith, at-if2 .if2 .taken)) _
     (at-token-after2 .token-after2 .ensures) _ _ (at-if2 .if2 .taken) (at-action2 .action2 .ensures)
 
--- src/programs.rt:150:9
 main-item-requires : tie.Need-main-item-requires
 main-item-requires c κs =
     let at-if2 = c .before in
@@ -79,11 +70,9 @@ main-item-requires c κs =
       at-if2 .if2 .left,
     )
 
--- src/programs.rt:110:1
 same-length-3 : tie.Need-same-length-3
 same-length-3 c = search needs
 
--- src/programs.rt:110:1
 returns-3 : tie.Need-returns-3
 returns-3 c =
     let at-main-item = c .before .before .before in

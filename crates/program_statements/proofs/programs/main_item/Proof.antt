@@ -3,15 +3,12 @@ use borrow.Author.Needs.{needs}
 use Rattle.program_statements.proofs.programs.main_item.Statement.{statement}
 use Rattle.program_statements.proofs.programs.main_item.Tie as tie
 
--- src/programs.rt:88:9
 action-requires : tie.Need-action-requires
 action-requires c κs = search needs
 
--- src/programs.rt:88:9
 same-length : tie.Need-same-length
 same-length c = search needs
 
--- src/programs.rt:88:9
 returns : tie.Need-returns
 returns c =
     let at-action = c .before .before in
@@ -22,15 +19,12 @@ returns c =
     (a .section .now) _ _ (start .pre .0) (at-if1 .if1 .taken)
     (at-action .action .ensures)
 
--- src/programs.rt:90:5
 guarded-requires : tie.Need-guarded-requires
 guarded-requires c κs = search needs
 
--- src/programs.rt:80:1
 same-length-2 : tie.Need-same-length-2
 same-length-2 c = search needs
 
--- src/programs.rt:80:1
 returns-2 : tie.Need-returns-2
 returns-2 c =
     let at-guarded = c .before .before in

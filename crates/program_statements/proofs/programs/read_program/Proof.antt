@@ -32,11 +32,9 @@ Inv-loop s begin₀ main₀ end₀ edition p₀ begin main end p =
 abbrev μ-loop : tie.MeasureT-loop
 μ-loop s begin₀ main₀ end₀ edition p₀ begin main end p = length s - p .token .start
 
--- src/programs.rt:154:44
 token-at-requires : tie.Need-token-at-requires Inv-loop μ-loop
 token-at-requires c κs = search needs
 
--- src/programs.rt:154:9
 past-newlines-requires : tie.Need-past-newlines-requires Inv-loop μ-loop
 past-newlines-requires c κs =
     let start = c .before .before .before .before .before in
@@ -44,7 +42,6 @@ past-newlines-requires c κs =
     token-ready (a .edition .number) (a .s .now) _ (tokenAt (a .edition .number) (a .s .now) 0) 0 (c .token-at .ensures)
     (good-at (a .edition .number) (a .s .now) 0 (omega arith))
 
--- src/programs.rt:162:5
 loop-holds : tie.Need-loop-holds Inv-loop μ-loop
 loop-holds c =
     let at-token-at = c .before in
@@ -58,7 +55,6 @@ loop-holds c =
           (c .past-newlines .ensures) refl (each-section _ refl refl refl),
     )
 
--- src/programs.rt:165:17
 emit-requires : tie.Need-emit-requires Inv-loop μ-loop
 emit-requires c κs =
     let at-loop = c .before .before .before .before in
@@ -70,7 +66,6 @@ emit-requires c κs =
           begin-section,
     )
 
--- src/programs.rt:166:17
 emit-requires-2 : tie.Need-emit-requires-2 Inv-loop μ-loop
 emit-requires-2 c κs =
     let at-loop = c .before .before .before .before .before .before .before .before in
@@ -78,7 +73,6 @@ emit-requires-2 c κs =
     let a = start .args in
     omega (arith, counts-small (a .edition .number) (a .s .now) _ _ _ (at-loop .loop .inv .3) (start .pre) main-section)
 
--- src/programs.rt:167:17
 emit-requires-3 : tie.Need-emit-requires-3 Inv-loop μ-loop
 emit-requires-3 c κs =
     let at-loop = c .before .before .before .before .before .before .before .before .before .before .before .before in
@@ -86,21 +80,18 @@ emit-requires-3 c κs =
     let a = start .args in
     omega (arith, counts-small (a .edition .number) (a .s .now) _ _ _ (at-loop .loop .inv .3) (start .pre) end-section)
 
--- src/programs.rt:168:13
 same-length : tie.Need-same-length Inv-loop μ-loop
 same-length c =
     let at-emit = c .before .before .before .before .before .before .before .before .before .before in
     let at-loop = at-emit .before .before .before .before .before in
     omega (arith, at-emit .emit .kept .0, at-loop .loop .inv .0)
 
--- src/programs.rt:168:13
 same-length-2 : tie.Need-same-length-2 Inv-loop μ-loop
 same-length-2 c =
     let at-emit2 = c .before .before .before .before .before .before in
     let at-loop = at-emit2 .before .before .before .before .before .before .before .before .before in
     omega (arith, at-emit2 .emit2 .kept .0, at-loop .loop .inv .1)
 
--- src/programs.rt:168:13
 same-length-3 : tie.Need-same-length-3 Inv-loop μ-loop
 same-length-3 c =
     let at-emit3 = c .before .before in
@@ -108,7 +99,6 @@ same-length-3 c =
     .before .before in
     omega (arith, at-emit3 .emit3 .kept .0, at-loop .loop .inv .2)
 
--- src/programs.rt:168:13
 returns : tie.Need-returns Inv-loop μ-loop
 returns c =
     let at-emit3 = c .before .before in
@@ -122,7 +112,6 @@ returns c =
     (each-section _ (at-emit .emit .ensures .0) (at-emit2 .emit2 .ensures .0) (at-emit3 .emit3 .ensures .0))
     (each-section _ (at-emit .emit .ensures .1) (at-emit2 .emit2 .ensures .1) (at-emit3 .emit3 .ensures .1))
 
--- src/programs.rt:176:13
 item-requires : tie.Need-item-requires Inv-loop μ-loop
 item-requires c κs =
     let at-if1 = c .before .before .before in
@@ -131,28 +120,24 @@ item-requires c κs =
     let a = start .args in
     program-onward (a .edition .number) (a .s .now) _ _ _ (at-loop .loop .inv .3) (at-if1 .if1 .left) (start .pre)
 
--- src/programs.rt:178:13
 same-length-4 : tie.Need-same-length-4 Inv-loop μ-loop
 same-length-4 c =
     let at-item = c .before .before .before .before .before .before .before .before in
     let at-loop = at-item .before .before .before .before .before .before .before in
     omega (arith, at-item .item .kept .1 .0, at-loop .loop .inv .0)
 
--- src/programs.rt:178:13
 same-length-5 : tie.Need-same-length-5 Inv-loop μ-loop
 same-length-5 c =
     let at-item = c .before .before .before .before .before .before .before .before in
     let at-loop = at-item .before .before .before .before .before .before .before in
     omega (arith, at-item .item .kept .1 .1 .0, at-loop .loop .inv .1)
 
--- src/programs.rt:178:13
 same-length-6 : tie.Need-same-length-6 Inv-loop μ-loop
 same-length-6 c =
     let at-item = c .before .before .before .before .before .before .before .before in
     let at-loop = at-item .before .before .before .before .before .before .before in
     omega (arith, at-item .item .kept .1 .1 .1 .0, at-loop .loop .inv .2)
 
--- src/programs.rt:178:13
 returns-2 : tie.Need-returns-2 Inv-loop μ-loop
 returns-2 c =
     let at-item = c .before .before .before .before .before .before .before .before in
@@ -163,7 +148,6 @@ returns-2 c =
     program-failed (a .edition .number) (a .s .now) _ _ _ (at-loop .loop .inv .3) (at-if1 .if1 .left) (start .pre) _ _
     (at-item .item .ensures) (c .if2 .taken)
 
--- src/programs.rt:180:13
 past-requires : tie.Need-past-requires Inv-loop μ-loop
 past-requires c κs =
     let at-item = c .before .before .before .before .before .before .before .before in
@@ -174,7 +158,6 @@ past-requires c κs =
     item-ready (a .edition .number) (a .s .now) _ _ _ (at-loop .loop .inv .3) (at-if1 .if1 .left) (start .pre) _ _
     (at-item .item .ensures) (c .if2 .left)
 
--- src/programs.rt:181:13
 as-operand-requires : tie.Need-as-operand-requires Inv-loop μ-loop
 as-operand-requires c κs =
     let at-if2 = c .before in
@@ -186,7 +169,6 @@ as-operand-requires c κs =
     passed-ready (a .edition .number) (a .s .now) _ _ _ (at-loop .loop .inv .3) (at-if1 .if1 .left) (start .pre) _ _
     (at-item .item .ensures) (at-if2 .if2 .left) _ (c .past .ensures)
 
--- src/programs.rt:162:5
 loop-less : tie.Need-loop-less Inv-loop μ-loop
 loop-less c =
     let at-past = c .before in
@@ -200,7 +182,6 @@ loop-less c =
     (at-item .item .ensures) (at-if2 .if2 .left) _ (at-past .past .ensures) _
     (c .as-operand .ensures)
 
--- src/programs.rt:162:5
 loop-again : tie.Need-loop-again Inv-loop μ-loop
 loop-again c =
     let at-past = c .before in

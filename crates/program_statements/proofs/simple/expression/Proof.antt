@@ -4,15 +4,12 @@ use borrow.Author.Needs.{needs}
 use Rattle.program_statements.proofs.simple.expression.Statement.{statement}
 use Rattle.program_statements.proofs.simple.expression.Tie as tie
 
--- src/simple.rt:46:9
 tier-requires : tie.Need-tier-requires
 tier-requires c κs = search needs
 
--- src/simple.rt:48:9
 same-length : tie.Need-same-length
 same-length c = search needs
 
--- src/simple.rt:48:9
 returns : tie.Need-returns
 returns c =
     let at-tier = c .before .before .before .before in
@@ -21,7 +18,6 @@ returns c =
     expression-refused (a .edition .number) (a .s .now) (a .t) (a .n) (a .section .now) _ _ _ (at-tier .tier .ensures)
     (c .if1 .taken)
 
--- src/simple.rt:50:9
 emit-requires : tie.Need-emit-requires
 emit-requires c κs =
     let at-if1 = c .before in
@@ -34,15 +30,12 @@ emit-requires c κs =
           (at-tier .tier .ensures) (at-if1 .if1 .left),
     )
 
--- src/simple.rt:51:5
 ok-requires : tie.Need-ok-requires
 ok-requires c κs = search needs
 
--- src/simple.rt:39:1
 same-length-2 : tie.Need-same-length-2
 same-length-2 c = search needs
 
--- src/simple.rt:39:1
 returns-2 : tie.Need-returns-2
 returns-2 c =
     let at-emit = c .before .before .before in

@@ -4,11 +4,9 @@ use borrow.Author.Needs.{needs}
 use Rattle.program_statements.proofs.simple.print.Statement.{statement}
 use Rattle.program_statements.proofs.simple.print.Tie as tie
 
--- src/simple.rt:91:9
 operand-after-requires : tie.Need-operand-after-requires
 operand-after-requires c κs = search needs
 
--- src/simple.rt:92:8
 starts-expression-requires : tie.Need-starts-expression-requires
 starts-expression-requires c κs =
     let start = c .before .before .before in
@@ -16,7 +14,6 @@ starts-expression-requires c κs =
     print-ready (a .edition .number) (a .s .now) (a .levels) (a .t) (a .n) (a .section .now) (start .pre .0)
     (start .pre .2) _ (c .operand-after .ensures) .known
 
--- src/simple.rt:93:9
 print-list-requires : tie.Need-print-list-requires
 print-list-requires c κs =
     let at-operand-after = c .before .before .before in
@@ -27,11 +24,9 @@ print-list-requires c κs =
       start .pre .1,
     )
 
--- src/simple.rt:93:9
 same-length : tie.Need-same-length
 same-length c = search needs
 
--- src/simple.rt:93:9
 returns : tie.Need-returns
 returns c =
     let at-print-list = c .before .before in
@@ -44,19 +39,15 @@ returns c =
     (start .pre .2) _ (at-operand-after .operand-after .ensures) _ _
     (sym (at-starts-expression .starts-expression .ensures) ∙ at-if1 .if1 .taken) (at-print-list .print-list .ensures)
 
--- src/simple.rt:95:17
 emit-print-requires : tie.Need-emit-print-requires
 emit-print-requires c κs = search needs
 
--- src/simple.rt:95:5
 ok-requires : tie.Need-ok-requires
 ok-requires c κs = search needs
 
--- src/simple.rt:83:1
 same-length-2 : tie.Need-same-length-2
 same-length-2 c = search needs
 
--- src/simple.rt:83:1
 returns-2 : tie.Need-returns-2
 returns-2 c =
     let at-emit-print = c .before .before .before in

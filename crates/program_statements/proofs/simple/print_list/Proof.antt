@@ -23,7 +23,6 @@ Inv-loop s section₀ edition n levels first₀ count₀ d₀ section first coun
 abbrev μ-loop : tie.MeasureT-loop
 μ-loop s section₀ edition n levels first₀ count₀ d₀ section first count d = length s - first .start
 
--- src/simple.rt:66:5
 loop-holds : tie.Need-loop-holds Inv-loop μ-loop
 loop-holds c =
     let a = c .before .before .args in (
@@ -32,7 +31,6 @@ loop-holds c =
           (c .before .before .pre .0),
     )
 
--- src/simple.rt:67:13
 tier-requires : tie.Need-tier-requires Inv-loop μ-loop
 tier-requires c κs =
     let at-loop = c .before in
@@ -43,14 +41,12 @@ tier-requires c κs =
       omega arith,
     )
 
--- src/simple.rt:69:13
 same-length : tie.Need-same-length Inv-loop μ-loop
 same-length c =
     let at-tier = c .before .before .before .before in
     let at-loop = at-tier .before .before in
     omega (arith, at-loop .loop .inv .0, at-tier .tier .kept .1 .0)
 
--- src/simple.rt:69:13
 returns : tie.Need-returns Inv-loop μ-loop
 returns c =
     let at-tier = c .before .before .before .before in
@@ -60,7 +56,6 @@ returns c =
     list-failed (a .edition .number) (a .s .now) (a .levels) (a .n) (a .u) (a .section .now) _ _ _ _
     (at-loop .loop .inv .1) _ _ (at-tier .tier .ensures) (c .if1 .taken)
 
--- src/simple.rt:71:9
 add-d : tie.Need-add-d Inv-loop μ-loop
 add-d c =
     let at-tier = c .before .before .before .before in
@@ -74,7 +69,6 @@ add-d c =
           (c .if1 .left),
     )
 
--- src/simple.rt:75:17
 emit-requires : tie.Need-emit-requires Inv-loop μ-loop
 emit-requires c κs =
     let at-if1 = c .before .before .before .before in
@@ -89,11 +83,9 @@ emit-requires c κs =
           (at-if1 .if1 .left),
     )
 
--- src/simple.rt:76:13
 ok-requires : tie.Need-ok-requires Inv-loop μ-loop
 ok-requires c κs = search needs
 
--- src/simple.rt:76:13
 same-length-2 : tie.Need-same-length-2 Inv-loop μ-loop
 same-length-2 c =
     let at-emit = c .before .before .before in
@@ -101,7 +93,6 @@ same-length-2 c =
     let at-loop = at-tier .before .before in
     omega (arith, at-loop .loop .inv .0, at-tier .tier .kept .1 .0, at-emit .emit .kept .0)
 
--- src/simple.rt:76:13
 returns-2 : tie.Need-returns-2 Inv-loop μ-loop
 returns-2 c =
     let at-emit = c .before .before .before in
@@ -115,11 +106,9 @@ returns-2 c =
     (at-loop .loop .inv .1) _ _ (at-tier .tier .ensures) (at-if1 .if1 .left)
     _ _ _ _ (at-if2 .if2 .taken) refl (at-emit .emit .ensures .0) (at-emit .emit .ensures .1) (c .ok .ensures)
 
--- src/simple.rt:78:44
 token-after-requires : tie.Need-token-after-requires Inv-loop μ-loop
 token-after-requires c κs = search needs
 
--- src/simple.rt:78:9
 past-newlines-requires : tie.Need-past-newlines-requires Inv-loop μ-loop
 past-newlines-requires c κs =
     let at-if2 = c .before in
@@ -132,7 +121,6 @@ past-newlines-requires c κs =
     (at-loop .loop .inv .1) _ _ (at-tier .tier .ensures) (at-if1 .if1 .left)
     (at-if2 .if2 .left) _ _ (c .token-after .ensures) refl
 
--- src/simple.rt:66:5
 loop-less : tie.Need-loop-less Inv-loop μ-loop
 loop-less c =
     let at-token-after = c .before in
@@ -146,7 +134,6 @@ loop-less c =
     (at-loop .loop .inv .1) _ _ (at-tier .tier .ensures) (at-if1 .if1 .left)
     (at-if2 .if2 .left) _ _ (at-token-after .token-after .ensures) (c .past-newlines .ensures)
 
--- src/simple.rt:66:5
 loop-again : tie.Need-loop-again Inv-loop μ-loop
 loop-again c =
     let at-token-after = c .before in

@@ -5,23 +5,18 @@ use borrow.Author.Needs.{needs}
 use Rattle.program_statements.proofs.simple.single.Statement.{statement}
 use Rattle.program_statements.proofs.simple.single.Tie as tie
 
--- src/simple.rt:34:9
 emit-requires : tie.Need-emit-requires
 emit-requires c κs = search needs
 
--- src/simple.rt:35:14
 token-after-requires : tie.Need-token-after-requires
 token-after-requires c κs = search needs
 
--- src/simple.rt:35:5
 ok-requires : tie.Need-ok-requires
 ok-requires c κs = search needs
 
--- src/simple.rt:27:1
 same-length : tie.Need-same-length
 same-length c = search needs
 
--- src/simple.rt:27:1
 returns : tie.Need-returns
 returns c =
     let at-token-after = c .before in

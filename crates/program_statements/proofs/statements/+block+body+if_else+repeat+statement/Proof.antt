@@ -218,17 +218,14 @@ block-Inv-loop s section₀ edition n levels in-main r₀ section r =
 abbrev block-μ-loop : block-lts.MeasureT-loop
 block-μ-loop s section₀ edition n levels in-main r₀ section r = length s - r .token .start
 
--- src/statements.rt:157:26
 block-token-after-requires : (t : ℕ) → block-lts.Need-token-after-requires (block-calls t) (block-at t) block.Post
     block-Inv-loop block-μ-loop
 block-token-after-requires t c κs = search needs
 
--- src/statements.rt:157:9
 block-ok-requires : (t : ℕ) → block-lts.Need-ok-requires (block-calls t) (block-at t) block.Post block-Inv-loop
     block-μ-loop
 block-ok-requires t c κs = search needs
 
--- src/statements.rt:158:5
 block-loop-holds : (t : ℕ) → block-lts.Need-loop-holds (block-calls t) (block-at t) block.Post block-Inv-loop
     block-μ-loop
 block-loop-holds t c =
@@ -241,22 +238,18 @@ block-loop-holds t c =
           (at-token-after .token-after .ensures) (c .ok .ensures) (a .section .now) (start .pre .1 .0),
     )
 
--- src/statements.rt:162:29
 block-token-after-requires-2 : (t : ℕ) → block-lts.Need-token-after-requires-2 (block-calls t) (block-at t) block.Post
     block-Inv-loop block-μ-loop
 block-token-after-requires-2 t c κs = search needs
 
--- src/statements.rt:162:13
 block-ok-requires-2 : (t : ℕ) → block-lts.Need-ok-requires-2 (block-calls t) (block-at t) block.Post block-Inv-loop
     block-μ-loop
 block-ok-requires-2 t c κs = search needs
 
--- src/statements.rt:162:13
 block-same-length : (t : ℕ) → block-lts.Need-same-length (block-calls t) (block-at t) block.Post block-Inv-loop
     block-μ-loop
 block-same-length t c = search needs
 
--- src/statements.rt:162:13
 block-returns : (t : ℕ) → block-lts.Need-returns (block-calls t) (block-at t) block.Post block-Inv-loop block-μ-loop
 block-returns t c =
     let at-token-after2 = c .before in
@@ -275,17 +268,14 @@ block-returns t c =
     (at-ok .ok .ensures))) (at-if1 .if1 .taken) (at-token-after2 .token-after2 .ensures)
     (c .ok2 .ensures)
 
--- src/statements.rt:165:26
 block-token-after-requires-3 : (t : ℕ) → block-lts.Need-token-after-requires-3 (block-calls t) (block-at t) block.Post
     block-Inv-loop block-μ-loop
 block-token-after-requires-3 t c κs = search needs
 
--- src/statements.rt:165:13
 block-ok-requires-3 : (t : ℕ) → block-lts.Need-ok-requires-3 (block-calls t) (block-at t) block.Post block-Inv-loop
     block-μ-loop
 block-ok-requires-3 t c κs = search needs
 
--- src/statements.rt:158:5
 block-loop-less : (t : ℕ) → block-lts.Need-loop-less (block-calls t) (block-at t) block.Post block-Inv-loop block-μ-loop
 block-loop-less t c =
     let at-token-after3 = c .before in
@@ -299,7 +289,6 @@ block-loop-less t c =
     (at-loop .loop .inv .1) (at-if1 .if1 .left) (at-if2 .if2 .taken) _ _ (at-token-after3 .token-after3 .ensures)
     (c .ok3 .ensures)
 
--- src/statements.rt:158:5
 block-loop-again : (t : ℕ) → block-lts.Need-loop-again (block-calls t) (block-at t) block.Post block-Inv-loop
     block-μ-loop
 block-loop-again t c =
@@ -316,7 +305,6 @@ block-loop-again t c =
           (c .ok3 .ensures),
     )
 
--- src/statements.rt:168:13
 block-past-newlines-requires : (t : ℕ) → block-lts.Need-past-newlines-requires (block-calls t) (block-at t) block.Post
     block-Inv-loop block-μ-loop
 block-past-newlines-requires t c κs =
@@ -332,7 +320,6 @@ block-past-newlines-requires t c κs =
     (start .pre .1 .0 .small) (at .1) in
     (h .good, h .known)
 
--- src/statements.rt:169:13
 block-statement-requires : (t : ℕ) → block-lts.Need-statement-requires (block-calls t) (block-at t) block.Post
     block-Inv-loop block-μ-loop
 block-statement-requires t c κs =
@@ -356,7 +343,6 @@ block-statement-requires t c κs =
       ),
     )
 
--- src/statements.rt:170:9
 block-followed-requires : (t : ℕ) → block-lts.Need-followed-requires (block-calls t) (block-at t) block.Post
     block-Inv-loop block-μ-loop
 block-followed-requires t c κs =
@@ -364,7 +350,6 @@ block-followed-requires t c κs =
     let start = at-statement .before .before .before .before .before .before .before .before .before .before .before in
     statement-known (start .args .edition .number) (start .args .s .now) _ _ _ _ _ _ (at-statement .statement .ensures)
 
--- src/statements.rt:172:13
 block-same-length-2 : (t : ℕ) → block-lts.Need-same-length-2 (block-calls t) (block-at t) block.Post block-Inv-loop
     block-μ-loop
 block-same-length-2 t c =
@@ -372,7 +357,6 @@ block-same-length-2 t c =
     let at-loop = at-statement .before .before .before .before .before .before in
     omega (arith, at-statement .statement .kept .1 .0, at-loop .loop .inv .0)
 
--- src/statements.rt:172:13
 block-returns-2 : (t : ℕ) → block-lts.Need-returns-2 (block-calls t) (block-at t) block.Post block-Inv-loop block-μ-loop
 block-returns-2 t c =
     let at-followed = c .before .before in
@@ -392,7 +376,6 @@ block-returns-2 t c =
     (sym (first-token (a .edition .number) (a .s .now) st (a .t) _ (a .n) _ (at-token-after .token-after .ensures)
     (at-ok .ok .ensures))) (c .if3 .taken)
 
--- src/statements.rt:158:5
 block-loop-less-2 : (t : ℕ) → block-lts.Need-loop-less-2 (block-calls t) (block-at t) block.Post block-Inv-loop
     block-μ-loop
 block-loop-less-2 t c =
@@ -414,7 +397,6 @@ block-loop-less-2 t c =
     (at-if1 .if1 .left) (at-if2 .if2 .left) _ (at-past-newlines .past-newlines .ensures) _ _ _
     (at-statement .statement .ensures) (at-followed .followed .ensures) (c .if3 .left)
 
--- src/statements.rt:158:5
 block-loop-again-2 : (t : ℕ) → block-lts.Need-loop-again-2 (block-calls t) (block-at t) block.Post block-Inv-loop
     block-μ-loop
 block-loop-again-2 t c =
@@ -438,11 +420,9 @@ block-loop-again-2 t c =
           (at-statement .statement .ensures) (at-followed .followed .ensures) (c .if3 .left),
     )
 
--- src/statements.rt:28:9
 body-past-newlines-requires : (t : ℕ) → body-lts.Need-past-newlines-requires (body-calls t) (body-at t) body.Post
 body-past-newlines-requires t c κs = (c .before .before .pre .1 .0 .good, c .before .before .pre .1 .0 .known)
 
--- src/statements.rt:30:12
 body-starts-statement-requires : (t : ℕ) → body-lts.Need-starts-statement-requires (body-calls t) (body-at t) body.Post
 body-starts-statement-requires t c κs =
     let at-past-newlines = c .before in
@@ -452,11 +432,9 @@ body-starts-statement-requires t c κs =
     (start .pre .1 .0) _ (at-past-newlines .past-newlines .ensures)
     .known
 
--- src/statements.rt:31:13
 body-too-deep-requires : (t : ℕ) → body-lts.Need-too-deep-requires (body-calls t) (body-at t) body.Post
 body-too-deep-requires t c κs = search needs
 
--- src/statements.rt:31:13
 body-returns : (t : ℕ) → body-lts.Need-returns (body-calls t) (body-at t) body.Post
 body-returns t c =
     let at-if2 = c .before in
@@ -470,7 +448,6 @@ body-returns t c =
     (at-if1 .if1 .taken) (sym (at-starts-statement .starts-statement .ensures) ∙ at-if2 .if2 .taken)
     (c .too-deep .ensures)
 
--- src/statements.rt:33:9
 body-refuse-requires : (t : ℕ) → body-lts.Need-refuse-requires (body-calls t) (body-at t) body.Post
 body-refuse-requires t c κs =
     let at-past-newlines = c .before .before .before in
@@ -480,7 +457,6 @@ body-refuse-requires t c κs =
     (start .pre .1 .0) _ (at-past-newlines .past-newlines .ensures)
     .known
 
--- src/statements.rt:33:9
 body-returns-2 : (t : ℕ) → body-lts.Need-returns-2 (body-calls t) (body-at t) body.Post
 body-returns-2 t c =
     let at-if2 = c .before in
@@ -493,11 +469,9 @@ body-returns-2 t c =
     (start .pre .1 .0) _ (at-past-newlines .past-newlines .ensures) _ _
     (at-if1 .if1 .taken) (sym (at-starts-statement .starts-statement .ensures) ∙ at-if2 .if2 .left) (c .refuse .ensures)
 
--- src/statements.rt:35:46
 body-sub-statement : (t : ℕ) → body-lts.Need-sub-statement (body-calls t) (body-at t) body.Post
 body-sub-statement t c = search needs
 
--- src/statements.rt:35:5
 body-statement-requires : (t : ℕ) → body-lts.Need-statement-requires (body-calls t) (body-at t) body.Post
 body-statement-requires t c κs =
     let at-if1 = c .before in
@@ -512,11 +486,9 @@ body-statement-requires t c κs =
       ),
     )
 
--- src/statements.rt:20:1
 body-same-length : (t : ℕ) → body-lts.Need-same-length (body-calls t) (body-at t) body.Post
 body-same-length t c = search needs
 
--- src/statements.rt:20:1
 body-returns-3 : (t : ℕ) → body-lts.Need-returns-3 (body-calls t) (body-at t) body.Post
 body-returns-3 t c =
     let at-statement = c .before .before in
@@ -528,17 +500,14 @@ body-returns-3 t c =
     (start .pre .1 .0) _ (at-past-newlines .past-newlines .ensures) _ _
     (at-if1 .if1 .left) (at-statement .statement .ensures)
 
--- src/statements.rt:47:9
 if-else-condition-requires : (t : ℕ) → if-else-lts.Need-condition-requires (if-else-calls t) (if-else-at t) if-else.Post
 if-else-condition-requires t c κs =
     let start = c .before .before .before in
     start .pre .1
 
--- src/statements.rt:49:9
 if-else-same-length : (t : ℕ) → if-else-lts.Need-same-length (if-else-calls t) (if-else-at t) if-else.Post
 if-else-same-length t c = search needs
 
--- src/statements.rt:49:9
 if-else-returns : (t : ℕ) → if-else-lts.Need-returns (if-else-calls t) (if-else-at t) if-else.Post
 if-else-returns t c =
     let at-condition = c .before .before .before .before in
@@ -548,7 +517,6 @@ if-else-returns t c =
     (a .levels) (a .u) (a .n) (a .section .now)
     (start .pre .1 .0) _ _ (at-condition .condition .ensures) (c .if1 .taken)
 
--- src/statements.rt:52:48
 if-else-add-body : (t : ℕ) → if-else-lts.Need-add-body (if-else-calls t) (if-else-at t) if-else.Post
 if-else-add-body t c =
     let at-if1 = c .before in
@@ -562,7 +530,6 @@ if-else-add-body t c =
           (a .section .now) (start .pre .1 .0) _ _ (at-condition .condition .ensures) (at-if1 .if1 .left),
     )
 
--- src/statements.rt:52:9
 if-else-body-requires : (t : ℕ) → if-else-lts.Need-body-requires (if-else-calls t) (if-else-at t) if-else.Post
 if-else-body-requires t c κs =
     let at-if1 = c .before in
@@ -578,14 +545,12 @@ if-else-body-requires t c κs =
       ),
     )
 
--- src/statements.rt:54:9
 if-else-same-length-2 : (t : ℕ) → if-else-lts.Need-same-length-2 (if-else-calls t) (if-else-at t) if-else.Post
 if-else-same-length-2 t c =
     let at-body = c .before .before .before .before in
     let at-condition = at-body .before .before .before .before .before .before in
     omega (arith, at-body .body .kept .1 .0, at-condition .condition .kept .1 .0)
 
--- src/statements.rt:54:9
 if-else-returns-2 : (t : ℕ) → if-else-lts.Need-returns-2 (if-else-calls t) (if-else-at t) if-else.Post
 if-else-returns-2 t c =
     let at-body = c .before .before .before .before in
@@ -598,7 +563,6 @@ if-else-returns-2 t c =
     (start .pre .1 .0) _ _ (at-condition .condition .ensures) (at-if1 .if1 .left) _ _ (at-body .body .ensures)
     (c .if2 .taken)
 
--- src/statements.rt:57:23
 if-else-else-after-requires : (t : ℕ) → if-else-lts.Need-else-after-requires (if-else-calls t) (if-else-at t)
     if-else.Post
 if-else-else-after-requires t c κs =
@@ -613,15 +577,12 @@ if-else-else-after-requires t c κs =
     (start .pre .1 .0) _ _ (at-condition .condition .ensures) (at-if1 .if1 .left) _ _ (at-body .body .ensures)
     (at-if2 .if2 .left)
 
--- src/statements.rt:57:18
 if-else-enum-known-w : (t : ℕ) → if-else-lts.Need-enum-known-w (if-else-calls t) (if-else-at t) if-else.Post
 if-else-enum-known-w t c = search needs
 
--- src/statements.rt:58:31
 if-else-enum-told : (t : ℕ) → if-else-lts.Need-enum-told (if-else-calls t) (if-else-at t) if-else.Post
 if-else-enum-told t c = search needs
 
--- src/statements.rt:58:9
 if-else-emit-requires : (t : ℕ) → if-else-lts.Need-emit-requires (if-else-calls t) (if-else-at t) if-else.Post
 if-else-emit-requires t c κs =
     let at-if2 = c .before .before .before .before .before in
@@ -639,7 +600,6 @@ if-else-emit-requires t c κs =
     (at-body .body .ensures) (at-if2 .if2 .left) in
     omega (arith, c0, a0)
 
--- src/statements.rt:59:9
 if-else-same-length-3 : (t : ℕ) → if-else-lts.Need-same-length-3 (if-else-calls t) (if-else-at t) if-else.Post
 if-else-same-length-3 t c =
     let at-emit = c .before .before in
@@ -647,7 +607,6 @@ if-else-same-length-3 t c =
     let at-condition = at-body .before .before .before .before .before .before in
     omega (arith, at-emit .emit .kept .0, at-body .body .kept .1 .0, at-condition .condition .kept .1 .0)
 
--- src/statements.rt:59:9
 if-else-returns-3 : (t : ℕ) → if-else-lts.Need-returns-3 (if-else-calls t) (if-else-at t) if-else.Post
 if-else-returns-3 t c =
     let at-emit = c .before .before in
@@ -665,7 +624,6 @@ if-else-returns-3 t c =
     (at-if2 .if2 .left) _ (at-else-after .else-after .ensures) _ (at-enum-told .enum-told .given .1)
     (at-emit .emit .ensures .1)
 
--- src/statements.rt:61:42
 if-else-add-body-2 : (t : ℕ) → if-else-lts.Need-add-body-2 (if-else-calls t) (if-else-at t) if-else.Post
 if-else-add-body-2 t c =
     let at-if2 = c .before .before .before .before .before .before in
@@ -682,7 +640,6 @@ if-else-add-body-2 t c =
           (at-body .body .ensures) (at-if2 .if2 .left),
     )
 
--- src/statements.rt:61:9
 if-else-body-requires-2 : (t : ℕ) → if-else-lts.Need-body-requires-2 (if-else-calls t) (if-else-at t) if-else.Post
 if-else-body-requires-2 t c κs =
     let at-w = c .before .before in
@@ -703,7 +660,6 @@ if-else-body-requires-2 t c κs =
       ),
     )
 
--- src/statements.rt:63:9
 if-else-same-length-4 : (t : ℕ) → if-else-lts.Need-same-length-4 (if-else-calls t) (if-else-at t) if-else.Post
 if-else-same-length-4 t c =
     let at-body2 = c .before .before .before .before in
@@ -711,7 +667,6 @@ if-else-same-length-4 t c =
     let at-condition = at-body .before .before .before .before .before .before in
     omega (arith, at-body2 .body2 .kept .1 .0, at-body .body .kept .1 .0, at-condition .condition .kept .1 .0)
 
--- src/statements.rt:63:9
 if-else-returns-4 : (t : ℕ) → if-else-lts.Need-returns-4 (if-else-calls t) (if-else-at t) if-else.Post
 if-else-returns-4 t c =
     let at-body2 = c .before .before .before .before in
@@ -729,7 +684,6 @@ if-else-returns-4 t c =
     (at-if2 .if2 .left) _ (at-else-after .else-after .ensures) _ (at-w .w .given .1) _ _
     (at-body2 .body2 .ensures) (c .if3 .taken)
 
--- src/statements.rt:65:5
 if-else-emit-requires-2 : (t : ℕ) → if-else-lts.Need-emit-requires-2 (if-else-calls t) (if-else-at t) if-else.Post
 if-else-emit-requires-2 t c κs =
     let at-if3 = c .before in
@@ -753,7 +707,6 @@ if-else-emit-requires-2 t c κs =
     (at-body2 .body2 .ensures) (at-if3 .if3 .left) in
     omega (arith, a0, b0)
 
--- src/statements.rt:66:75
 if-else-add-emit : (t : ℕ) → if-else-lts.Need-add-emit (if-else-calls t) (if-else-at t) if-else.Post
 if-else-add-emit t c =
     let at-if2 = c .before .before .before .before .before .before .before .before .before .before .before .before
@@ -771,7 +724,6 @@ if-else-add-emit t c =
           (at-body .body .ensures) (at-if2 .if2 .left),
     )
 
--- src/statements.rt:66:5
 if-else-emit-requires-3 : (t : ℕ) → if-else-lts.Need-emit-requires-3 (if-else-calls t) (if-else-at t) if-else.Post
 if-else-emit-requires-3 t c κs =
     let at-if2 = c .before .before .before .before .before .before .before .before .before .before .before .before
@@ -790,7 +742,6 @@ if-else-emit-requires-3 t c κs =
     (at-body .body .ensures) (at-if2 .if2 .left) in
     omega (arith, c0, a0)
 
--- src/statements.rt:39:1
 if-else-same-length-5 : (t : ℕ) → if-else-lts.Need-same-length-5 (if-else-calls t) (if-else-at t) if-else.Post
 if-else-same-length-5 t c =
     let at-emit3 = c .before .before in
@@ -807,7 +758,6 @@ if-else-same-length-5 t c =
       at-condition .condition .kept .1 .0,
     )
 
--- src/statements.rt:39:1
 if-else-returns-5 : (t : ℕ) → if-else-lts.Need-returns-5 (if-else-calls t) (if-else-at t) if-else.Post
 if-else-returns-5 t c =
     let at-emit3 = c .before .before in
@@ -828,17 +778,14 @@ if-else-returns-5 t c =
     (at-if2 .if2 .left) _ (at-else-after .else-after .ensures) _ (at-w .w .given .1) _ _
     (at-body2 .body2 .ensures) (at-if3 .if3 .left) _ _ (at-emit2 .emit2 .ensures .1) (at-emit3 .emit3 .ensures .1)
 
--- src/statements.rt:79:9
 repeat-condition-requires : (t : ℕ) → repeat-lts.Need-condition-requires (repeat-calls t) (repeat-at t) repeat.Post
 repeat-condition-requires t c κs =
     let start = c .before .before .before in
     start .pre .1
 
--- src/statements.rt:81:9
 repeat-same-length : (t : ℕ) → repeat-lts.Need-same-length (repeat-calls t) (repeat-at t) repeat.Post
 repeat-same-length t c = search needs
 
--- src/statements.rt:81:9
 repeat-returns : (t : ℕ) → repeat-lts.Need-returns (repeat-calls t) (repeat-at t) repeat.Post
 repeat-returns t c =
     let at-condition = c .before .before .before .before in
@@ -848,7 +795,6 @@ repeat-returns t c =
     (a .levels) (a .u) (a .n) (a .section .now)
     (start .pre .1 .0) _ _ (at-condition .condition .ensures) (c .if1 .taken)
 
--- src/statements.rt:84:48
 repeat-add-body : (t : ℕ) → repeat-lts.Need-add-body (repeat-calls t) (repeat-at t) repeat.Post
 repeat-add-body t c =
     let at-if1 = c .before in
@@ -862,7 +808,6 @@ repeat-add-body t c =
           (a .section .now) (start .pre .1 .0) _ _ (at-condition .condition .ensures) (at-if1 .if1 .left),
     )
 
--- src/statements.rt:84:9
 repeat-body-requires : (t : ℕ) → repeat-lts.Need-body-requires (repeat-calls t) (repeat-at t) repeat.Post
 repeat-body-requires t c κs =
     let at-if1 = c .before in
@@ -878,14 +823,12 @@ repeat-body-requires t c κs =
       ),
     )
 
--- src/statements.rt:86:9
 repeat-same-length-2 : (t : ℕ) → repeat-lts.Need-same-length-2 (repeat-calls t) (repeat-at t) repeat.Post
 repeat-same-length-2 t c =
     let at-body = c .before .before .before .before in
     let at-condition = at-body .before .before .before .before .before .before in
     omega (arith, at-body .body .kept .1 .0, at-condition .condition .kept .1 .0)
 
--- src/statements.rt:86:9
 repeat-returns-2 : (t : ℕ) → repeat-lts.Need-returns-2 (repeat-calls t) (repeat-at t) repeat.Post
 repeat-returns-2 t c =
     let at-body = c .before .before .before .before in
@@ -898,7 +841,6 @@ repeat-returns-2 t c =
     (start .pre .1 .0) _ _ (at-condition .condition .ensures) (at-if1 .if1 .left) _ _ (at-body .body .ensures)
     (c .if2 .taken)
 
--- src/statements.rt:88:9
 repeat-emit-requires : (t : ℕ) → repeat-lts.Need-emit-requires (repeat-calls t) (repeat-at t) repeat.Post
 repeat-emit-requires t c κs =
     let at-if2 = c .before in
@@ -920,7 +862,6 @@ repeat-emit-requires t c κs =
       start .pre .1 .0 .good .within,
     )
 
--- src/statements.rt:89:5
 repeat-emit-requires-2 : (t : ℕ) → repeat-lts.Need-emit-requires-2 (repeat-calls t) (repeat-at t) repeat.Post
 repeat-emit-requires-2 t c κs =
     let at-emit = c .before .before .before in
@@ -939,11 +880,9 @@ repeat-emit-requires-2 t c κs =
     (at-body .body .ensures) (at-if2 .if2 .left) in
     omega (arith, c0, a0, at-emit .emit .ensures .0)
 
--- src/statements.rt:90:5
 repeat-ok-requires : (t : ℕ) → repeat-lts.Need-ok-requires (repeat-calls t) (repeat-at t) repeat.Post
 repeat-ok-requires t c κs = search needs
 
--- src/statements.rt:71:1
 repeat-same-length-3 : (t : ℕ) → repeat-lts.Need-same-length-3 (repeat-calls t) (repeat-at t) repeat.Post
 repeat-same-length-3 t c =
     let at-emit2 = c .before .before .before in
@@ -958,7 +897,6 @@ repeat-same-length-3 t c =
       at-condition .condition .kept .1 .0,
     )
 
--- src/statements.rt:71:1
 repeat-returns-3 : (t : ℕ) → repeat-lts.Need-returns-3 (repeat-calls t) (repeat-at t) repeat.Post
 repeat-returns-3 t c =
     let at-emit2 = c .before .before .before in
@@ -975,12 +913,10 @@ repeat-returns-3 t c =
     (at-if2 .if2 .left) _ _ _ _ (at-emit .emit .ensures .0) (at-emit .emit .ensures .1)
     (at-emit2 .emit2 .ensures .1) (c .ok .ensures)
 
--- src/statements.rt:104:13
 statement-too-deep-requires : (t : ℕ) → statement-lts.Need-too-deep-requires (statement-calls t) (statement-at t)
     statement′.Post
 statement-too-deep-requires t c κs = search needs
 
--- src/statements.rt:104:13
 statement-returns : (t : ℕ) → statement-lts.Need-returns (statement-calls t) (statement-at t) statement′.Post
 statement-returns t c =
     let at-if2 = c .before in
@@ -991,11 +927,9 @@ statement-returns t c =
     (start .pre .1 .0) _ _ (at-if1 .if1 .taken) (at-if2 .if2 .taken)
     (c .too-deep .ensures)
 
--- src/statements.rt:106:49
 statement-sub-block : (t : ℕ) → statement-lts.Need-sub-block (statement-calls t) (statement-at t) statement′.Post
 statement-sub-block t c = search needs
 
--- src/statements.rt:106:9
 statement-block-requires : (t : ℕ) → statement-lts.Need-block-requires (statement-calls t) (statement-at t)
     statement′.Post
 statement-block-requires t c κs =
@@ -1006,11 +940,9 @@ statement-block-requires t c κs =
       (start .pre .1 .0, omega (arith, start .pre .1 .1), at-if1 .if1 .taken),
     )
 
--- src/statements.rt:106:9
 statement-same-length : (t : ℕ) → statement-lts.Need-same-length (statement-calls t) (statement-at t) statement′.Post
 statement-same-length t c = search needs
 
--- src/statements.rt:106:9
 statement-returns-2 : (t : ℕ) → statement-lts.Need-returns-2 (statement-calls t) (statement-at t) statement′.Post
 statement-returns-2 t c =
     let at-block = c .before .before in
@@ -1023,16 +955,13 @@ statement-returns-2 t c =
     (kind-block (a .edition .number) (a .s .now) (a .in-main) (a .levels) (a .t) (start .pre .1 .0 .known)
     (at-if1 .if1 .taken) (at-if2 .if2 .left)) (at-block .block .ensures)
 
--- src/statements.rt:109:25
 statement-token-after-requires : (t : ℕ) → statement-lts.Need-token-after-requires (statement-calls t) (statement-at t)
     statement′.Post
 statement-token-after-requires t c κs = search needs
 
--- src/statements.rt:109:9
 statement-ok-requires : (t : ℕ) → statement-lts.Need-ok-requires (statement-calls t) (statement-at t) statement′.Post
 statement-ok-requires t c κs = search needs
 
--- src/statements.rt:109:9
 statement-returns-3 : (t : ℕ) → statement-lts.Need-returns-3 (statement-calls t) (statement-at t) statement′.Post
 statement-returns-3 t c =
     let at-token-after = c .before in
@@ -1043,12 +972,10 @@ statement-returns-3 t c =
     (start .pre .1 .0) (λ z. omega (arith, at-if3 .if3 .taken)) _
     (at-token-after .token-after .ensures) _ (at-if3 .if3 .taken) (c .ok .ensures)
 
--- src/statements.rt:112:45
 statement-token-after-requires-2 : (t : ℕ) → statement-lts.Need-token-after-requires-2 (statement-calls t)
     (statement-at t) statement′.Post
 statement-token-after-requires-2 t c κs = search needs
 
--- src/statements.rt:112:9
 statement-if-else-requires : (t : ℕ) → statement-lts.Need-if-else-requires (statement-calls t) (statement-at t)
     statement′.Post
 statement-if-else-requires t c κs =
@@ -1065,12 +992,10 @@ statement-if-else-requires t c κs =
       ),
     )
 
--- src/statements.rt:112:9
 statement-same-length-2 : (t : ℕ) → statement-lts.Need-same-length-2 (statement-calls t) (statement-at t)
     statement′.Post
 statement-same-length-2 t c = search needs
 
--- src/statements.rt:112:9
 statement-returns-4 : (t : ℕ) → statement-lts.Need-returns-4 (statement-calls t) (statement-at t) statement′.Post
 statement-returns-4 t c =
     let at-if-else = c .before .before in
@@ -1082,12 +1007,10 @@ statement-returns-4 t c =
     (start .pre .1 .0) (λ z. omega (arith, at-if4 .if4 .taken)) _
     (at-token-after2 .token-after2 .ensures) _ _ (at-if4 .if4 .taken) (at-if-else .if-else .ensures)
 
--- src/statements.rt:115:44
 statement-token-after-requires-3 : (t : ℕ) → statement-lts.Need-token-after-requires-3 (statement-calls t)
     (statement-at t) statement′.Post
 statement-token-after-requires-3 t c κs = search needs
 
--- src/statements.rt:115:9
 statement-repeat-requires : (t : ℕ) → statement-lts.Need-repeat-requires (statement-calls t) (statement-at t)
     statement′.Post
 statement-repeat-requires t c κs =
@@ -1104,12 +1027,10 @@ statement-repeat-requires t c κs =
       ),
     )
 
--- src/statements.rt:115:9
 statement-same-length-3 : (t : ℕ) → statement-lts.Need-same-length-3 (statement-calls t) (statement-at t)
     statement′.Post
 statement-same-length-3 t c = search needs
 
--- src/statements.rt:115:9
 statement-returns-5 : (t : ℕ) → statement-lts.Need-returns-5 (statement-calls t) (statement-at t) statement′.Post
 statement-returns-5 t c =
     let at-repeat = c .before .before in
@@ -1121,7 +1042,6 @@ statement-returns-5 t c =
     (start .pre .1 .0) (λ z. omega (arith, at-if5 .if5 .taken)) _
     (at-token-after3 .token-after3 .ensures) _ _ (at-if5 .if5 .taken) (at-repeat .repeat .ensures)
 
--- src/statements.rt:118:9
 statement-print-requires : (t : ℕ) → statement-lts.Need-print-requires (statement-calls t) (statement-at t)
     statement′.Post
 statement-print-requires t c κs =
@@ -1129,12 +1049,10 @@ statement-print-requires t c κs =
     let start = at-if6 .before .before .before .before .before .before .before in
     (start .pre .1 .0, start .pre .1 .1, at-if6 .if6 .taken)
 
--- src/statements.rt:118:9
 statement-same-length-4 : (t : ℕ) → statement-lts.Need-same-length-4 (statement-calls t) (statement-at t)
     statement′.Post
 statement-same-length-4 t c = search needs
 
--- src/statements.rt:118:9
 statement-returns-6 : (t : ℕ) → statement-lts.Need-returns-6 (statement-calls t) (statement-at t) statement′.Post
 statement-returns-6 t c =
     let at-print = c .before .before in
@@ -1146,19 +1064,16 @@ statement-returns-6 t c =
     (kind-print (a .edition .number) (a .s .now) (a .in-main) (a .levels) (a .t) (start .pre .1 .0 .known)
     (at-if6 .if6 .taken)) (at-print .print .ensures)
 
--- src/statements.rt:121:9
 statement-single-requires : (t : ℕ) → statement-lts.Need-single-requires (statement-calls t) (statement-at t)
     statement′.Post
 statement-single-requires t c κs =
     let start = c .before .before .before .before .before .before .before .before .before in
     (start .pre .1 .0, omega arith)
 
--- src/statements.rt:121:9
 statement-same-length-5 : (t : ℕ) → statement-lts.Need-same-length-5 (statement-calls t) (statement-at t)
     statement′.Post
 statement-same-length-5 t c = search needs
 
--- src/statements.rt:121:9
 statement-returns-7 : (t : ℕ) → statement-lts.Need-returns-7 (statement-calls t) (statement-at t) statement′.Post
 statement-returns-7 t c =
     let at-single = c .before .before in
@@ -1169,19 +1084,16 @@ statement-returns-7 t c =
     (start .pre .1 .0) _ _ (at-if7 .if7 .taken)
     (at-single .single .ensures .0) (at-single .single .ensures .1)
 
--- src/statements.rt:124:9
 statement-single-requires-2 : (t : ℕ) → statement-lts.Need-single-requires-2 (statement-calls t) (statement-at t)
     statement′.Post
 statement-single-requires-2 t c κs =
     let start = c .before .before .before .before .before .before .before .before .before .before in
     (start .pre .1 .0, omega arith)
 
--- src/statements.rt:124:9
 statement-same-length-6 : (t : ℕ) → statement-lts.Need-same-length-6 (statement-calls t) (statement-at t)
     statement′.Post
 statement-same-length-6 t c = search needs
 
--- src/statements.rt:124:9
 statement-returns-8 : (t : ℕ) → statement-lts.Need-returns-8 (statement-calls t) (statement-at t) statement′.Post
 statement-returns-8 t c =
     let at-single2 = c .before .before in
@@ -1192,19 +1104,16 @@ statement-returns-8 t c =
     (start .pre .1 .0) _ _ (at-if8 .if8 .taken)
     (at-single2 .single2 .ensures .0) (at-single2 .single2 .ensures .1)
 
--- src/statements.rt:126:5
 statement-expression-requires : (t : ℕ) → statement-lts.Need-expression-requires (statement-calls t) (statement-at t)
     statement′.Post
 statement-expression-requires t c κs =
     let start = c .before .before .before .before .before .before .before .before .before .before in
     start .pre .1
 
--- src/statements.rt:94:1
 statement-same-length-7 : (t : ℕ) → statement-lts.Need-same-length-7 (statement-calls t) (statement-at t)
     statement′.Post
 statement-same-length-7 t c = search needs
 
--- src/statements.rt:94:1
 statement-returns-9 : (t : ℕ) → statement-lts.Need-returns-9 (statement-calls t) (statement-at t) statement′.Post
 statement-returns-9 t c =
     let at-expression = c .before .before in

@@ -4,25 +4,20 @@ use borrow.Author.Needs.{needs}
 use Rattle.program_statements.proofs.statements.followed.Statement.{statement}
 use Rattle.program_statements.proofs.statements.followed.Tie as tie
 
--- src/statements.rt:135:9
 returns : tie.Need-returns
 returns c =
     let start = c .before .before .before .before in
     followed-same (start .args .edition .number) (start .args .s .now) (start .args .r) (c .if1 .taken)
 
--- src/statements.rt:139:8
 is-ender-requires : tie.Need-is-ender-requires
 is-ender-requires c κs = search needs
 
--- src/statements.rt:140:25
 token-after-requires : tie.Need-token-after-requires
 token-after-requires c κs = search needs
 
--- src/statements.rt:140:9
 ok-requires : tie.Need-ok-requires
 ok-requires c κs = search needs
 
--- src/statements.rt:140:9
 returns-2 : tie.Need-returns-2
 returns-2 c =
     let at-token-after = c .before in
@@ -34,7 +29,6 @@ returns-2 c =
     (start .pre) _ _ (sym (at-is-ender .is-ender .ensures) ∙ at-if2 .if2 .taken)
     (at-token-after .token-after .ensures) (c .ok .ensures)
 
--- src/statements.rt:143:9
 returns-3 : tie.Need-returns-3
 returns-3 c =
     let at-if2 = c .before in
@@ -44,11 +38,9 @@ returns-3 c =
     followed-closed (start .args .edition .number) (start .args .s .now) (start .args .r) (at-if1 .if1 .left)
     (start .pre) (sym (at-is-ender .is-ender .ensures) ∙ at-if2 .if2 .left) (c .if3 .taken)
 
--- src/statements.rt:145:5
 refuse-requires : tie.Need-refuse-requires
 refuse-requires c κs = search needs
 
--- src/statements.rt:130:1
 returns-4 : tie.Need-returns-4
 returns-4 c =
     let at-if3 = c .before in
