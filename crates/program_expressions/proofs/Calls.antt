@@ -29,6 +29,7 @@ use Rattle.program_lexer.proofs.Coding.{rank-of}
 use Rattle.program_emitter.specs.Words.{Fits, word}
 use Rattle.program_parser.specs.declared.read.Read.{Read}
 use Rattle.program_parser.specs.declared.calls.Function.{Function as Coding}
+use Rattle.program_expressions.specs.declared.expressions.PendingCall.{PendingCall}
 use Rattle.program_parser.specs.Tables.{functionAction, shapeCode, shapesCode, described}
 use Rattle.program_parser.specs.Meaning.{Denotes, Wrote}
 use Rattle.program_parser.specs.Reading.{success, answered, refusal, refusedBy, closedOf, formOf, Good, Ready, ReadExpression, Reading}
@@ -37,7 +38,7 @@ use Rattle.program_parser.proofs.Codes.{decoded-back}
 use Rattle.program_parser.proofs.Others.{coded-function, no-function}
 use Rattle.program_parser.proofs.Spelling.{wrote-after}
 use Rattle.program_parser.proofs.Places.{ere-placed}
-use Rattle.program_expressions.specs.Parts.{suffixed, Suffixed, Completed, Completes, Calling, Calls, argumentsLeft}
+use Rattle.program_expressions.specs.Parts.{suffixed, Suffixed, pending, Completed, Completes, Calling, Calls, argumentsLeft}
 use Rattle.program_expressions.proofs.Readings.{good-earlier, after-operand, after-line, ready-at, refused-token, failed}
 use Rattle.program_expressions.proofs.Written.{wrote-nothing, wrote-one}
 use Rattle.program_expressions.proofs.Primaries.{fits, kind-is, begun}
@@ -205,7 +206,7 @@ module _ (edition : ℕ) (s : List ℕ) (levels : ℕ) (t : Coded) (n d : ℕ) (
 
     pub call-read : (o : Option Function) → Complete edition o → (described o .op ≡ 0 → ⊥) → t .start < t .stop
         → u .kind ≡ 38
-        → Calls edition s levels (described o) u true u n d 0 xs r ys
+        → Calls edition s levels (pending (described o .op) (described o .shapes) 0 u) true u n d xs r ys
         → Reading edition s (decoded t) n d xs (Called o) r ys
     unfolding calling call rank Calls Denotes
     call-read none w z l k c = absurd (z refl)
@@ -287,11 +288,11 @@ module _ (edition : ℕ) (s : List ℕ) (first : Bool) (t : Coded) (m : ℕ) (h 
       (subst (λ (y : Token). m ≤ 8 * y .start) start-back (omega
       (arith, start-good .after, h .good .ordered, h .count)))
 
-module _ (edition : ℕ) (s : List ℕ) (levels : ℕ) (f : Coding) (opener : Coded) (first : Bool) (t : Coded)
-    (m k operand : ℕ) (xs : List ℕ)
+module _ (edition : ℕ) (s : List ℕ) (levels : ℕ) (f : PendingCall) (first : Bool) (t : Coded) (m k : ℕ) (xs : List ℕ)
     (h : Ready edition s t m) (q : Read) (ys : List ℕ) where
-  pub calls-end : f .shapes ≡ 0 → k ≤ 60003 → operand < 1048576 → (r : Read) → r ≡ closedOf edition s (answered t m 0)
-      → Suffixed r (f .op) k operand 0 xs q ys → Calls edition s levels f opener first t m k operand xs q ys
+  pub calls-end : f .shapes ≡ 0 → k ≤ 60003 → f .operand < 1048576 → (r : Read) → r
+      ≡ closedOf edition s (answered t m 0)
+      → Suffixed r (f .op) k (f .operand) 0 xs q ys → Calls edition s levels f first t m k xs q ys
   unfolding Calls arguments closed Completes Reading opcode rank
   calls-end e deep small r re w v n d ws (x ∷ l) g c = absurd (omega (arith, e, c .shaped, shape-some x l))
   calls-end e deep small r re w v n d ws [] g c = go (is close-paren (decoded t)) refl re
@@ -305,10 +306,10 @@ module _ (edition : ℕ) (s : List ℕ) (levels : ℕ) (f : Coding) (opener : Co
       go true p y =
           let after = good-after edition s 0 (decoded t) (h .good) in
           let long : t .start < t .stop = h .good .longer (close-begun (decoded t) p) in
-          let stored : ys ≡ sets xs m (word (actionCode (c .act)) k operand ∷ []) =
+          let stored : ys ≡ sets xs m (word (actionCode (c .act)) k (f .operand) ∷ []) =
           w .wrote (ap (λ (z : Read). z .outcome) y)
-          ∙ (ap (λ (z : Read). sets xs (z .count) (word (f .op) k operand ∷ [])) y
-          ∙ ap (λ (i : ℕ). sets xs m (word i k operand ∷ [])) (c .coded)) in
+          ∙ (ap (λ (z : Read). sets xs (z .count) (word (f .op) k (f .operand) ∷ [])) y
+          ∙ ap (λ (i : ℕ). sets xs m (word i k (f .operand) ∷ [])) (c .coded)) in
           record {
             answer =
                 w .answer
@@ -321,8 +322,8 @@ module _ (edition : ℕ) (s : List ℕ) (levels : ℕ) (f : Coding) (opener : Co
                 rw (c .completes .code)
                 (wrote-after edition s ws xs ys n m (c .read) (emit (action (c .act)) k (c .names)) (c .before)
                 (c .wrote)
-                (wrote-one edition s xs m (action (c .act)) k operand (c .names) ys
-                (fits (actionCode (c .act)) k operand (code-small (action (c .act))) (omega (arith, deep)) small)
+                (wrote-one edition s xs m (action (c .act)) k (f .operand) (c .names) ys
+                (fits (actionCode (c .act)) k (f .operand) (code-small (action (c .act))) (omega (arith, deep)) small)
                 (c .denotes) stored));
             named = λ i j. absurd (c .completes .other i j);
           }
@@ -331,7 +332,7 @@ module _ (edition : ℕ) (s : List ℕ) (levels : ℕ) (f : Coding) (opener : Co
 
   module _ (z : f .shapes ≡ 0 → ⊥) where
     pub calls-comma : (not first && not (eqb (t .kind) 42)) ≡ true → q ≡ refusal (refusedBy (decoded t)) (t .start)
-        → Calls edition s levels f opener first t m k operand xs q ys
+        → Calls edition s levels f first t m k xs q ys
     unfolding Calls arguments closed rank
     calls-comma e a v n d ws [] g c = absurd (z (c .shaped ∙ no-shapes))
     calls-comma e a v n d ws (x ∷ l) g c =
@@ -344,32 +345,32 @@ module _ (edition : ℕ) (s : List ℕ) (levels : ℕ) (f : Coding) (opener : Co
         (se : start ≡ coded (cond first (operandAfter edition s (decoded t))
         (pastNewlines edition s (tokenAfter edition s (decoded t))))) where
       at-argument : (x : Shape) (l : List Shape) (g : Call (x ∷ l))
-          → arguments edition s (inside edition s levels) (decoded opener) first (x ∷ l) g (decoded t)
-          ≡ argument edition s (inside edition s levels) (decoded opener) x l g (decoded start)
-          (arguments edition s (inside edition s levels) (decoded opener) false l)
+          → arguments edition s (inside edition s levels) (decoded (f .opener)) first (x ∷ l) g (decoded t)
+          ≡ argument edition s (inside edition s levels) (decoded (f .opener)) x l g (decoded start)
+          (arguments edition s (inside edition s levels) (decoded (f .opener)) false l)
       unfolding arguments rank
       at-argument x l g = rw (start-back edition s first t m h start se) (go first (eqb (t .kind) 42) refl sign)
         where
           go : (a b : Bool) → eqb (t .kind) 42 ≡ b → (not a && not b) ≡ false
-              → cond a (argument edition s (inside edition s levels) (decoded opener) x l g
-              (operandAfter edition s (decoded t)) (arguments edition s (inside edition s levels) (decoded opener)
+              → cond a (argument edition s (inside edition s levels) (decoded (f .opener)) x l g
+              (operandAfter edition s (decoded t)) (arguments edition s (inside edition s levels) (decoded (f .opener))
               false l))
-              (cond (is comma (decoded t)) (argument edition s (inside edition s levels) (decoded opener) x l g
+              (cond (is comma (decoded t)) (argument edition s (inside edition s levels) (decoded (f .opener)) x l g
               (pastNewlines edition s (tokenAfter edition s (decoded t)))
-              (arguments edition s (inside edition s levels) (decoded opener) false l)) (refuse (decoded t)))
-              ≡ argument edition s (inside edition s levels) (decoded opener) x l g
+              (arguments edition s (inside edition s levels) (decoded (f .opener)) false l)) (refuse (decoded t)))
+              ≡ argument edition s (inside edition s levels) (decoded (f .opener)) x l g
               (cond a (operandAfter edition s (decoded t))
               (pastNewlines edition s (tokenAfter edition s (decoded t))))
-              (arguments edition s (inside edition s levels) (decoded opener) false l)
+              (arguments edition s (inside edition s levels) (decoded (f .opener)) false l)
           go true b e f = refl
           go false true e f = rw (ap (λ (i : ℕ). eqb i 42) (rank-of (t .kind) (h .known)) ∙ e)
           go false false e f = absurd (clash f)
 
       -- an expression
       module _ (one : f .shapes % 4 ≡ 1) (r : Read) (zs : List ℕ)
-          (w : Reading edition s (decoded start) m k xs (inside edition s levels false expressions (decoded opener)
+          (w : Reading edition s (decoded start) m k xs (inside edition s levels false expressions (decoded (f .opener))
           (decoded start)) r zs) where
-        pub calls-failed : (r .outcome ≡ 0 → ⊥) → Calls edition s levels f opener first t m k operand xs r zs
+        pub calls-failed : (r .outcome ≡ 0 → ⊥) → Calls edition s levels f first t m k xs r zs
         unfolding Calls argument closed shapesCode shapeCode
         calls-failed o v n d ws [] g c = absurd (z (c .shaped))
         calls-failed o v n d ws (an-ere ∷ l) g c = absurd (omega (arith, one, c .shaped))
@@ -377,23 +378,24 @@ module _ (edition : ℕ) (s : List ℕ) (levels : ℕ) (f : Coding) (opener : Co
             rw (at-argument an-expression l g)
             (failed edition s v n d ws
             (λ (R : Result Expression). closed edition s (bind R
-            (λ e u. arguments edition s (inside edition s levels) (decoded opener) false l (g e) u)))
-            (λ i p. refl) (decoded start) m k xs (inside edition s levels false expressions (decoded opener)
+            (λ e u. arguments edition s (inside edition s levels) (decoded (f .opener)) false l (g e) u)))
+            (λ i p. refl) (decoded start) m k xs (inside edition s levels false expressions (decoded (f .opener))
             (decoded start)) r zs w o zs)
 
-        pub calls-next : r .outcome ≡ 0 → (rest : Coding) → rest ≡ record { op = f .op; shapes = f .shapes / 4 }
-            → Calls edition s levels rest opener false (r .token) (r .count) (k + 1) operand zs q ys
-            → Calls edition s levels f opener first t m k operand xs q ys
+        pub calls-next : r .outcome ≡ 0 → (rest : PendingCall) → rest
+            ≡ pending (f .op) (f .shapes / 4) (f .operand) (f .opener)
+            → Calls edition s levels rest false (r .token) (r .count) (k + 1) zs q ys
+            → Calls edition s levels f first t m k xs q ys
         unfolding Calls argument closed shapesCode shapeCode Completes Reading
         calls-next o rest re p v n d ws [] g c = absurd (z (c .shaped))
         calls-next o rest re p v n d ws (an-ere ∷ l) g c = absurd (omega (arith, one, c .shaped))
         calls-next o rest re p v n d ws (an-expression ∷ l) g c =
-            rw (at-argument an-expression l g) (go (inside edition s levels false expressions (decoded opener)
+            rw (at-argument an-expression l g) (go (inside edition s levels false expressions (decoded (f .opener))
             (decoded start)) w)
           where
             go : (R : Result Expression) → Reading edition s (decoded start) m k xs R r zs
                 → Reading edition s v n d ws (closed edition s
-                (bind R (λ e u. arguments edition s (inside edition s levels) (decoded opener) false l (g e) u)))
+                (bind R (λ e u. arguments edition s (inside edition s levels) (decoded (f .opener)) false l (g e) u)))
                 q ys
             go (no i j) y = absurd (y .1 (sym (ap (λ (x : Read). x .outcome) (y .0)) ∙ o))
             go (ok e u) y =
@@ -403,13 +405,15 @@ module _ (edition : ℕ) (s : List ℕ) (levels : ℕ) (f : Coding) (opener : Co
                 let starts : r .token .start ≡ u .start = ap (λ (x : Token). x .start) back in
                 let stops : r .token .stop ≡ u .stop = ap (λ (x : Token). x .stop) back in
                 rw (← back)
-                (p v n d ws l (g e)
+                (subst (λ (x : PendingCall). Calls edition s levels x false (r .token) (r .count) (k + 1) zs q ys) re
+                p v n d ws l
+                (g e)
                 (record {
                   act = c .act;
                   read = c .read ++ compile e m k;
                   names = c .names;
-                  coded = ap (λ (x : Coding). x .op) re ∙ c .coded;
-                  shaped = ap (λ (x : Coding). x .shapes) re ∙ omega (arith, c .shaped);
+                  coded = c .coded;
+                  shaped = omega (arith, c .shaped);
                   completes = subst (λ (i : ℕ). Completes edition n d (c .act) l (g e) (c .read ++ compile e m k) i
                       (k + 1) (c .names)) count (c .completes e);
                   denotes = c .denotes;
@@ -439,7 +443,7 @@ module _ (edition : ℕ) (s : List ℕ) (levels : ℕ) (f : Coding) (opener : Co
       -- an ERE
       module _ (other : f .shapes % 4 ≡ 1 → ⊥) where
         pub calls-no-ere : (start .kind ≡ 6 → ⊥) → q ≡ refusal (refusedBy (decoded start)) (start .start)
-            → Calls edition s levels f opener first t m k operand xs q ys
+            → Calls edition s levels f first t m k xs q ys
         unfolding Calls argument closed shapesCode shapeCode rank
         calls-no-ere e a v n d ws [] g c = absurd (z (c .shaped))
         calls-no-ere e a v n d ws (an-expression ∷ l) g c = absurd (other (omega (arith, c .shaped)))
@@ -452,10 +456,9 @@ module _ (edition : ℕ) (s : List ℕ) (levels : ℕ) (f : Coding) (opener : Co
             )) a
 
         pub calls-ere : start .kind ≡ 6 → (next : Coded) → next ≡ coded (tokenAfter edition s (decoded start))
-            → (rest : Coding)
-            → rest ≡ record { op = f .op; shapes = f .shapes / 4 }
-            → Calls edition s levels rest opener false next m k (start .start) xs q ys
-            → Calls edition s levels f opener first t m k operand xs q ys
+            → (rest : PendingCall) → rest ≡ pending (f .op) (f .shapes / 4) (start .start) (f .opener)
+            → Calls edition s levels rest false next m k xs q ys
+            → Calls edition s levels f first t m k xs q ys
         unfolding Calls argument closed shapesCode shapeCode Completes Denotes rank
         calls-ere e next ne rest re p v n d ws [] g c = absurd (z (c .shaped))
         calls-ere e next ne rest re p v n d ws (an-expression ∷ l) g c = absurd (other (omega (arith, c .shaped)))
@@ -470,13 +473,14 @@ module _ (edition : ℕ) (s : List ℕ) (levels : ℕ) (f : Coding) (opener : Co
             (rank-of (start .kind) ((start-ready edition s first t m h start se) .known))
             ∙ eq-eqb (start .kind) 6 e in
             rw (at-argument an-ere l g, is-ere, ← back)
-            (p v n d ws l (g (ereIn s (decoded start)))
+            (subst (λ (x : PendingCall). Calls edition s levels x false next m k xs q ys) re p v n d ws l
+            (g (ereIn s (decoded start)))
             (record {
               act = c .act;
               read = c .read;
               names = the-ere (ereIn s (decoded start));
-              coded = ap (λ (x : Coding). x .op) re ∙ c .coded;
-              shaped = ap (λ (x : Coding). x .shapes) re ∙ omega (arith, c .shaped);
+              coded = c .coded;
+              shaped = omega (arith, c .shaped);
               completes = c .completes (ereIn s (decoded start));
               denotes = ere-placed edition s (decoded start) ((start-good edition s first t m h start se) .placed)
                   is-ere;

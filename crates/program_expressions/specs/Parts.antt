@@ -18,7 +18,7 @@ use Rattle.program_lexer.specs.Coded.{decoded, kindOf}
 use Rattle.program_lexer.specs.declared.tokens.Token.{Token as Coded}
 use Rattle.program_emitter.specs.Words.{word, notWords, bothWords, eitherWords}
 use Rattle.program_parser.specs.declared.read.Read.{Read}
-use Rattle.program_parser.specs.declared.calls.Function.{Function}
+use Rattle.program_expressions.specs.declared.expressions.PendingCall.{PendingCall}
 use Rattle.program_parser.specs.Tables.{operatorCode, shapesCode}
 use Rattle.program_parser.specs.Meaning.{Denotes, Wrote}
 use Rattle.program_parser.specs.Reading.{answered, formOf, ReadExpression, Reading}
@@ -44,6 +44,10 @@ appliedTo xs n kind depth j =
     (sets xs n (word (operatorCode (kindOf kind)) (depth + 2) 0 ∷ [])))
 
 -- ---- a call's code
+
+-- a call of which arguments are left
+abbrev pub pending : ℕ → ℕ → ℕ → Coded → PendingCall
+pending op shapes operand opener = record { op = op; shapes = shapes; operand = operand; opener = opener }
 
 module _ (edition : ℕ) where
   -- a call's tree, whose code from instruction n on, at the depth d, is that of its arguments, which ends before
@@ -81,7 +85,7 @@ module _ (edition : ℕ) (s : List ℕ) where
 
   -- a call that starts at the token v, with n instructions, at the depth d, in the section ws; the arguments before the
   -- token t are read, up to instruction m, at the depth k
-  pub record Calling (v : Token) (n d : ℕ) (ws : List ℕ) (f : Function) (t : Token) (m k operand : ℕ) (xs : List ℕ)
+  pub record Calling (v : Token) (n d : ℕ) (ws : List ℕ) (f : PendingCall) (t : Token) (m k : ℕ) (xs : List ℕ)
       (l : List Shape) (g : Call l) : Type 0 where
     pub act : Action
     pub read : List Emitted
@@ -89,18 +93,18 @@ module _ (edition : ℕ) (s : List ℕ) where
     pub coded : f .op ≡ actionCode act
     pub shaped : f .shapes ≡ shapesCode l
     pub completes : Completes edition n d act l g read m k names
-    pub denotes : Denotes edition s names operand
+    pub denotes : Denotes edition s names (f .operand)
     pub before : n + length read ≡ m
     pub wrote : Wrote edition s ws n read xs
     pub order : v .stop ≤ t .stop
     pub bound : m + 8 * v .start < n + 8 * t .start
 
-  unfoldable pub Calls : ℕ → Function → Coded → Bool → Coded → ℕ → ℕ → ℕ → List ℕ → Read → List ℕ → Type 0
-  Calls levels f opener first t m k operand xs q ys =
-      (v : Token) (n d : ℕ) (ws : List ℕ) (l : List Shape) (g : Call l)
-      → Calling v n d ws f (decoded t) m k operand xs l g
-      → Reading edition s v n d ws (closed edition s (arguments edition s (inside edition s levels) (decoded opener)
-      first l g (decoded t))) q ys
+  unfoldable pub Calls : ℕ → PendingCall → Bool → Coded → ℕ → ℕ → List ℕ → Read → List ℕ → Type 0
+  Calls levels f first t m k xs q ys =
+      (v : Token) (n d : ℕ) (ws : List ℕ) (l : List Shape) (g : Call l) → Calling v n d ws f (decoded t) m k xs l g
+      → Reading edition s v n d ws
+      (closed edition s (arguments edition s (inside edition s levels) (decoded (f .opener)) first l g (decoded t))) q
+      ys
 
 -- how many arguments are left, by the number of their shapes, two bits each
 unfoldable pub argumentsLeft : ℕ → ℕ

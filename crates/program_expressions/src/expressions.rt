@@ -1,19 +1,28 @@
 // The reader of expressions: it calls itself for each inner level, and the levels left fall.
-ghost use Prim.Native.Nat.{_+_, _-_, _*_, _≤_, _<_};
+ghost use mathlib.Core.Path.{_≡_};
+ghost use Prim.Native.Nat.{_+_, _-_, _*_, _/_, _≤_, _<_};
 ghost use Rattle.program_tree.specs.Functions.{functionOf};
+ghost use Rattle.program_reader.specs.Operators.{expressions};
 ghost use Rattle.program_reader.specs.Expressions.{turns, calling, primary as primaryOf, fieldForm, prefixForm, assignment as assignmentOf, more as moreOf, tier as tierOf, inside as insideOf};
 ghost use Rattle.program_lexer.specs.Coded.{decoded, kindOf};
 ghost use Rattle.program_parser.specs.Reading.{Ready, Reading};
-ghost use Rattle.program_expressions.specs.Parts.{Continues, ContinuesFrom, Calls, argumentsLeft};
+ghost use Rattle.program_expressions.specs.Parts.{Continues, ContinuesFrom, pending, Calls, argumentsLeft};
 use crate::operations;
 use crate::parts;
 use edition::Edition;
+use program_emitter::CONSTANT;
+use program_emitter::FIELD;
+use program_emitter::GET;
+use program_emitter::SET;
+use program_emitter::SET_FIELD;
 use program_lexer::Token;
 use program_parser::Read;
 use program_parser::calls;
-use program_parser::calls::Function;
 use program_parser::kinds;
 use program_parser::operators;
+use program_parser::operators::EXPRESSIONS;
+use program_parser::operators::FIELDS;
+use program_parser::operators::PREFIXED;
 use program_parser::read;
 
 // Reads a form of a tier one level further in, which the token `opener` opens.
@@ -40,88 +49,93 @@ pub fn inside(
     tier(s, section, edition, t, n, depth, levels - 1, printed, k)
 }
 
-// Reads the arguments of a call that are left, after the token t: the `(`, or what follows an argument; and the `)`.
-// The token `opener` is the `(`; `operand` is the place of an ERE among the arguments before.
-fn arguments(
+// Reads an expression one level further in, which the token `opener` opens.
+fn nested(
     s: &[u8],
     section: &mut [u64],
     edition: Edition,
-    f: Function,
     opener: Token,
     t: Token,
     n: usize,
     depth: u64,
     levels: usize,
-    operand: u64,
+    printed: bool,
+) -> Read
+    requires { ⌜ Ready (edition .number) (now s) t n × (depth + 16 * levels ≤ 60006) ⌝ }
+    ensures { λ r. ⌜ Reading (edition .number) (now (s .entry)) (decoded t) n depth (now (section .entry))
+        (insideOf (edition .number) (now (s .entry)) levels printed expressions (decoded opener) (decoded t)) r
+        (now (section .exit)) ⌝ }
+{
+    let k = EXPRESSIONS;
+    inside(s, section, edition, opener, t, n, depth, levels, printed, k)
+}
+
+// A call of which arguments are left: its code, the shapes of those that are left, as in `calls`, the place of an ERE
+// among those before, and its `(`.
+pub struct PendingCall {
+    pub op: u64,
+    pub shapes: u64,
+    pub operand: u64,
+    pub opener: Token,
+}
+
+// Gives what is left of a call after an argument.
+fn after_argument(f: PendingCall, operand: u64) -> PendingCall
+    ensures { λ r. ⌜ r ≡ pending (f .op) (f .shapes / 4) operand (f .opener) ⌝ }
+{
+    let opener = f.opener;
+    PendingCall {
+        op: f.op,
+        shapes: f.shapes / 4,
+        operand,
+        opener,
+    }
+}
+
+// Reads the arguments of a call that are left, after the token t: the `(`, or what follows an argument; and the `)`.
+fn arguments(
+    s: &[u8],
+    section: &mut [u64],
+    edition: Edition,
+    f: PendingCall,
+    t: Token,
+    n: usize,
+    depth: u64,
+    levels: usize,
     first: bool,
 ) -> Read
     requires { ⌜ Ready (edition .number) (now s) t n × (depth + 16 * levels + argumentsLeft (f .shapes) ≤ 60003) ×
-        (f .shapes < 64) × (f .op < 256) × (operand < 1048576) ⌝ }
-    ensures { λ r. ⌜ Calls (edition .number) (now (s .entry)) levels f opener first t n depth operand
-        (now (section .entry)) r (now (section .exit)) ⌝ }
+        (f .shapes < 64) × (f .op < 256) × (f .operand < 1048576) ⌝ }
+    ensures { λ r. ⌜ Calls (edition .number) (now (s .entry)) levels f first t n depth (now (section .entry)) r
+        (now (section .exit)) ⌝ }
 {
     let shapes = f.shapes;
     if shapes == 0 {
         let r = read::closed(s, read::ok(t, n, read::OTHER), edition);
-        return parts::suffix(section, r, f.op, depth, operand, read::OTHER);
+        return parts::suffix(section, r, f.op, depth, f.operand, read::OTHER);
     }
-    let kind = t.kind;
-    if !first & (kind != kinds::COMMA) {
+    if !first & (t.kind != kinds::COMMA) {
         return read::refuse(t);
     }
     let start = operations::argument_after(s, t, first, edition);
-    let rest = Function {
-        op: f.op,
-        shapes: shapes / 4,
-    };
     if shapes % 4 == calls::AN_EXPRESSION {
-        let r = inside(
-            s,
-            section,
-            edition,
-            opener,
-            start,
-            n,
-            depth,
-            levels,
-            false,
-            operators::EXPRESSIONS,
-        );
+        let opener = f.opener;
+        let r = nested(s, section, edition, opener, start, n, depth, levels, false);
         if r.outcome != 0 {
             return r;
         }
-        return arguments(
-            s,
-            section,
-            edition,
-            rest,
-            opener,
-            r.token,
-            r.count,
-            depth + 1,
-            levels,
-            operand,
-            false,
-        );
+        let rest = after_argument(f, f.operand);
+        let next = r.token;
+        let m = r.count;
+        let d = depth + 1;
+        return arguments(s, section, edition, rest, next, m, d, levels, false);
     }
-    let found = start.kind;
-    if found != kinds::ERE {
+    if start.kind != kinds::ERE {
         return read::refuse(start);
     }
+    let rest = after_argument(f, start.start as u64);
     let next = program_lexer::token_after(s, start, edition);
-    arguments(
-        s,
-        section,
-        edition,
-        rest,
-        opener,
-        next,
-        n,
-        depth,
-        levels,
-        start.start as u64,
-        false,
-    )
+    arguments(s, section, edition, rest, next, n, depth, levels, false)
 }
 
 // Reads a call of the function that the word t names.
@@ -143,12 +157,17 @@ fn call(
     if f.op == 0 {
         return read::refuse(t);
     }
-    let u = program_lexer::token_after(s, t, edition);
-    let kind = u.kind;
-    if kind != kinds::OPEN_PAREN {
-        return read::refuse(u);
+    let opener = program_lexer::token_after(s, t, edition);
+    if opener.kind != kinds::OPEN_PAREN {
+        return read::refuse(opener);
     }
-    arguments(s, section, edition, f, u, u, n, depth, levels, 0, true)
+    let all = PendingCall {
+        op: f.op,
+        shapes: f.shapes,
+        operand: 0,
+        opener,
+    };
+    arguments(s, section, edition, all, opener, n, depth, levels, true)
 }
 
 // Reads a primary.
@@ -168,48 +187,20 @@ fn primary(
 {
     let kind = t.kind;
     if (kind == kinds::NUMBER) | (kind == kinds::STRING) {
-        return parts::leaf(
-            s,
-            section,
-            edition,
-            t,
-            n,
-            depth,
-            program_emitter::CONSTANT,
-            read::OTHER,
-        );
+        return parts::leaf(s, section, edition, t, n, depth, CONSTANT, read::OTHER);
     }
     if kind == kinds::ERE {
         return parts::ere(s, section, edition, t, n, depth);
     }
     if kinds::is_name(kind) {
-        return parts::leaf(
-            s,
-            section,
-            edition,
-            t,
-            n,
-            depth,
-            program_emitter::GET,
-            parts::name_form(kind),
-        );
+        let form = parts::name_form(kind);
+        return parts::leaf(s, section, edition, t, n, depth, GET, form);
     }
     if kind != kinds::OPEN_PAREN {
         return call(s, section, edition, t, n, depth, levels);
     }
     let first = read::operand_after(s, t, edition);
-    let r = inside(
-        s,
-        section,
-        edition,
-        t,
-        first,
-        n,
-        depth,
-        levels,
-        false,
-        operators::EXPRESSIONS,
-    );
+    let r = nested(s, section, edition, t, first, n, depth, levels, false);
     read::closed(s, r, edition)
 }
 
@@ -228,8 +219,7 @@ fn field_form(
         (fieldForm (edition .number) (now (s .entry)) (insideOf (edition .number) (now (s .entry)) levels) (decoded t))
         r (now (section .exit)) ⌝ }
 {
-    let kind = t.kind;
-    if kind != kinds::DOLLAR {
+    if t.kind != kinds::DOLLAR {
         return primary(s, section, edition, t, n, depth, levels);
     }
     let first = read::operand_after(s, t, edition);
@@ -243,16 +233,9 @@ fn field_form(
         depth,
         levels,
         false,
-        operators::FIELDS,
+        FIELDS,
     );
-    parts::suffix(
-        section,
-        r,
-        program_emitter::FIELD,
-        depth + 1,
-        0,
-        read::FIELD,
-    )
+    parts::suffix(section, r, FIELD, depth + 1, 0, read::FIELD)
 }
 
 // Reads a prefix operator before its operand, or a `$` form or a primary.
@@ -286,16 +269,10 @@ fn prefix_form(
         depth,
         levels,
         false,
-        operators::PREFIXED,
+        PREFIXED,
     );
-    parts::suffix(
-        section,
-        r,
-        operators::prefix_code(kind),
-        depth + 1,
-        0,
-        read::OTHER,
-    )
+    let op = operators::prefix_code(kind);
+    parts::suffix(section, r, op, depth + 1, 0, read::OTHER)
 }
 
 // Reads `=` and its right side, if one follows what was read from the place `start` on.
@@ -316,54 +293,18 @@ fn assignment(
         r (now (section .entry)) q (now (section .exit)) ⌝ }
 {
     let t = r.token;
-    let kind = t.kind;
-    if (kind != kinds::ASSIGN) | (r.form == read::OTHER) {
+    if (t.kind != kinds::ASSIGN) | (r.form == read::OTHER) {
         return r;
     }
     let first = read::operand_after(s, t, edition);
     let n = r.count - 1;
     if r.form == read::NAME {
-        let e = inside(
-            s,
-            section,
-            edition,
-            t,
-            first,
-            n,
-            depth,
-            levels,
-            printed,
-            operators::EXPRESSIONS,
-        );
-        return parts::suffix(
-            section,
-            e,
-            program_emitter::SET,
-            depth + 1,
-            start as u64,
-            read::OTHER,
-        );
+        let e = nested(s, section, edition, t, first, n, depth, levels, printed);
+        return parts::suffix(section, e, SET, depth + 1, start as u64, read::OTHER);
     }
-    let e = inside(
-        s,
-        section,
-        edition,
-        t,
-        first,
-        n,
-        depth + 1,
-        levels,
-        printed,
-        operators::EXPRESSIONS,
-    );
-    parts::suffix(
-        section,
-        e,
-        program_emitter::SET_FIELD,
-        depth + 2,
-        0,
-        read::OTHER,
-    )
+    let d = depth + 1;
+    let e = nested(s, section, edition, t, first, n, d, levels, printed);
+    parts::suffix(section, e, SET_FIELD, depth + 2, 0, read::OTHER)
 }
 
 // Reads the operators of a tier that follow, with their right operands.
@@ -394,17 +335,8 @@ fn more(
         let first = operations::right_of(s, t, k, edition);
         let j = r.count;
         let m = j + operators::between(kind);
-        let right = tier(
-            s,
-            section,
-            edition,
-            first,
-            m,
-            operators::right_depth(kind, depth),
-            levels,
-            printed,
-            k - 1,
-        );
+        let d = operators::right_depth(kind, depth);
+        let right = tier(s, section, edition, first, m, d, levels, printed, k - 1);
         if right.outcome != 0 {
             return right;
         }
@@ -432,10 +364,10 @@ pub fn tier(
         (tierOf (edition .number) (now (s .entry)) (insideOf (edition .number) (now (s .entry)) levels) printed k
         (decoded t)) r (now (section .exit)) ⌝ }
 {
-    if k == operators::FIELDS {
+    if k == FIELDS {
         return field_form(s, section, edition, t, n, depth, levels);
     }
-    if k == operators::PREFIXED {
+    if k == PREFIXED {
         return prefix_form(s, section, edition, t, n, depth, levels);
     }
     let r = tier(s, section, edition, t, n, depth, levels, printed, k - 1);
@@ -445,7 +377,7 @@ pub fn tier(
     if k == operators::MATCHED {
         return parts::matching(s, section, edition, r, depth);
     }
-    if k == operators::EXPRESSIONS {
+    if k == EXPRESSIONS {
         return assignment(s, section, edition, r, t.start, depth, levels, printed);
     }
     more(s, section, edition, r, depth, levels, printed, k)

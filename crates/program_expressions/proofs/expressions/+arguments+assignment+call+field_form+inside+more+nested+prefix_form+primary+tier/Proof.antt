@@ -12,7 +12,8 @@ use Rattle.program_lexer.specs.Coded.{decoded, kindOf, kindCount}
 use Rattle.program_parser.specs.declared.read.Read.{Read}
 use Rattle.program_parser.specs.declared.calls.Function.{Function}
 use Rattle.program_parser.specs.Reading.{closedOf, Ready}
-use Rattle.program_expressions.specs.Parts.{Suffixed, Calls, argumentsLeft}
+use Rattle.program_expressions.specs.declared.expressions.PendingCall.{PendingCall}
+use Rattle.program_expressions.specs.Parts.{Suffixed, pending, Calls, argumentsLeft}
 use Rattle.program_expressions.proofs.Readings.{ready-next, ready-operand, ready-fewer, refused-level, reading-fits, reading-ready}
 use Rattle.program_expressions.proofs.Written.{reading-some}
 use Rattle.program_expressions.proofs.Primaries.{fits, begun, prefix-small, primary-constant, primary-ere, primary-name, primary-called, primary-paren, field-read, field-other, prefix-read, prefix-other}
@@ -24,31 +25,35 @@ use borrow.Fn.Kinds.{In}
 use borrow.Fn.PlainCycle.{Measures, is, falls, and}
 use Rattle.program_expressions.proofs.expressions.arguments.Reads as arguments
 use Rattle.program_expressions.proofs.expressions.arguments.Kinds as arguments-kinds
-use Rattle.program_expressions.proofs.expressions.+arguments+assignment+call+field_form+inside+more+prefix_form+primary+tier.Lts-arguments as arguments-lts
+use Rattle.program_expressions.proofs.expressions.+arguments+assignment+call+field_form+inside+more+nested+prefix_form+primary+tier.Lts-arguments as arguments-lts
 use Rattle.program_expressions.proofs.expressions.assignment.Reads as assignment
 use Rattle.program_expressions.proofs.expressions.assignment.Kinds as assignment-kinds
-use Rattle.program_expressions.proofs.expressions.+arguments+assignment+call+field_form+inside+more+prefix_form+primary+tier.Lts-assignment as assignment-lts
+use Rattle.program_expressions.proofs.expressions.+arguments+assignment+call+field_form+inside+more+nested+prefix_form+primary+tier.Lts-assignment as assignment-lts
 use Rattle.program_expressions.proofs.expressions.call.Reads as call
 use Rattle.program_expressions.proofs.expressions.call.Kinds as call-kinds
-use Rattle.program_expressions.proofs.expressions.+arguments+assignment+call+field_form+inside+more+prefix_form+primary+tier.Lts-call as call-lts
+use Rattle.program_expressions.proofs.expressions.+arguments+assignment+call+field_form+inside+more+nested+prefix_form+primary+tier.Lts-call as call-lts
 use Rattle.program_expressions.proofs.expressions.field_form.Reads as field-form
 use Rattle.program_expressions.proofs.expressions.field_form.Kinds as field-form-kinds
-use Rattle.program_expressions.proofs.expressions.+arguments+assignment+call+field_form+inside+more+prefix_form+primary+tier.Lts-field_form as field-form-lts
+use Rattle.program_expressions.proofs.expressions.+arguments+assignment+call+field_form+inside+more+nested+prefix_form+primary+tier.Lts-field_form as field-form-lts
 use Rattle.program_expressions.proofs.expressions.inside.Reads as inside
 use Rattle.program_expressions.proofs.expressions.inside.Kinds as inside-kinds
-use Rattle.program_expressions.proofs.expressions.+arguments+assignment+call+field_form+inside+more+prefix_form+primary+tier.Lts-inside as inside-lts
+use Rattle.program_expressions.proofs.expressions.+arguments+assignment+call+field_form+inside+more+nested+prefix_form+primary+tier.Lts-inside as inside-lts
 use Rattle.program_expressions.proofs.expressions.more.Reads as more
 use Rattle.program_expressions.proofs.expressions.more.Kinds as more-kinds
-use Rattle.program_expressions.proofs.expressions.+arguments+assignment+call+field_form+inside+more+prefix_form+primary+tier.Lts-more as more-lts
+use Rattle.program_expressions.proofs.expressions.+arguments+assignment+call+field_form+inside+more+nested+prefix_form+primary+tier.Lts-more as more-lts
+use Rattle.program_expressions.proofs.expressions.nested.Reads as nested
+use Rattle.program_expressions.proofs.expressions.nested.Kinds as nested-kinds
+use Rattle.program_expressions.proofs.expressions.+arguments+assignment+call+field_form+inside+more+nested+prefix_form+primary+tier.Lts-nested as nested-lts
 use Rattle.program_expressions.proofs.expressions.prefix_form.Reads as prefix-form
 use Rattle.program_expressions.proofs.expressions.prefix_form.Kinds as prefix-form-kinds
-use Rattle.program_expressions.proofs.expressions.+arguments+assignment+call+field_form+inside+more+prefix_form+primary+tier.Lts-prefix_form as prefix-form-lts
+use Rattle.program_expressions.proofs.expressions.+arguments+assignment+call+field_form+inside+more+nested+prefix_form+primary+tier.Lts-prefix_form as prefix-form-lts
 use Rattle.program_expressions.proofs.expressions.primary.Reads as primary
 use Rattle.program_expressions.proofs.expressions.primary.Kinds as primary-kinds
-use Rattle.program_expressions.proofs.expressions.+arguments+assignment+call+field_form+inside+more+prefix_form+primary+tier.Lts-primary as primary-lts
+use Rattle.program_expressions.proofs.expressions.+arguments+assignment+call+field_form+inside+more+nested+prefix_form+primary+tier.Lts-primary as primary-lts
 use Rattle.program_expressions.proofs.expressions.tier.Reads as tier
 use Rattle.program_expressions.proofs.expressions.tier.Kinds as tier-kinds
-use Rattle.program_expressions.proofs.expressions.+arguments+assignment+call+field_form+inside+more+prefix_form+primary+tier.Lts-tier as tier-lts
+use Rattle.program_expressions.proofs.expressions.+arguments+assignment+call+field_form+inside+more+nested+prefix_form+primary+tier.Lts-tier as tier-lts
+use Rattle.program_expressions.proofs.expressions.after_argument.Reads as after-argument-reads
 use Rattle.program_expressions.proofs.operations.apply.Reads as apply-reads
 use Rattle.program_expressions.proofs.operations.argument_after.Reads as argument-after-reads
 use Rattle.program_expressions.proofs.operations.right_of.Reads as right-of-reads
@@ -70,39 +75,42 @@ use Rattle.program_parser.proofs.read.ok.Reads as ok-reads
 use Rattle.program_parser.proofs.read.operand_after.Reads as operand-after-reads
 use Rattle.program_parser.proofs.read.refuse.Reads as refuse-reads
 use Rattle.program_parser.proofs.read.too_deep.Reads as too-deep-reads
-use Rattle.program_expressions.proofs.expressions.+arguments+assignment+call+field_form+inside+more+prefix_form+primary+tier.{
+use Rattle.program_expressions.proofs.expressions.+arguments+assignment+call+field_form+inside+more+nested+prefix_form+primary+tier.{
   statement,
 }
-use Rattle.program_expressions.proofs.expressions.+arguments+assignment+call+field_form+inside+more+prefix_form+primary+tier.Tie.{
+use Rattle.program_expressions.proofs.expressions.+arguments+assignment+call+field_form+inside+more+nested+prefix_form+primary+tier.Tie.{
   close,
 }
 
 abbrev μ-arguments : Measures 2 arguments-kinds.ps ℕ
-μ-arguments κs a = a .1 .1 .1 .1 .1 .1 .1 .1 .0 * 32 + 1 + argumentsLeft (a .1 .1 .1 .0 .shapes)
+μ-arguments κs a = a .1 .1 .1 .1 .1 .1 .1 .0 * 32 + 2 + argumentsLeft (a .1 .1 .1 .0 .shapes)
 
 abbrev μ-assignment : Measures 2 assignment-kinds.ps ℕ
-μ-assignment κs a = a .1 .1 .1 .1 .1 .1 .0 * 32 + 1
+μ-assignment κs a = a .1 .1 .1 .1 .1 .1 .0 * 32 + 2
 
 abbrev μ-call : Measures 2 call-kinds.ps ℕ
-μ-call κs a = a .1 .1 .1 .1 .1 .1 .0 * 32 + 5
+μ-call κs a = a .1 .1 .1 .1 .1 .1 .0 * 32 + 6
 
 abbrev μ-field-form : Measures 2 field-form-kinds.ps ℕ
-μ-field-form κs a = a .1 .1 .1 .1 .1 .1 .0 * 32 + 7
+μ-field-form κs a = a .1 .1 .1 .1 .1 .1 .0 * 32 + 8
 
 abbrev μ-inside : Measures 2 inside-kinds.ps ℕ
 μ-inside κs a = a .1 .1 .1 .1 .1 .1 .1 .0 * 32
 
 abbrev μ-more : Measures 2 more-kinds.ps ℕ
-μ-more κs a = a .1 .1 .1 .1 .1 .0 * 32 + 8 + 2 * a .1 .1 .1 .1 .1 .1 .1 .0
+μ-more κs a = a .1 .1 .1 .1 .1 .0 * 32 + 9 + 2 * a .1 .1 .1 .1 .1 .1 .1 .0
+
+abbrev μ-nested : Measures 2 nested-kinds.ps ℕ
+μ-nested κs a = a .1 .1 .1 .1 .1 .1 .1 .0 * 32 + 1
 
 abbrev μ-prefix-form : Measures 2 prefix-form-kinds.ps ℕ
-μ-prefix-form κs a = a .1 .1 .1 .1 .1 .1 .0 * 32 + 8
+μ-prefix-form κs a = a .1 .1 .1 .1 .1 .1 .0 * 32 + 9
 
 abbrev μ-primary : Measures 2 primary-kinds.ps ℕ
-μ-primary κs a = a .1 .1 .1 .1 .1 .1 .0 * 32 + 6
+μ-primary κs a = a .1 .1 .1 .1 .1 .1 .0 * 32 + 7
 
 abbrev μ-tier : Measures 2 tier-kinds.ps ℕ
-μ-tier κs a = a .1 .1 .1 .1 .1 .1 .0 * 32 + 9 + 2 * a .1 .1 .1 .1 .1 .1 .1 .1 .0
+μ-tier κs a = a .1 .1 .1 .1 .1 .1 .0 * 32 + 10 + 2 * a .1 .1 .1 .1 .1 .1 .1 .1 .0
 
 abbrev arguments-at : ℕ → In 2 arguments-kinds.ps
 arguments-at t = and 2 arguments-kinds.ps (is 2 arguments-kinds.ps μ-arguments t) arguments.Pre
@@ -145,6 +153,12 @@ more-at t = and 2 more-kinds.ps (is 2 more-kinds.ps μ-more t) more.Pre
 abbrev more-below : ℕ → In 2 more-kinds.ps
 more-below t = and 2 more-kinds.ps (falls 2 more-kinds.ps _<_ μ-more t) more.Pre
 
+abbrev nested-at : ℕ → In 2 nested-kinds.ps
+nested-at t = and 2 nested-kinds.ps (is 2 nested-kinds.ps μ-nested t) nested.Pre
+
+abbrev nested-below : ℕ → In 2 nested-kinds.ps
+nested-below t = and 2 nested-kinds.ps (falls 2 nested-kinds.ps _<_ μ-nested t) nested.Pre
+
 abbrev prefix-form-at : ℕ → In 2 prefix-form-kinds.ps
 prefix-form-at t =
     and 2 prefix-form-kinds.ps (is 2 prefix-form-kinds.ps μ-prefix-form t) prefix-form.Pre
@@ -177,8 +191,10 @@ arguments-calls t = (
   refuse-reads.Learnt,
   argument-after-reads.Asked,
   argument-after-reads.Learnt,
-  inside-below t,
-  inside.Post,
+  nested-below t,
+  nested.Post,
+  after-argument-reads.Asked,
+  after-argument-reads.Learnt,
   arguments-below t,
   arguments.Post,
   token-after-reads.Asked,
@@ -189,8 +205,8 @@ abbrev assignment-calls : ℕ → assignment-lts.Claims
 assignment-calls t = (
   operand-after-reads.Asked,
   operand-after-reads.Learnt,
-  inside-below t,
-  inside.Post,
+  nested-below t,
+  nested.Post,
   suffix-reads.Asked,
   suffix-reads.Learnt,
 )
@@ -239,6 +255,10 @@ more-calls t = (
   apply-reads.Learnt,
 )
 
+abbrev nested-calls : ℕ → nested-lts.Claims
+nested-calls t =
+    (inside-below t, inside.Post)
+
 abbrev prefix-form-calls : ℕ → prefix-form-lts.Claims
 prefix-form-calls t = (
   is-prefix-reads.Asked,
@@ -269,8 +289,8 @@ primary-calls t = (
   call.Post,
   operand-after-reads.Asked,
   operand-after-reads.Learnt,
-  inside-below t,
-  inside.Post,
+  nested-below t,
+  nested.Post,
   closed-reads.Asked,
   closed-reads.Learnt,
 )
@@ -334,35 +354,35 @@ arguments-returns t c =
     let if1 = p1 .before .if1 in
     let args = p1 .before .before .before .before .args in
     let pre = p1 .before .before .before .before .pre in
-    calls-end _ _ _ _ _ _ (args .t) _ _ _ _ (pre .1 .0) _ _ (if1 .taken) (omega (arith, pre .1 .1)) (pre .1 .4) _
+    calls-end _ _ _ (args .f) _ (args .t) _ _ _ (pre .1 .0) _ _ (if1 .taken) (omega (arith, pre .1 .1)) (pre .1 .4) _
     (closed .ensures ∙ ap (closedOf (args .edition .number) (args .s .now)) (ok .ensures)) (suffix .ensures)
 
 arguments-refuse-requires : (t : ℕ) → arguments-lts.Need-refuse-requires (arguments-calls t) (arguments-at t)
     arguments.Post
-arguments-refuse-requires t c κs = c .before .before .before .before .pre .1 .0 .known
+arguments-refuse-requires t c κs = c .before .before .before .before .before .pre .1 .0 .known
 
 arguments-returns-2 : (t : ℕ) → arguments-lts.Need-returns-2 (arguments-calls t) (arguments-at t) arguments.Post
 arguments-returns-2 t c =
     let refuse = c .refuse in
     let if2 = c .before .if2 in
-    let if1 = c .before .before .if1 in
-    let p1 = c .before .before .before .before .before in
+    let if1 = c .before .before .before .if1 in
+    let p1 = c .before .before .before .before .before .before in
     let args = p1 .args in
     let pre = p1 .pre in
-    calls-comma _ _ _ (args .f) _ (args .first) (args .t) _ _ _ _ (pre .1 .0) _ _ (if1 .left) (if2 .taken)
-    (refuse .ensures)
+    calls-comma _ _ _ (args .f) (args .first) (args .t) _ _ _ (pre .1 .0) _ _ (if1 .left) (if2 .taken) (refuse .ensures)
 
 arguments-argument-after-requires : (t : ℕ) → arguments-lts.Need-argument-after-requires (arguments-calls t)
     (arguments-at t) arguments.Post
 arguments-argument-after-requires t c κs =
-    let pre = c .before .before .before .before .pre in
+    let p1 = c .before .before .before .before .before in
+    let pre = p1 .pre in
     (pre .1 .0 .good, pre .1 .0 .known)
 
-arguments-inside-requires : (t : ℕ) → arguments-lts.Need-inside-requires (arguments-calls t) (arguments-at t)
+arguments-nested-requires : (t : ℕ) → arguments-lts.Need-nested-requires (arguments-calls t) (arguments-at t)
     arguments.Post
-arguments-inside-requires t c κs =
-    let argument-after = c .before .before .argument-after in
-    let p1 = c .before .before .before .before .before .before .before in
+arguments-nested-requires t c κs =
+    let argument-after = c .before .before .before .argument-after in
+    let p1 = c .before .before .before .before .before .before .before .before .before in
     let pre = p1 .pre in
     let args = p1 .args in (
       omega (arith, pre .0),
@@ -370,7 +390,6 @@ arguments-inside-requires t c κs =
         start-ready _ _ (args .first) (args .t) (args .n) (pre .1 .0) _
             (argument-after .ensures),
         omega (arith, pre .1 .1),
-        omega arith,
       ),
     )
 
@@ -380,41 +399,55 @@ arguments-same-length-2 t c = search needs
 arguments-returns-3 : (t : ℕ) → arguments-lts.Need-returns-3 (arguments-calls t) (arguments-at t) arguments.Post
 arguments-returns-3 t c =
     let if4 = c .if4 in
-    let inside = c .before .before .before .before .inside in
-    let p1 = c .before .before .before .before .before .before in
+    let nested = c .before .before .before .before .nested in
+    let p1 = c .before .before .before .before .before .before .before in
     let if3 = p1 .if3 in
     let argument-after = p1 .before .argument-after in
     let if2 = p1 .before .before .if2 in
-    let if1 = p1 .before .before .before .if1 in
-    let p2 = p1 .before .before .before .before .before .before in
+    let if1 = p1 .before .before .before .before .if1 in
+    let p2 = p1 .before .before .before .before .before .before .before in
     let args = p2 .args in
     let pre = p2 .pre in
-    calls-failed _ _ _ (args .f) _ (args .first) (args .t) _ _ _ _ (pre .1 .0) (inside .result) [] (if1 .left)
-    (if2 .left) _ (argument-after .ensures) (if3 .taken) _ _ (inside .ensures) (if4 .taken)
+    calls-failed _ _ _ (args .f) (args .first) (args .t) _ _ _ (pre .1 .0) (nested .result) [] (if1 .left) (if2 .left)
+    _ (argument-after .ensures) (if3 .taken) _ _ (nested .ensures) (if4 .taken)
 
-arguments-add-arguments : (t : ℕ) → arguments-lts.Need-add-arguments (arguments-calls t) (arguments-at t) arguments.Post
-arguments-add-arguments t c = search needs
+arguments-after-argument-requires : (t : ℕ) → arguments-lts.Need-after-argument-requires (arguments-calls t)
+    (arguments-at t) arguments.Post
+arguments-after-argument-requires t c κs = search needs
+
+arguments-add-d : (t : ℕ) → arguments-lts.Need-add-d (arguments-calls t) (arguments-at t) arguments.Post
+arguments-add-d t c =
+    let p1 = c .before .before .before .before .before .before .before .before .before in
+    let p2 = p1 .before .before .before .before .before .before .before in
+    let pre = p2 .pre in
+    record { fits = omega (arith, pre .1 .1) }
 
 arguments-arguments-requires : (t : ℕ) → arguments-lts.Need-arguments-requires (arguments-calls t) (arguments-at t)
     arguments.Post
 arguments-arguments-requires t c κs =
-    let if4 = c .before .if4 in
-    let p1 = c .before .before .before .before .before in
-    let inside = p1 .inside in
-    let argument-after = p1 .before .before .before .argument-after in
-    let p2 = p1 .before .before .before .before .before in
+    let after-argument = c .before .before .after-argument in
+    let if4 = c .before .before .before .if4 in
+    let p1 = c .before .before .before .before .before .before .before in
+    let nested = p1 .nested in
+    let argument-after = p1 .before .before .before .before .argument-after in
+    let p2 = p1 .before .before .before .before .before .before .before in
     let if1 = p2 .if1 in
     let args = p2 .before .before .before .args in
     let pre = p2 .before .before .before .pre in
-    let falls-by = left-falls (args .f .shapes) (if1 .left) (pre .1 .2) in (
-      omega (arith, pre .0, falls-by),
+    let falls-by = left-falls (args .f .shapes) (if1 .left) (pre .1 .2) in
+    let left = ap (λ (y : PendingCall). argumentsLeft (y .shapes)) (after-argument .ensures) in
+    let shapes = ap (λ (y : PendingCall). y .shapes) (after-argument .ensures) in
+    let op = ap (λ (y : PendingCall). y .op) (after-argument .ensures) in
+    let operand = ap (λ (y : PendingCall). y .operand) (after-argument .ensures) in (
+      omega (arith, pre .0, falls-by, left),
       (
         reading-ready _ _ _ _ _ _ (start-ready _ _ (args .first) (args .t) (args .n) (pre .1 .0) _
-            (argument-after .ensures)) _ _ _ (inside .ensures) (if4 .left),
-        omega (arith, pre .1 .1, falls-by),
-        omega (arith, pre .1 .2),
-        pre .1 .3,
-        pre .1 .4,
+            (argument-after .ensures)) _ _ _ (nested .ensures) (if4 .left),
+        omega (arith, pre .1 .1, falls-by, left),
+        omega (arith, pre .1 .2, shapes),
+        omega (arith, pre .1 .3, op),
+        omega
+            (arith, pre .1 .4, operand),
       ),
     )
 
@@ -424,25 +457,28 @@ arguments-same-length-3 t c = search needs
 arguments-returns-4 : (t : ℕ) → arguments-lts.Need-returns-4 (arguments-calls t) (arguments-at t) arguments.Post
 arguments-returns-4 t c =
     let arguments = c .before .before .arguments in
-    let if4 = c .before .before .before .before .if4 in
-    let p1 = c .before .before .before .before .before .before .before .before in
-    let inside = p1 .inside in
-    let if3 = p1 .before .before .if3 in
-    let argument-after = p1 .before .before .before .argument-after in
-    let if2 = p1 .before .before .before .before .if2 in
+    let p1 = c .before .before .before .before .before in
+    let after-argument = p1 .after-argument in
+    let if4 = p1 .before .if4 in
     let p2 = p1 .before .before .before .before .before in
-    let if1 = p2 .if1 in
-    let args = p2 .before .before .before .args in
-    let pre = p2 .before .before .before .pre in
-    calls-next _ _ _ (args .f) _ (args .first) (args .t) _ _ _ _ (pre .1 .0) _ _ (if1 .left) (if2 .left) _
-    (argument-after .ensures) (if3 .taken) _ _ (inside .ensures) (if4 .left) _ refl
+    let nested = p2 .nested in
+    let if3 = p2 .before .before .before .if3 in
+    let argument-after = p2 .before .before .before .before .argument-after in
+    let p3 = p2 .before .before .before .before .before in
+    let if2 = p3 .if2 in
+    let if1 = p3 .before .before .if1 in
+    let p4 = p3 .before .before .before .before .before in
+    let args = p4 .args in
+    let pre = p4 .pre in
+    calls-next _ _ _ (args .f) (args .first) (args .t) _ _ _ (pre .1 .0) _ _ (if1 .left) (if2 .left) _
+    (argument-after .ensures) (if3 .taken) _ _ (nested .ensures) (if4 .left) _ (after-argument .ensures)
     (arguments .ensures)
 
 arguments-refuse-requires-2 : (t : ℕ) → arguments-lts.Need-refuse-requires-2 (arguments-calls t) (arguments-at t)
     arguments.Post
 arguments-refuse-requires-2 t c κs =
-    let argument-after = c .before .before .argument-after in
-    let p1 = c .before .before .before .before .before .before .before in
+    let argument-after = c .before .before .before .argument-after in
+    let p1 = c .before .before .before .before .before .before .before .before .before in
     let args = p1 .args in
     let pre = p1 .pre in
     (start-ready _ _ (args .first) (args .t) (args .n) (pre .1 .0) _ (argument-after .ensures)) .known
@@ -451,15 +487,20 @@ arguments-returns-5 : (t : ℕ) → arguments-lts.Need-returns-5 (arguments-call
 arguments-returns-5 t c =
     let refuse2 = c .refuse2 in
     let if5 = c .before .if5 in
-    let if3 = c .before .before .if3 in
-    let argument-after = c .before .before .before .argument-after in
-    let if2 = c .before .before .before .before .if2 in
+    let if3 = c .before .before .before .if3 in
+    let argument-after = c .before .before .before .before .argument-after in
     let p1 = c .before .before .before .before .before in
-    let if1 = p1 .if1 in
-    let args = p1 .before .before .before .args in
-    let pre = p1 .before .before .before .pre in
-    calls-no-ere _ _ _ (args .f) _ (args .first) (args .t) _ _ _ _ (pre .1 .0) _ _ (if1 .left) (if2 .left) _
+    let if2 = p1 .if2 in
+    let if1 = p1 .before .before .if1 in
+    let p2 = p1 .before .before .before .before .before in
+    let args = p2 .args in
+    let pre = p2 .pre in
+    calls-no-ere _ _ _ (args .f) (args .first) (args .t) _ _ _ (pre .1 .0) _ _ (if1 .left) (if2 .left) _
     (argument-after .ensures) (if3 .left) (if5 .taken) (refuse2 .ensures)
+
+arguments-after-argument-requires-2 : (t : ℕ) → arguments-lts.Need-after-argument-requires-2 (arguments-calls t)
+    (arguments-at t) arguments.Post
+arguments-after-argument-requires-2 t c κs = search needs
 
 arguments-token-after-requires : (t : ℕ) → arguments-lts.Need-token-after-requires (arguments-calls t)
     (arguments-at t) arguments.Post
@@ -469,20 +510,27 @@ arguments-arguments-requires-2 : (t : ℕ) → arguments-lts.Need-arguments-requ
     (arguments-at t) arguments.Post
 arguments-arguments-requires-2 t c κs =
     let token-after = c .before .token-after in
-    let argument-after = c .before .before .before .before .argument-after in
+    let after-argument2 = c .before .before .after-argument2 in
     let p1 = c .before .before .before .before .before .before in
-    let if1 = p1 .if1 in
-    let args = p1 .before .before .before .args in
-    let pre = p1 .before .before .before .pre in
+    let argument-after = p1 .argument-after in
+    let if1 = p1 .before .before .before .if1 in
+    let p2 = p1 .before .before .before .before .before .before in
+    let args = p2 .args in
+    let pre = p2 .pre in
     let falls-by = left-falls (args .f .shapes) (if1 .left) (pre .1 .2) in
-    let r = start-ready _ _ (args .first) (args .t) (args .n) (pre .1 .0) _ (argument-after .ensures) in (
-      omega (arith, pre .0, falls-by),
+    let r = start-ready _ _ (args .first) (args .t) (args .n) (pre .1 .0) _ (argument-after .ensures) in
+    let left = ap (λ (y : PendingCall). argumentsLeft (y .shapes)) (after-argument2 .ensures) in
+    let shapes = ap (λ (y : PendingCall). y .shapes) (after-argument2 .ensures) in
+    let op = ap (λ (y : PendingCall). y .op) (after-argument2 .ensures) in
+    let operand = ap (λ (y : PendingCall). y .operand) (after-argument2 .ensures) in (
+      omega (arith, pre .0, falls-by, left),
       (
         ready-next _ _ _ _ r _ (token-after .ensures),
-        omega (arith, pre .1 .1, falls-by),
-        omega (arith, pre .1 .2),
-        pre .1 .3,
-        omega (arith, r .good .ordered, r .good .within, r .small),
+        omega (arith, pre .1 .1, falls-by, left),
+        omega
+            (arith, pre .1 .2, shapes),
+        omega (arith, pre .1 .3, op),
+        omega (arith, r .good .ordered, r .good .within, r .small, operand),
       ),
     )
 
@@ -494,22 +542,24 @@ arguments-returns-6 t c =
     let arguments2 = c .before .before .arguments2 in
     let token-after = c .before .before .before .before .token-after in
     let p1 = c .before .before .before .before .before in
-    let if5 = p1 .if5 in
-    let if3 = p1 .before .if3 in
-    let argument-after = p1 .before .before .argument-after in
-    let if2 = p1 .before .before .before .if2 in
-    let if1 = p1 .before .before .before .before .if1 in
-    let p2 = p1 .before .before .before .before .before .before .before in
-    let args = p2 .args in
-    let pre = p2 .pre in
-    calls-ere _ _ _ (args .f) _ (args .first) (args .t) _ _ _ _ (pre .1 .0) _ _ (if1 .left) (if2 .left) _
-    (argument-after .ensures) (if3 .left) (if5 .left) _ (token-after .ensures) _ refl
+    let after-argument2 = p1 .after-argument2 in
+    let if5 = p1 .before .if5 in
+    let if3 = p1 .before .before .before .if3 in
+    let argument-after = p1 .before .before .before .before .argument-after in
+    let p2 = p1 .before .before .before .before .before in
+    let if2 = p2 .if2 in
+    let if1 = p2 .before .before .if1 in
+    let p3 = p2 .before .before .before .before .before in
+    let args = p3 .args in
+    let pre = p3 .pre in
+    calls-ere _ _ _ (args .f) (args .first) (args .t) _ _ _ (pre .1 .0) _ _ (if1 .left) (if2 .left) _
+    (argument-after .ensures) (if3 .left) (if5 .left) _ (token-after .ensures) _ (after-argument2 .ensures)
     (arguments2 .ensures)
 
 assignment-returns : (t : ℕ) → assignment-lts.Need-returns (assignment-calls t) (assignment-at t) assignment.Post
 assignment-returns t c =
     let if1 = c .if1 in
-    let p1 = c .before .before .before .before .before in
+    let p1 = c .before .before .before .before .before .before in
     let args = p1 .args in
     assign-none _ _ _ _ _ _ (args .r) _ (if1 .taken)
 
@@ -520,42 +570,41 @@ assignment-operand-after-requires t c κs = search needs
 assignment-sub-n : (t : ℕ) → assignment-lts.Need-sub-n (assignment-calls t) (assignment-at t) assignment.Post
 assignment-sub-n t c = search needs
 
-assignment-inside-requires : (t : ℕ) → assignment-lts.Need-inside-requires (assignment-calls t) (assignment-at t)
+assignment-nested-requires : (t : ℕ) → assignment-lts.Need-nested-requires (assignment-calls t) (assignment-at t)
     assignment.Post
-assignment-inside-requires t c κs =
+assignment-nested-requires t c κs =
     let operand-after = c .before .before .before .before .operand-after in
     let p1 = c .before .before .before .before .before .before .before .before .before in
-    let pre = p1 .before .pre in
-    let args = p1 .before .args in (
+    let pre = p1 .before .before .pre in
+    let args = p1 .before .before .args in (
       omega (arith, pre .0),
       (
         ready-fewer _ _ _ _ (args .r .count - 1) (omega arith)
             (ready-operand _ _ (args .r .token) (args .r .count) (pre .1 .0) _ (operand-after .ensures)),
         omega
             (arith, pre .1 .3),
-        omega arith,
       ),
     )
 
 assignment-add-suffix : (t : ℕ) → assignment-lts.Need-add-suffix (assignment-calls t) (assignment-at t) assignment.Post
 assignment-add-suffix t c =
     let p1 = c .before .before .before .before .before .before .before .before .before in
-    let p2 = p1 .before .before .before .before .before in
+    let p2 = p1 .before .before .before .before .before .before in
     let pre = p2 .pre in
     record { fits = omega (arith, pre .1 .3) }
 
 assignment-suffix-requires : (t : ℕ) → assignment-lts.Need-suffix-requires (assignment-calls t) (assignment-at t)
     assignment.Post
 assignment-suffix-requires t c κs =
-    let inside = c .before .before .before .inside in
+    let nested = c .before .before .before .nested in
     let p1 = c .before .before .before .before .before .before .before .before in
     let operand-after = p1 .operand-after in
-    let p2 = p1 .before .before .before .before .before .before in
+    let p2 = p1 .before .before .before .before .before .before .before in
     let args = p2 .args in
     let pre = p2 .pre in
     let r = ready-fewer _ _ _ _ (args .r .count - 1) (omega arith)
     (ready-operand _ _ (args .r .token) (args .r .count) (pre .1 .0) _ (operand-after .ensures)) in (
-      omega (arith, reading-fits _ _ _ _ _ _ r _ _ _ (inside .ensures) .0),
+      omega (arith, reading-fits _ _ _ _ _ _ r _ _ _ (nested .ensures) .0),
       fits 3 _ _ (omega arith) (omega (arith, pre .1 .3)) (pre .1 .2),
     )
 
@@ -567,34 +616,33 @@ assignment-returns-2 : (t : ℕ) → assignment-lts.Need-returns-2 (assignment-c
 assignment-returns-2 t c =
     let suffix = c .before .before .suffix in
     let p1 = c .before .before .before .before .before .before in
-    let inside = p1 .inside in
+    let nested = p1 .nested in
     let if2 = p1 .before .before .if2 in
     let p2 = p1 .before .before .before .before .before in
     let operand-after = p2 .operand-after in
     let if1 = p2 .before .if1 in
-    let p3 = p2 .before .before .before .before .before .before in
+    let p3 = p2 .before .before .before .before .before .before .before in
     let args = p3 .args in
     let pre = p3 .pre in
     assign-name _ _ _ _ _ _ (args .r) _ (if1 .left) _ (operand-after .ensures) (omega (arith, pre .1 .3)) (pre .1 .2)
-    _ _ _ _ (if2 .taken) (inside .ensures) (suffix .ensures)
+    _ _ _ _ (if2 .taken) (nested .ensures) (suffix .ensures)
 
-assignment-add-inside : (t : ℕ) → assignment-lts.Need-add-inside (assignment-calls t) (assignment-at t) assignment.Post
-assignment-add-inside t c = search needs
+assignment-add-d : (t : ℕ) → assignment-lts.Need-add-d (assignment-calls t) (assignment-at t) assignment.Post
+assignment-add-d t c = search needs
 
-assignment-inside-requires-2 : (t : ℕ) → assignment-lts.Need-inside-requires-2 (assignment-calls t) (assignment-at t)
+assignment-nested-requires-2 : (t : ℕ) → assignment-lts.Need-nested-requires-2 (assignment-calls t) (assignment-at t)
     assignment.Post
-assignment-inside-requires-2 t c κs =
+assignment-nested-requires-2 t c κs =
     let operand-after = c .before .before .before .before .operand-after in
     let p1 = c .before .before .before .before .before .before .before .before .before in
-    let pre = p1 .before .pre in
-    let args = p1 .before .args in (
+    let pre = p1 .before .before .pre in
+    let args = p1 .before .before .args in (
       omega (arith, pre .0),
       (
         ready-fewer _ _ _ _ (args .r .count - 1) (omega arith)
             (ready-operand _ _ (args .r .token) (args .r .count) (pre .1 .0) _ (operand-after .ensures)),
         omega
             (arith, pre .1 .3),
-        omega arith,
       ),
     )
 
@@ -602,22 +650,22 @@ assignment-add-suffix-2 : (t : ℕ) → assignment-lts.Need-add-suffix-2 (assign
     assignment.Post
 assignment-add-suffix-2 t c =
     let p1 = c .before .before .before .before .before .before .before .before .before in
-    let p2 = p1 .before .before .before .before .before in
+    let p2 = p1 .before .before .before .before .before .before in
     let pre = p2 .pre in
     record { fits = omega (arith, pre .1 .3) }
 
 assignment-suffix-requires-2 : (t : ℕ) → assignment-lts.Need-suffix-requires-2 (assignment-calls t) (assignment-at t)
     assignment.Post
 assignment-suffix-requires-2 t c κs =
-    let inside2 = c .before .before .before .inside2 in
+    let nested2 = c .before .before .before .nested2 in
     let p1 = c .before .before .before .before .before .before .before .before in
     let operand-after = p1 .operand-after in
-    let p2 = p1 .before .before .before .before .before .before in
+    let p2 = p1 .before .before .before .before .before .before .before in
     let args = p2 .args in
     let pre = p2 .pre in
     let r = ready-fewer _ _ _ _ (args .r .count - 1) (omega arith)
     (ready-operand _ _ (args .r .token) (args .r .count) (pre .1 .0) _ (operand-after .ensures)) in (
-      omega (arith, reading-fits _ _ _ _ _ _ r _ _ _ (inside2 .ensures) .0),
+      omega (arith, reading-fits _ _ _ _ _ _ r _ _ _ (nested2 .ensures) .0),
       fits 5 _ 0 (omega arith) (omega (arith, pre .1 .3)) (omega arith),
     )
 
@@ -629,16 +677,16 @@ assignment-returns-3 : (t : ℕ) → assignment-lts.Need-returns-3 (assignment-c
 assignment-returns-3 t c =
     let suffix2 = c .before .before .suffix2 in
     let p1 = c .before .before .before .before .before .before in
-    let inside2 = p1 .inside2 in
+    let nested2 = p1 .nested2 in
     let if2 = p1 .before .before .if2 in
     let p2 = p1 .before .before .before .before .before in
     let operand-after = p2 .operand-after in
     let if1 = p2 .before .if1 in
-    let p3 = p2 .before .before .before .before .before .before in
+    let p3 = p2 .before .before .before .before .before .before .before in
     let args = p3 .args in
     let pre = p3 .pre in
     assign-to-field _ _ _ _ _ _ (args .r) _ (if1 .left) _ (operand-after .ensures) (omega (arith, pre .1 .3))
-    (pre .1 .2) _ _ _ _ (if2 .left) (inside2 .ensures) (suffix2 .ensures)
+    (pre .1 .2) _ _ _ _ (if2 .left) (nested2 .ensures) (suffix2 .ensures)
 
 call-function-of-requires : (t : ℕ) → call-lts.Need-function-of-requires (call-calls t) (call-at t) call.Post
 call-function-of-requires t c κs = c .before .before .pre .1 .0 .known
@@ -662,8 +710,8 @@ call-token-after-requires t c κs = search needs
 
 call-refuse-requires-2 : (t : ℕ) → call-lts.Need-refuse-requires-2 (call-calls t) (call-at t) call.Post
 call-refuse-requires-2 t c κs =
-    let token-after = c .before .token-after in
-    let p1 = c .before .before .before .before .before .before .before in
+    let token-after = c .before .before .token-after in
+    let p1 = c .before .before .before .before .before .before .before .before in
     let args = p1 .args in
     let pre = p1 .pre in
     ready-next _ _ (args .t) (args .n) (pre .1 .0) _ (token-after .ensures) .known
@@ -672,9 +720,9 @@ call-returns-2 : (t : ℕ) → call-lts.Need-returns-2 (call-calls t) (call-at t
 call-returns-2 t c =
     let refuse2 = c .refuse2 in
     let if2 = c .before .if2 in
-    let token-after = c .before .before .token-after in
-    let if1 = c .before .before .before .if1 in
-    let p1 = c .before .before .before .before .before in
+    let token-after = c .before .before .before .token-after in
+    let if1 = c .before .before .before .before .if1 in
+    let p1 = c .before .before .before .before .before .before in
     let function-of = p1 .function-of in
     let args = p1 .before .before .before .args in
     let pre = p1 .before .before .before .pre in
@@ -685,8 +733,8 @@ call-returns-2 t c =
 
 call-arguments-requires : (t : ℕ) → call-lts.Need-arguments-requires (call-calls t) (call-at t) call.Post
 call-arguments-requires t c κs =
-    let token-after = c .before .before .token-after in
-    let p1 = c .before .before .before .before .before in
+    let token-after = c .before .before .before .token-after in
+    let p1 = c .before .before .before .before .before .before in
     let function-of = p1 .function-of in
     let args = p1 .before .before .before .args in
     let pre = p1 .before .before .before .pre in
@@ -713,7 +761,7 @@ call-returns-3 : (t : ℕ) → call-lts.Need-returns-3 (call-calls t) (call-at t
 call-returns-3 t c =
     let arguments = c .before .before .arguments in
     let if2 = c .before .before .before .before .if2 in
-    let p1 = c .before .before .before .before .before in
+    let p1 = c .before .before .before .before .before .before in
     let token-after = p1 .token-after in
     let if1 = p1 .before .if1 in
     let function-of = p1 .before .before .before .function-of in
@@ -729,15 +777,16 @@ call-returns-3 t c =
     (function-begun (args .edition .number) (args .t .kind) (pre .1 .0 .known)
     (λ z. if1 .left (ap (λ (y : Function). y .op) (function-of .ensures) ∙ z))))
     (if2 .left)
-    (subst (λ (y : Function). Calls (args .edition .number) (args .s .now) (args .levels) y (token-after .result) true
-    (token-after .result)
-    (args .n) (args .depth) 0 (args .section .now) (arguments .result) (arguments .last .1 .0)) (function-of .ensures)
-    (arguments .ensures))
+    (subst (λ (y : Function). Calls (args .edition .number) (args .s .now) (args .levels)
+    (pending (y .op) (y .shapes) 0 (token-after .result)) true
+    (token-after .result) (args .n) (args .depth) (args .section .now) (arguments .result) (arguments .last .1 .0))
+    (function-of .ensures) (arguments .ensures))
 
 field-form-primary-requires : (t : ℕ) → field-form-lts.Need-primary-requires (field-form-calls t) (field-form-at t)
     field-form.Post
 field-form-primary-requires t c κs =
-    let pre = c .before .before .before .before .pre in
+    let p1 = c .before .before .before .before .before in
+    let pre = p1 .pre in
     (omega (arith, pre .0), pre .1)
 
 field-form-same-length : (t : ℕ) → field-form-lts.Need-same-length (field-form-calls t) (field-form-at t)
@@ -748,7 +797,7 @@ field-form-returns : (t : ℕ) → field-form-lts.Need-returns (field-form-calls
 field-form-returns t c =
     let primary = c .before .before .primary in
     let if1 = c .before .before .before .before .if1 in
-    let p1 = c .before .before .before .before .before .before .before in
+    let p1 = c .before .before .before .before .before .before .before .before in
     let args = p1 .args in
     let pre = p1 .pre in
     field-other _ _ _ (args .t) _ _ _ (pre .1 .0) _ _ (if1 .taken) (primary .ensures)
@@ -761,7 +810,7 @@ field-form-inside-requires : (t : ℕ) → field-form-lts.Need-inside-requires (
     field-form.Post
 field-form-inside-requires t c κs =
     let operand-after = c .before .operand-after in
-    let p1 = c .before .before .before .before .before in
+    let p1 = c .before .before .before .before .before .before in
     let pre = p1 .pre in
     let args = p1 .args in (
       omega (arith, pre .0),
@@ -782,8 +831,9 @@ field-form-suffix-requires t c κs =
     let inside = c .before .before .before .inside in
     let p1 = c .before .before .before .before .before in
     let operand-after = p1 .operand-after in
-    let args = p1 .before .before .before .before .args in
-    let pre = p1 .before .before .before .before .pre in
+    let p2 = p1 .before .before .before .before .before in
+    let args = p2 .args in
+    let pre = p2 .pre in
     let r = ready-operand _ _ (args .t) (args .n) (pre .1 .0) _ (operand-after .ensures) in (
       omega (arith, reading-fits _ _ _ _ _ _ r _ _ _ (inside .ensures) .0),
       fits 4 _ 0 (omega arith) (omega (arith, pre .1 .1)) (omega arith),
@@ -800,7 +850,7 @@ field-form-returns-2 t c =
     let inside = p1 .inside in
     let operand-after = p1 .before .before .operand-after in
     let if1 = p1 .before .before .before .if1 in
-    let p2 = p1 .before .before .before .before .before .before in
+    let p2 = p1 .before .before .before .before .before .before .before in
     let args = p2 .args in
     let pre = p2 .pre in
     field-read _ _ _ (args .t) _ _ _ (pre .1 .0) _ (operand-after .ensures) (omega (arith, pre .1 .1)) _ _ _ _
@@ -898,10 +948,8 @@ more-add-m t c =
 
 more-right-depth-requires : (t : ℕ) → more-lts.Need-right-depth-requires (more-calls t) (more-at t) more.Post
     more-Inv-loop more-μ-loop
-more-right-depth-requires t c κs =
-    let p1 = c .before .before .before .before .before .before .before .before .before in
-    let pre = p1 .pre in
-    omega (arith, pre .1 .1)
+more-right-depth-requires t c κs = omega
+    (arith, c .before .before .before .before .before .before .before .before .pre .1 .1)
 
 more-sub-tier : (t : ℕ) → more-lts.Need-sub-tier (more-calls t) (more-at t) more.Post more-Inv-loop more-μ-loop
 more-sub-tier t c = search needs
@@ -909,7 +957,7 @@ more-sub-tier t c = search needs
 more-tier-requires : (t : ℕ) → more-lts.Need-tier-requires (more-calls t) (more-at t) more.Post more-Inv-loop
     more-μ-loop
 more-tier-requires t c κs =
-    let right-depth = c .right-depth in
+    let right-depth = c .before .right-depth in
     let between = c .before .before .between in
     let right-of = c .before .before .before .right-of in
     let if1 = c .before .before .before .before .if1 in
@@ -992,17 +1040,16 @@ more-returns-3 t c =
     let p1 = c .before .before .before .before .before in
     let if2 = p1 .if2 in
     let tier = p1 .before .before .before .before .tier in
-    let p2 = p1 .before .before .before .before .before in
+    let p2 = p1 .before .before .before .before .before .before in
     let right-depth = p2 .right-depth in
-    let between = p2 .before .before .between in
-    let right-of = p2 .before .before .before .right-of in
-    let if1 = p2 .before .before .before .before .if1 in
-    let p3 = p2 .before .before .before .before .before in
-    let tier-of = p3 .tier-of in
-    let loop = p3 .before .before .loop in
-    let p4 = p3 .before .before .before .before .before in
-    let pre = p4 .pre in
-    let args = p4 .args in
+    let between = p2 .before .between in
+    let right-of = p2 .before .before .right-of in
+    let if1 = p2 .before .before .before .if1 in
+    let tier-of = p2 .before .before .before .before .tier-of in
+    let p3 = p2 .before .before .before .before .before .before in
+    let loop = p3 .loop in
+    let pre = p3 .before .before .before .pre in
+    let args = p3 .before .before .before .args in
     turning-single _ _ _ _ _ _ _ _ (loop .r) _ (loop .inv .2) (λ z. omega (arith, z, pre .1 .2)) (loop .inv .1)
     (sym (tier-of .ensures) ∙ if1 .left) _ (right-of .ensures) _ _ _ _ (tier .ensures) (omega (arith, pre .1 .1))
     (ap (λ (i : ℕ). loop .r .count + i) (between .ensures)) (right-depth .ensures) (if2 .left)
@@ -1050,17 +1097,16 @@ more-loop-again t c =
     let p1 = c .before .before .before .before .before in
     let if2 = p1 .if2 in
     let tier = p1 .before .before .before .before .tier in
-    let p2 = p1 .before .before .before .before .before in
+    let p2 = p1 .before .before .before .before .before .before in
     let right-depth = p2 .right-depth in
-    let between = p2 .before .before .between in
-    let right-of = p2 .before .before .before .right-of in
-    let if1 = p2 .before .before .before .before .if1 in
-    let p3 = p2 .before .before .before .before .before in
-    let tier-of = p3 .tier-of in
-    let loop = p3 .before .before .loop in
-    let p4 = p3 .before .before .before .before .before in
-    let args = p4 .args in
-    let pre = p4 .pre in (
+    let between = p2 .before .between in
+    let right-of = p2 .before .before .right-of in
+    let if1 = p2 .before .before .before .if1 in
+    let tier-of = p2 .before .before .before .before .tier-of in
+    let p3 = p2 .before .before .before .before .before .before in
+    let loop = p3 .loop in
+    let args = p3 .before .before .before .args in
+    let pre = p3 .before .before .before .pre in (
       omega (arith, loop .inv .0, tier .kept .1 .0, apply .kept .0),
       next-ready _ _ (args .printed) (args .k)
           (λ z. omega (arith, z, pre .1 .2)) (loop .r) (loop .inv .1) (sym (tier-of .ensures) ∙ if1 .left) _
@@ -1077,6 +1123,22 @@ more-loop-again t c =
           )) _ _
           (apply .ensures .0) (apply .ensures .1) (if3 .left),
     )
+
+nested-inside-requires :
+    (t : ℕ) →
+    nested-lts.Need-inside-requires (nested-calls t) (nested-at t) nested.Post
+nested-inside-requires t c κs = (
+  omega (arith, c .before .before .before .pre .0),
+  (c .before .before .before .pre .1 .0, c .before .before .before .pre .1 .1, omega arith),
+)
+
+nested-same-length :
+    (t : ℕ) → nested-lts.Need-same-length (nested-calls t) (nested-at t) nested.Post
+nested-same-length t c = search needs
+
+nested-returns :
+    (t : ℕ) → nested-lts.Need-returns (nested-calls t) (nested-at t) nested.Post
+nested-returns t c = c .before .before .inside .ensures
 
 prefix-form-is-prefix-requires : (t : ℕ) → prefix-form-lts.Need-is-prefix-requires (prefix-form-calls t)
     (prefix-form-at t) prefix-form.Post
@@ -1135,7 +1197,7 @@ prefix-form-add-suffix t c = search needs
 prefix-form-suffix-requires : (t : ℕ) → prefix-form-lts.Need-suffix-requires (prefix-form-calls t) (prefix-form-at t)
     prefix-form.Post
 prefix-form-suffix-requires t c κs =
-    let prefix-code = c .prefix-code in
+    let prefix-code = c .before .prefix-code in
     let inside = c .before .before .before .before .inside in
     let p1 = c .before .before .before .before .before .before in
     let operand-after = p1 .operand-after in
@@ -1156,7 +1218,7 @@ prefix-form-returns-2 : (t : ℕ) → prefix-form-lts.Need-returns-2 (prefix-for
     prefix-form.Post
 prefix-form-returns-2 t c =
     let suffix = c .before .before .suffix in
-    let prefix-code = c .before .before .before .prefix-code in
+    let prefix-code = c .before .before .before .before .prefix-code in
     let p1 = c .before .before .before .before .before .before .before in
     let inside = p1 .inside in
     let operand-after = p1 .before .before .operand-after in
@@ -1226,7 +1288,7 @@ primary-same-length-3 t c = search needs
 primary-returns-3 : (t : ℕ) → primary-lts.Need-returns-3 (primary-calls t) (primary-at t) primary.Post
 primary-returns-3 t c =
     let leaf2 = c .before .before .leaf2 in
-    let name-form = c .before .before .before .name-form in
+    let name-form = c .before .before .before .before .name-form in
     let p1 = c .before .before .before .before .before in
     let if3 = p1 .if3 in
     let is-name = p1 .before .is-name in
@@ -1267,8 +1329,8 @@ primary-operand-after-requires : (t : ℕ) → primary-lts.Need-operand-after-re
     primary.Post
 primary-operand-after-requires t c κs = search needs
 
-primary-inside-requires : (t : ℕ) → primary-lts.Need-inside-requires (primary-calls t) (primary-at t) primary.Post
-primary-inside-requires t c κs =
+primary-nested-requires : (t : ℕ) → primary-lts.Need-nested-requires (primary-calls t) (primary-at t) primary.Post
+primary-nested-requires t c κs =
     let operand-after = c .before .operand-after in
     let p1 = c .before .before .before .before .before .before .before .before .before in
     let pre = p1 .pre in
@@ -1278,19 +1340,18 @@ primary-inside-requires t c κs =
         ready-operand _ _ (args .t) (args .n) (pre .1 .0) _ (operand-after .ensures),
         omega
             (arith, pre .1 .1),
-        omega arith,
       ),
     )
 
 primary-closed-requires : (t : ℕ) → primary-lts.Need-closed-requires (primary-calls t) (primary-at t) primary.Post
 primary-closed-requires t c κs =
-    let inside = c .before .before .inside in
+    let nested = c .before .before .nested in
     let operand-after = c .before .before .before .before .operand-after in
     let p1 = c .before .before .before .before .before .before .before .before .before in
     let args = p1 .before .before .before .args in
     let pre = p1 .before .before .before .pre in
     reading-fits _ _ _ _ _ _ (ready-operand _ _ (args .t) (args .n) (pre .1 .0) _ (operand-after .ensures)) _ _ _
-    (inside .ensures) .1
+    (nested .ensures) .1
 
 primary-same-length-5 : (t : ℕ) → primary-lts.Need-same-length-5 (primary-calls t) (primary-at t) primary.Post
 primary-same-length-5 t c = search needs
@@ -1298,7 +1359,7 @@ primary-same-length-5 t c = search needs
 primary-returns-5 : (t : ℕ) → primary-lts.Need-returns-5 (primary-calls t) (primary-at t) primary.Post
 primary-returns-5 t c =
     let closed = c .closed in
-    let inside = c .before .before .before .inside in
+    let nested = c .before .before .before .nested in
     let p1 = c .before .before .before .before .before in
     let operand-after = p1 .operand-after in
     let if4 = p1 .before .if4 in
@@ -1311,7 +1372,7 @@ primary-returns-5 t c =
     let pre = p2 .before .before .before .pre in
     primary-paren _ _ _ (args .t) _ _ _ (pre .1 .0) (if1 .left) (if2 .left) (sym (is-name .ensures) ∙ if3 .left)
     (if4 .left) _ _ _ _
-    (operand-after .ensures) (inside .ensures) (closed .ensures)
+    (operand-after .ensures) (nested .ensures) (closed .ensures)
 
 tier-field-form-requires : (t : ℕ) → tier-lts.Need-field-form-requires (tier-calls t) (tier-at t) tier.Post
 tier-field-form-requires t c κs =
@@ -1464,9 +1525,9 @@ tier-returns-6 t c =
     read-more _ _ _ _ (args .k) _ _ _ _ _ _ _ _ (tier .ensures) (if3 .left) (if1 .left) (if2 .left) (if4 .left)
     (if5 .left) (more .ensures)
 
-pub +arguments+assignment+call+field-form+inside+more+prefix-form+primary+tier-spec :
+pub +arguments+assignment+call+field-form+inside+more+nested+prefix-form+primary+tier-spec :
     {M : Type 1} → statement M
-+arguments+assignment+call+field-form+inside+more+prefix-form+primary+tier-spec =
++arguments+assignment+call+field-form+inside+more+nested+prefix-form+primary+tier-spec =
     close
     μ-arguments
     μ-assignment
@@ -1474,6 +1535,7 @@ pub +arguments+assignment+call+field-form+inside+more+prefix-form+primary+tier-s
     μ-field-form
     μ-inside
     μ-more
+    μ-nested
     μ-prefix-form
     μ-primary
     μ-tier
@@ -1488,15 +1550,17 @@ pub +arguments+assignment+call+field-form+inside+more+prefix-form+primary+tier-s
     (arguments-refuse-requires t)
     (arguments-returns-2 t)
     (arguments-argument-after-requires t)
-    (arguments-inside-requires t)
+    (arguments-nested-requires t)
     (arguments-same-length-2 t)
     (arguments-returns-3 t)
-    (arguments-add-arguments t)
+    (arguments-after-argument-requires t)
+    (arguments-add-d t)
     (arguments-arguments-requires t)
     (arguments-same-length-3 t)
     (arguments-returns-4 t)
     (arguments-refuse-requires-2 t)
     (arguments-returns-5 t)
+    (arguments-after-argument-requires-2 t)
     (arguments-token-after-requires t)
     (arguments-arguments-requires-2 t)
     (arguments-same-length-4 t)
@@ -1507,13 +1571,13 @@ pub +arguments+assignment+call+field-form+inside+more+prefix-form+primary+tier-s
     (assignment-returns t)
     (assignment-operand-after-requires t)
     (assignment-sub-n t)
-    (assignment-inside-requires t)
+    (assignment-nested-requires t)
     (assignment-add-suffix t)
     (assignment-suffix-requires t)
     (assignment-same-length t)
     (assignment-returns-2 t)
-    (assignment-add-inside t)
-    (assignment-inside-requires-2 t)
+    (assignment-add-d t)
+    (assignment-nested-requires-2 t)
     (assignment-add-suffix-2 t)
     (assignment-suffix-requires-2 t)
     (assignment-same-length-2 t)
@@ -1573,6 +1637,12 @@ pub +arguments+assignment+call+field-form+inside+more+prefix-form+primary+tier-s
     (more-returns-3 t)
     (more-loop-less t)
     (more-loop-again t))
+    (λ t. nested-lts.spec (nested-calls t)
+    (nested-at t)
+    nested.Post
+    (nested-inside-requires t)
+    (nested-same-length t)
+    (nested-returns t))
     (λ t. prefix-form-lts.spec (prefix-form-calls t)
     (prefix-form-at t)
     prefix-form.Post
@@ -1605,7 +1675,7 @@ pub +arguments+assignment+call+field-form+inside+more+prefix-form+primary+tier-s
     (primary-same-length-4 t)
     (primary-returns-4 t)
     (primary-operand-after-requires t)
-    (primary-inside-requires t)
+    (primary-nested-requires t)
     (primary-closed-requires t)
     (primary-same-length-5 t)
     (primary-returns-5 t))
