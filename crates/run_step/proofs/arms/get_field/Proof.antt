@@ -1,0 +1,53 @@
+-- `get_field` meets its contract: what `load_field` says, and the machine after it.
+use mathlib.Core.Path.{sym, ap, subst, _∙_}
+use Prim.Native.Nat.{_<_}
+use Rattle.run_step.specs.declared.machine.Machine.{Machine}
+use Rattle.run_step.specs.Machine.{advancedUnless}
+use borrow.Author.Needs.{needs}
+use Rattle.run_step.proofs.arms.get_field.Statement.{statement}
+use Rattle.run_step.proofs.arms.get_field.Tie as tie
+
+-- src/arms.rt:110:70
+sub-load-field : tie.Need-sub-load-field
+sub-load-field c = search needs
+
+-- src/arms.rt:110:9
+load-field-requires : tie.Need-load-field-requires
+load-field-requires c κs = search needs
+
+-- src/arms.rt:111:9
+with-line-requires : tie.Need-with-line-requires
+with-line-requires c κs = search needs
+
+-- src/arms.rt:112:5
+after-requires : tie.Need-after-requires
+after-requires c κs =
+    let p = c .before .before .before .before .before .before .before .pre in
+    subst (λ (q : Machine). q .at < 1024) (sym (c .with-line .ensures)) (p .5)
+
+-- src/arms.rt:97:1
+same-length : tie.Need-same-length
+same-length c = search needs
+
+-- src/arms.rt:97:1
+returns : tie.Need-returns
+returns c =
+    let m = c .before .before .before .before .before .before .before .before .args .m in
+    let l = c .before .before .before .before .load-field in
+    let w = c .before .with-line in (
+      l .result,
+      c .after .ensures ∙ ap (λ (q : Machine). advancedUnless q (l .result .outcome) (m .depth))
+          (w .ensures),
+      l .ensures,
+    )
+
+pub get-field-spec : {M : Type 1} → statement M
+get-field-spec =
+    tie.close
+    (tie.spec
+    sub-load-field
+    load-field-requires
+    with-line-requires
+    after-requires
+    same-length
+    returns)

@@ -1,0 +1,3 @@
+-- What a run's machine stands for, and what a step does.
+pub mod Machine
+pub mod Standing

@@ -1,0 +1,110 @@
+// What a run carries by value.
+ghost use mathlib.Core.Path.{_≡_};
+ghost use Prim.Native.Nat.{_<_};
+ghost use Rattle.run_step.specs.Machine.{stopped, goneTo, advanced, advancedUnless, withLine, withKind};
+use run_room::Line;
+use separators::Kind;
+
+// The sections.
+pub const BEGIN: usize = 0;
+
+pub const MAIN: usize = 1;
+
+pub const FINISH: usize = 2;
+
+// The place between records, where else an instruction's number is.
+pub const BETWEEN: usize = 1024;
+
+// A run that goes on in its section, one that leaves BEGIN for the records, and one that leaves a section for END. Any
+// other
+// status is the outcome of a run that is over.
+pub const GOES: u64 = 100;
+
+pub const TO_RECORDS: u64 = 101;
+
+pub const TO_END: u64 = 102;
+
+// Where a run is, but for the rooms: whether it goes on; the instruction; how many operands there are; steps, records
+// begun,
+// the place in the lines, bytes written; the ERE of the shared table; what FS separates by; and the record.
+pub struct Machine {
+    pub status: u64,
+    pub at: usize,
+    pub depth: usize,
+    pub steps: u64,
+    pub records: u64,
+    pub input: usize,
+    pub written: usize,
+    pub last: usize,
+    pub kind: Kind,
+    pub line: Line,
+}
+
+impl Machine {
+    // Leaves the section.
+    pub fn stop(self, status: u64) -> Machine
+        ensures { λ r. ⌜ r ≡ stopped «self» status ⌝ }
+    {
+        let mut m = self;
+        m.status = status;
+        m
+    }
+
+    // Goes to instruction t.
+    pub fn go_to(self, t: usize) -> Machine
+        ensures { λ r. ⌜ r ≡ goneTo «self» t ⌝ }
+    {
+        let mut m = self;
+        m.at = t;
+        m
+    }
+
+    // Goes on to the next instruction, with so many operands.
+    pub fn on(self, depth: usize) -> Machine
+        requires { ⌜ «self» .at < 1024 ⌝ }
+        ensures { λ r. ⌜ r ≡ advanced «self» depth ⌝ }
+    {
+        let mut m = self;
+        m.at = self.at + 1;
+        m.depth = depth;
+        m
+    }
+
+    // The same, unless the outcome isn't 0.
+    pub fn after(self, outcome: u64, depth: usize) -> Machine
+        requires { ⌜ «self» .at < 1024 ⌝ }
+        ensures { λ r. ⌜ r ≡ advancedUnless «self» outcome depth ⌝ }
+    {
+        if outcome != 0 {
+            return self.stop(outcome);
+        }
+        self.on(depth)
+    }
+
+    // The same with another record.
+    pub fn with_line(self, line: Line) -> Machine
+        ensures { λ r. ⌜ r ≡ withLine «self» line ⌝ }
+    {
+        let mut m = self;
+        m.line = line;
+        m
+    }
+
+    // The same with another record and what FS separates by.
+    pub fn with_separator(self, line: Line, kind: Kind) -> Machine
+        ensures { λ r. ⌜ r ≡ withKind (withLine «self» line) kind ⌝ }
+    {
+        Machine {
+            status: self.status,
+            at: self.at,
+            depth: self.depth,
+            steps: self.steps,
+            records: self.records,
+            input: self.input,
+            written: self.written,
+            last: self.last,
+            kind: kind,
+            line: line,
+        }
+    }
+}
