@@ -28,6 +28,14 @@ the rules, -2^53 to 2^53, is 8 bytes: what it is above -2^53. Payloads, field by
     read        outcome 1, words of the room 2, words of the content 2 (0 where the outcome is not 0), content 8 each, image
     write       outcome 1, bytes of the room 2, bytes of the image 2 (0 where the outcome is not 0), image, content 8 each
     check       outcome 1, image
+    operations  code 1 (28: whether a value is true), outcome 1, and values: what is in the first slot afterwards, and
+                what is in three slots before, of which the operation takes the first ones
+    records     outcomes 1 each (of the read, of two assignments, of getting a field), count of records read before 8,
+                and values: afterwards the record, the number of fields and the field that is got; before, FS, OFS, the
+                record that is read, twice the number of a field and what it is assigned, and the number of that got
+
+A value is its kind 1 (0 unset, 1 number, 2 text, 3 text of a field), how many bytes follow 2, and these: none, 8, or
+the text. What an operation that stops would change is as it was.
 """
 import argparse
 import itertools
@@ -37,6 +45,7 @@ import struct
 import sys
 
 import image_cases
+import run_cases
 
 ROOT = os.path.dirname(os.path.dirname(os.path.abspath(__file__)))
 BIG = 2 ** 53
@@ -799,6 +808,62 @@ def check():
     return [bytes([ref.check(image)]) + image for image in made]
 
 
+# ------------------------------------------------- operations and records
+
+def packed(v):
+    """A value of the reference, as a payload has it."""
+    content = biased(v[1]) if v[0] == 'n' else ref._text_of(v)
+    return bytes(['untf'.index(v[0])]) + short(len(content)) + content
+
+
+def attempt(action, otherwise):
+    """The outcome of an action of the reference, and its value, or another where it stops."""
+    try:
+        return 0, action()
+    except ref.Stop as stop:
+        return stop.outcome, otherwise
+
+
+def empty_run(lines):
+    return ref._Run((0, [], [], [[], [], []]), lines, 0)
+
+
+def are_values(some):
+    return all(len(ref._text_of(v)) <= ref.TEXT for v in some)
+
+
+def operation_case(code, before):
+    assert are_values(before)
+    taken = before[:ref._effect(code, None)[0]]
+    if code == 28:
+        outcome, after = attempt(lambda: ('n', int(ref._truth(*taken))), before[0])
+    else:
+        outcome, after = attempt(lambda: empty_run(b'').perform(code, None, taken), before[0])
+    return bytes([code, outcome]) + b''.join(map(packed, (after, *before)))
+
+
+def record_case(fs, ofs, count, record, k, value, k2, value2, got):
+    assert are_values((fs, ofs, k, value, k2, value2, got)) and b'\n' not in record
+    run = empty_run(record)
+    run.vars[2:4], run.records = [fs, ofs], count
+    outcomes = [attempt(run.read_record, None)[0]]
+    outcomes += [attempt(lambda: run.set_field(*pair), None)[0] for pair in ((k, value), (k2, value2))]
+    outcome, field_value = attempt(lambda: run.perform(4, None, [got]), got)
+    after = [('f', run.record), ('n', len(run.fields)), field_value]
+    before = [fs, ofs, ('f', record), k, value, k2, value2, got]
+    return bytes(outcomes + [outcome]) + word(count) + b''.join(map(packed, after + before))
+
+
+@group
+def operations():
+    return [operation_case(*case) for case in unique(run_cases.operations(random.Random('operations')))]
+
+
+@group
+def records():
+    return [record_case(*case) for case in unique(run_cases.records(random.Random('records')))]
+
+
 # ---------------------------------------------------- wrong expectations
 
 # for each group, where a payload has what is expected
@@ -817,11 +882,18 @@ EXPECTED = {
     'read': lambda p: [0, *range(5, 5 + 8 * two(p, 3))],
     'write': lambda p: [0, *range(5, 5 + two(p, 3))],
     'check': lambda p: [0],
+    'operations': lambda p: range(1, values_end(p, 2, 1)),
+    'records': lambda p: [*range(4), *range(12, values_end(p, 12, 3))],
 }
 
 
 def two(p, at):
     return struct.unpack_from('<H', p, at)[0]
+
+
+def values_end(p, at, n):
+    """Where the n values from an index on end."""
+    return at if n == 0 else values_end(p, at + 3 + two(p, at + 1), n - 1)
 
 
 def changed(r, name, payload):

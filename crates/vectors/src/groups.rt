@@ -14,6 +14,8 @@ pub enum Group {
     Read,
     Write,
     Check,
+    Operations,
+    Records,
 }
 
 // Whether the case in a frame's payload passes.
@@ -33,5 +35,7 @@ pub fn passes(group: Group, p: &[u8]) -> bool {
         Group::Read => vectors_images::reading::passes(p),
         Group::Write => vectors_images::writing::passes(p),
         Group::Check => vectors_images::checking::passes(p),
+        Group::Operations => vectors_runs::operations::passes(p),
+        Group::Records => vectors_runs::records::passes(p),
     }
 }

@@ -1,8 +1,9 @@
-// Runs the cases of the data files, which tests/vectors.py makes, through the proved crates, and writes a line for each group:
-// how many of how many passed. Of the cases of a file `wrong_..`, whose expectations are wrong, none may pass.
+// Runs the cases of the data files, which tests/vectors.py makes, through the proved crates, and writes a line for each
+// group: how many of how many passed. Of the cases of a file `wrong_..`, whose expectations are wrong, none may pass.
 //
-// A group is a module of a crate `judge_..`, whose function `passes` judges one case; its variant and its arm in groups.rt; its line of `main`; and a
-// function of tests/vectors.py, which makes the group's file. The judges stand in crates of their own, so that no check takes long.
+// A group is a module of a crate `vectors_..`, whose function `passes` judges one case; its variant and its arm in
+// groups.rt; its line of `main`; and a function of tests/vectors.py, which makes the group's file. The judges are in
+// crates of their own, so that no check takes long.
 mod groups;
 mod walk;
 
@@ -38,4 +39,8 @@ fn main() {
     run(Group::Write, b"wrong_write");
     run(Group::Check, b"check");
     run(Group::Check, b"wrong_check");
+    run(Group::Operations, b"operations");
+    run(Group::Operations, b"wrong_operations");
+    run(Group::Records, b"records");
+    run(Group::Records, b"wrong_records");
 }
