@@ -1,0 +1,4 @@
+-- A run from bytes, and what the runner's functions promise.
+pub mod Report
+pub mod Phases
+pub mod Starts
