@@ -34,6 +34,9 @@ the rules, -2^53 to 2^53, is 8 bytes: what it is above -2^53. Payloads, field by
                 and values: afterwards the record, the number of fields and the field that is got; before, FS, OFS, the
                 record that is read, twice the number of a field and what it is assigned, and the number of that got
 
+    runs        outcome 1, steps 8, records 8, budget 8, bytes of the output room 2, bytes written 2, length of the image 2, the
+                bytes that are written, the image, lines
+
 A value is its kind 1 (0 unset, 1 number, 2 text, 3 text of a field), how many bytes follow 2, and these: none, 8, or
 the text. What an operation that stops would change is as it was.
 """
@@ -46,6 +49,7 @@ import sys
 
 import image_cases
 import run_cases
+import whole_runs
 
 ROOT = os.path.dirname(os.path.dirname(os.path.abspath(__file__)))
 BIG = 2 ** 53
@@ -864,6 +868,23 @@ def records():
     return [record_case(*case) for case in unique(run_cases.records(random.Random('records')))]
 
 
+def run_case(image, lines, room, budget):
+    outcome, steps, records, out = ref.run(image, lines, room, min(budget, 10 ** 6))
+    return (bytes([outcome]) + word(steps) + word(records) + word(budget) + short(room) + short(len(out)) + short(len(image)) + out + image + lines)
+
+
+@group
+def runs():
+    """Runs of filters, and of images that no translator writes: every outcome of a run, budgets and output rooms at the edges of what it needs."""
+    r = random.Random('runs')
+    cases = []
+    while len(cases) < 3000:
+        image, lines, room, work, budget = whole_runs.draw(r, gen, ref)
+        if work >= 49152:
+            cases.append((image, lines, min(room, 4096), budget))
+    return [p for p in (run_case(*case) for case in unique(cases)) if len(p) <= 4096]
+
+
 # ---------------------------------------------------- wrong expectations
 
 # for each group, where a payload has what is expected
@@ -884,6 +905,7 @@ EXPECTED = {
     'check': lambda p: [0],
     'operations': lambda p: range(1, values_end(p, 2, 1)),
     'records': lambda p: [*range(4), *range(12, values_end(p, 12, 3))],
+    'runs': lambda p: [*range(17), 27, 28, *range(31, 31 + two(p, 27))],
 }
 
 

@@ -16,6 +16,7 @@ pub enum Group {
     Check,
     Operations,
     Records,
+    Runs,
 }
 
 // Whether the case in a frame's payload passes.
@@ -37,5 +38,6 @@ pub fn passes(group: Group, p: &[u8]) -> bool {
         Group::Check => vectors_images::checking::passes(p),
         Group::Operations => vectors_runs::operations::passes(p),
         Group::Records => vectors_runs::records::passes(p),
+        Group::Runs => vectors_runs::runs::passes(p),
     }
 }

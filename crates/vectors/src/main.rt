@@ -43,4 +43,6 @@ fn main() {
     run(Group::Operations, b"wrong_operations");
     run(Group::Records, b"records");
     run(Group::Records, b"wrong_records");
+    run(Group::Runs, b"runs");
+    run(Group::Runs, b"wrong_runs");
 }

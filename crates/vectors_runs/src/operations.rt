@@ -3,8 +3,8 @@
 // Payload: the operation by its code in document 01 (28: whether a value is true), the outcome, and four values: what
 // is in the first slot afterwards, which is what was there where the outcome is not 0, and what is in three slots
 // before, of which the operation takes the first ones.
-use crate::values;
-use crate::values::ROOM;
+use crate::slots;
+use crate::slots::ROOM;
 
 // Replaces the value of slot 0 by whether it is true.
 fn truth(work: &mut [u8; ROOM]) -> u64 {
@@ -35,23 +35,23 @@ fn perform(work: &mut [u8; ROOM], code: u8) -> u64 {
 
 // Sets three slots.
 fn loads(work: &mut [u8; ROOM], p: &[u8]) -> bool {
-    values::set(work, 0, values::value(p, 1))
-        && values::set(work, 1, values::value(p, 2))
-        && values::set(work, 2, values::value(p, 3))
+    slots::set(work, 0, slots::value(p, 1))
+        && slots::set(work, 1, slots::value(p, 2))
+        && slots::set(work, 2, slots::value(p, 3))
 }
 
 // Returns whether the first of them has what is expected, and the others what they had.
 fn leaves(work: &[u8; ROOM], p: &[u8]) -> bool {
-    values::has(work, 0, values::value(p, 0))
-        && values::has(work, 1, values::value(p, 2))
-        && values::has(work, 2, values::value(p, 3))
+    slots::has(work, 0, slots::value(p, 0))
+        && slots::has(work, 1, slots::value(p, 2))
+        && slots::has(work, 2, slots::value(p, 3))
 }
 
 pub fn passes(p: &[u8]) -> bool {
     if p.len() < 2 {
         return false;
     }
-    let mut work = [values::BEFORE; ROOM];
+    let mut work = [slots::BEFORE; ROOM];
     if !loads(&mut work, &p[2..]) {
         return false;
     }

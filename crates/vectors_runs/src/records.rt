@@ -10,8 +10,8 @@ ghost use Prim.Native.Nat.{_+_, _<_};
 ghost use Rattle.edition.specs.Limits.{operandDepth};
 ghost use Rattle.separators.specs.Kinds.{Sized};
 ghost use Rattle.run_room.specs.Room.{Lined};
-use crate::values;
-use crate::values::ROOM;
+use crate::slots;
+use crate::slots::ROOM;
 use edition::Edition;
 use ere_table::TABLE_WORDS;
 use run_records::Begun;
@@ -27,13 +27,13 @@ const RECORD: usize = 6;
 
 // Sets the slots before.
 fn loads(work: &mut [u8; ROOM], rest: &[u8]) -> bool {
-    values::set(work, run_records::FS, values::value(rest, 3))
-        && values::set(work, run_records::OFS, values::value(rest, 4))
-        && values::set(work, 0, values::value(rest, 6))
-        && values::set(work, 1, values::value(rest, 7))
-        && values::set(work, 2, values::value(rest, 8))
-        && values::set(work, 3, values::value(rest, 9))
-        && values::set(work, FIELD, values::value(rest, 10))
+    slots::set(work, run_records::FS, slots::value(rest, 3))
+        && slots::set(work, run_records::OFS, slots::value(rest, 4))
+        && slots::set(work, 0, slots::value(rest, 6))
+        && slots::set(work, 1, slots::value(rest, 7))
+        && slots::set(work, 2, slots::value(rest, 8))
+        && slots::set(work, 3, slots::value(rest, 9))
+        && slots::set(work, FIELD, slots::value(rest, 10))
 }
 
 // Returns whether an assignment has left its value, or its operands where it stops.
@@ -41,36 +41,30 @@ fn leaves(work: &[u8; ROOM], a: usize, outcome: u8, number: &[u8], assigned: &[u
     requires { ⌜ a + 1 < operandDepth ⌝ }
 {
     if outcome != 0 {
-        return values::has(work, a, number) && values::has(work, a + 1, assigned);
+        return slots::has(work, a, number) && slots::has(work, a + 1, assigned);
     }
-    values::has(work, a, assigned) && values::has(work, a + 1, assigned)
+    slots::has(work, a, assigned) && slots::has(work, a + 1, assigned)
 }
 
 // Returns whether the assignments have left what they should.
 fn both_leave(work: &[u8; ROOM], p: &[u8], rest: &[u8]) -> bool {
     let first = vectors_frames::byte(p, 1);
     let second = vectors_frames::byte(p, 2);
-    leaves(
-        work,
-        0,
-        first,
-        values::value(rest, 6),
-        values::value(rest, 7),
-    )
+    leaves(work, 0, first, slots::value(rest, 6), slots::value(rest, 7))
         && leaves(
             work,
             2,
             second,
-            values::value(rest, 8),
-            values::value(rest, 9),
+            slots::value(rest, 8),
+            slots::value(rest, 9),
         )
 }
 
 // Returns whether the record, the number of fields and the field are as expected.
 fn shows(work: &[u8; ROOM], rest: &[u8]) -> bool {
-    values::has(work, RECORD, values::value(rest, 0))
-        && values::has(work, COUNT, values::value(rest, 1))
-        && values::has(work, FIELD, values::value(rest, 2))
+    slots::has(work, RECORD, slots::value(rest, 0))
+        && slots::has(work, COUNT, slots::value(rest, 1))
+        && slots::has(work, FIELD, slots::value(rest, 2))
 }
 
 // Returns whether one of the payload's outcomes is this one.
@@ -144,7 +138,7 @@ fn runs(work: &mut [u8; ROOM], p: &[u8], rest: &[u8]) -> bool {
     };
     let mut t = [0u64; TABLE_WORDS];
     let kind = run_records::separator_of(work, edition, &mut t);
-    let record = values::bytes_of(values::value(rest, 5));
+    let record = slots::bytes_of(slots::value(rest, 5));
     answers(work, &t, kind, edition, p, record)
 }
 
@@ -153,7 +147,7 @@ pub fn passes(p: &[u8]) -> bool {
         return false;
     }
     let rest = &p[12..];
-    let mut work = [values::BEFORE; ROOM];
+    let mut work = [slots::BEFORE; ROOM];
     loads(&mut work, rest)
         && runs(&mut work, p, rest)
         && both_leave(&work, p, rest)

@@ -2,8 +2,8 @@
 use Prim.Native.Nat.{_-_, _≤_}
 use lib.ListN.{length}
 use borrow.Author.Needs.{needs}
-use Rattle.vectors_runs.proofs.values.value.Statement.{statement}
-use Rattle.vectors_runs.proofs.values.value.Tie as tie
+use Rattle.vectors_runs.proofs.slots.value.Statement.{statement}
+use Rattle.vectors_runs.proofs.slots.value.Tie as tie
 
 abbrev Inv-loop : tie.InvT-loop
 Inv-loop p k at₀ i₀ at i = (at ≤ length p) × (i ≤ k)
