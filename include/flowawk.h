@@ -74,6 +74,22 @@ uint64_t flowawk_write(const uint64_t *content, size_t content_words, uint8_t *i
  */
 uint64_t flowawk_check(const uint8_t *image, size_t image_length);
 
+/*
+ * A run of an image over lines.
+ *
+ * Outcome 19 if the working room has under 49,152 bytes; else 8 if the bytes are no image's, as for `flowawk_read`; else 9 if it fails the check: then nothing is
+ * written to the output and the working room, and all counts are 0. Else the run of the definition with this budget: 0 if it finishes; 10 if the budget is used up
+ * before an instruction or a record read; 11 to 18 if it stops.
+ *
+ * *steps, *records and *bytes are stored on every call: the instructions executed, the records begun, and the bytes written to the front of the output. The output's
+ * bytes beyond them are as they were. The working room may hold anything before the call; what it holds after a run that began is left open.
+ *
+ * The lines are all there are: a last one counts without a newline too. Of the image's EREs three have a table each, compiled once a run; the others share one,
+ * which is compiled where another of them is asked for, so a filter with more than three EREs is slower.
+ */
+uint64_t flowawk_run(const uint8_t *image, size_t image_length, const uint8_t *lines, size_t lines_length, uint8_t *output, size_t output_length,
+                     uint8_t *work, size_t work_length, uint64_t budget, uint64_t *steps, uint64_t *records, uint64_t *bytes);
+
 #ifdef __cplusplus
 }
 #endif

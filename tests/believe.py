@@ -27,9 +27,11 @@ ENTRIES = [
     ('image', 'reading', ['read']),
     ('image', 'writing', ['write']),
     ('image_check', 'checking', ['check']),
+    ('runner', 'running', ['run']),
     ('capi', 'matching', ['flowawk_match']),
     ('capi', 'records', ['flowawk_split', 'flowawk_field']),
     ('capi', 'images', ['flowawk_read', 'flowawk_write', 'flowawk_check']),
+    ('capi', 'runs', ['flowawk_run']),
 ]
 
 # computed definition (crate, file, name): what explains it (crate, file, names), and the theorems that say so

@@ -2,6 +2,7 @@
 mod images;
 mod matching;
 mod records;
+mod runs;
 
 pub use images::flowawk_check;
 pub use images::flowawk_read;
@@ -9,3 +10,4 @@ pub use images::flowawk_write;
 pub use matching::flowawk_match;
 pub use records::flowawk_field;
 pub use records::flowawk_split;
+pub use runs::flowawk_run;
