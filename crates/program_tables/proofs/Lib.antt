@@ -1,0 +1,3 @@
+-- Laws on tables.
+pub mod Values
+pub mod Entries
