@@ -85,7 +85,7 @@ uint64_t flowawk_check(const uint8_t *image, size_t image_length);
  * bytes beyond them are as they were. The working room may hold anything before the call; what it holds after a run that began is left open.
  *
  * The lines are all there are: a last one counts without a newline too. Of the image's EREs three have a table each, compiled once a run; the others share one,
- * which is compiled where another of them is asked for, so a filter with more than three EREs is slower.
+ * which is compiled where another of them is asked for, so a filter with more than three EREs is slower. A call uses under 64 KiB of stack.
  */
 uint64_t flowawk_run(const uint8_t *image, size_t image_length, const uint8_t *lines, size_t lines_length, uint8_t *output, size_t output_length,
                      uint8_t *work, size_t work_length, uint64_t budget, uint64_t *steps, uint64_t *records, uint64_t *bytes);

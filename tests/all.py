@@ -15,7 +15,7 @@ import time
 
 import building
 
-RANDOM = ['match', 'split', 'images']
+RANDOM = ['match', 'split', 'images', 'run']
 # over other archives than capi's
 OTHER_ARCHIVES = ['exists', 'tokens']
 OTHERS = ['frames', 'believe']

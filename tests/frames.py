@@ -7,7 +7,7 @@ Reads `objdump -dr` of FILE (default: what `rt staticlib capi` writes). A functi
 the stack pointer. The 128 bytes below the stack pointer, which a function may use unasked while it calls nothing, are added once, at the end.
 Calls are followed from NAME (default: each function of include/flowawk.h); functions that call each other in a circle count for each level, one level more than the edition
 allows. The circles that may be there are in the table CIRCLES: how often a function can be on the stack in one level is said there. Functions outside the archive (memset and its like) are named, and not
-counted. BYTES is 16,384 unless given, and for `flowawk_check`, which has a section's index of 4 KiB beside the ERE reader's table, 20,992. Calls through a pointer, and other changes of the stack pointer than those known here, are errors.
+counted. BYTES is 16,384 unless given, and for `flowawk_check`, which has a section's index of 4 KiB beside the ERE reader's table, 20,992, and for `flowawk_run`, which has tables of EREs, 65,536. Calls through a pointer, and other changes of the stack pointer than those known here, are errors.
 """
 import argparse
 import os
@@ -22,7 +22,7 @@ RELOCATION = re.compile(r'^\s+[0-9a-f]+: R_X86_64_(?:PLT32|PC32)\s+(?:\.text\.)?
 PLACE = re.compile(r'^[0-9a-f]+ <([^+>]*)>$')
 RED_ZONE = 128
 MOST = 16384
-MOST_OF = {'flowawk_check': MOST + 4096 + 512}
+MOST_OF = {'flowawk_check': MOST + 4096 + 512, 'flowawk_run': 65536}
 
 
 # The circles of calls: how the names of their functions begin, the edition's constant that bounds their levels, and how often a function can be on the stack
@@ -59,7 +59,7 @@ def taken(op, words):
 def functions(archive):
     """For each function its frame and the functions that it calls."""
     text = subprocess.run(['objdump', '-dr', '--no-show-raw-insn', archive], check=True, capture_output=True, text=True).stdout
-    frames, calls, name, jump = {}, {}, None, False
+    frames, calls, name, jump, probed, before = {}, {}, None, False, 0, None
     for line in text.splitlines():
         head, code, relocation = HEAD.match(line), LINE.match(line), RELOCATION.match(line)
         if head:
@@ -69,7 +69,11 @@ def functions(archive):
             op, words = code.groups()
             if op == 'call' and words.startswith('*'):
                 sys.exit('frames.py: %s calls through a pointer' % name)
-            frames[name] += taken(op, words)
+            frames[name] += probed or taken(op, words)
+            # a frame of many pages is taken page by page, down to %r11: `mov %rsp,%r11`, `sub $BYTES,%r11`, and a loop over one `sub`
+            pages = re.match(r'^\$(0x[0-9a-f]+),%r11$', words) if op == 'sub' and before == ('mov', '%rsp,%r11') else None
+            probed = int(pages.group(1), 16) if pages else 0
+            before = (op, words)
             jump = op == 'call' or op.startswith('j')
             place = PLACE.match(words)
             if op == 'call' and place:
