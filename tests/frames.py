@@ -30,6 +30,7 @@ MOST_OF = {'flowawk_check': MOST + 4096 + 512, 'flowawk_run': 65536}
 CIRCLES = [
     ('ere_parser::reader::', 'ERE_GROUPS', {}),
     ('program_expressions::expressions::', 'NESTING', {'tier': 11, 'more': 7, 'arguments': 4}),
+    ('program_statements::statements::', 'NESTING', {}),
 ]
 
 
