@@ -5,7 +5,11 @@ mod kinds;
 mod spellings;
 mod tokens;
 
+pub use closings::Close;
+pub use closings::ere_close;
+pub use closings::string_close;
 pub use tokens::Token;
 pub use tokens::as_operand;
 pub use tokens::token_after;
 pub use tokens::token_at;
+pub use tokens::token_of;

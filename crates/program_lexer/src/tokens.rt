@@ -108,7 +108,7 @@ fn operator(s: &[u8], a: usize, edition: Edition) -> Token
 }
 
 // The token that starts at a place.
-fn token_of(s: &[u8], a: usize, edition: Edition) -> Token
+pub fn token_of(s: &[u8], a: usize, edition: Edition) -> Token
     ensures { λ r. ⌜ r ≡ coded (tokenOf (edition .number) a (drop a (now (s .entry)))) ⌝ }
 {
     if s.len() <= a {

@@ -1,0 +1,1 @@
+// The users' names of a filter text, by a walk over its tokens. Definitions, no code.
