@@ -1,0 +1,5 @@
+-- A finite automaton for the existence of a match: its words, the sets of places that its states stand for, and what
+-- ties them to the table of an ERE.
+pub mod Sets
+pub mod Layout
+pub mod Automaton

@@ -1,0 +1,1 @@
+// Whether an ERE has a match in a text, by a finite automaton that is made once from the ERE's table.
