@@ -14,12 +14,13 @@ use Rattle.varint.proofs.Puts.{coded-short}
 use Rattle.program_tables.specs.Tables.{entriesFrom}
 use Rattle.program_image.specs.Written.{Writes, textOf, entryBytes, entriesBytes, instructionsOf, sectionBytes}
 use Rattle.program_image.specs.Pictured.{imageIn, WritesImage}
-use Rattle.program_image.proofs.Parts.{entries-short, entries-count, instructions-short, instructions-count}
+use Rattle.program_image.proofs.Parts.{entryMost, entries-short, entries-count}
+use Rattle.program_image.proofs.Parts.{instructionMost, instructions-short, instructions-count}
 
 -- ---- where the parts end
 
 pub entries-after : (s : List ℕ) (constants : Bool) (table : List ℕ) (n : ℕ) {room room' : List ℕ} {k r : ℕ}
-    → length s ≤ filterText → Writes room k (entriesBytes s constants table n) r room' → r ≤ k + 8 + 8208 * n
+    → length s ≤ filterText → Writes room k (entriesBytes s constants table n) r room' → r ≤ k + 8 + entryMost * n
 entries-after s constants table n h w =
     omega (
       arith,
@@ -30,7 +31,7 @@ entries-after s constants table n h w =
     )
 
 pub section-after : (section : List ℕ) (n : ℕ) {room room' : List ℕ} {k r : ℕ}
-    → Writes room k (sectionBytes section n) r room' → r ≤ k + 8 + 24 * n
+    → Writes room k (sectionBytes section n) r room' → r ≤ k + 8 + instructionMost * n
 section-after section n w =
     omega (
       arith,

@@ -22,7 +22,8 @@ use Rattle.program_tables.specs.Tables.{entryIn, meant, entriesFrom}
 use Rattle.program_image.specs.Written.{textOf, instructionOf, instructionsOf}
 use Rattle.program_image.specs.Pictured.{imageIn}
 use Rattle.program_image.specs.Fitting.{depthsFit, countsFit, lengthsFit, sectionsFit}
-use Rattle.program_image.proofs.Parts.{instructionsFrom, instructions-more, instructions-end, entries-start, entries-more, entries-end, entries-count, instructions-count}
+use Rattle.program_image.proofs.Parts.{entries-count, entries-start, entries-more, entries-end}
+use Rattle.program_image.proofs.Parts.{instructionsFrom, instructions-count, instructions-more, instructions-end}
 
 -- ---- depths, from instruction i on
 

@@ -1,18 +1,23 @@
 -- Laws on the bytes of entries and instructions.
 use mathlib.Core.Path.{_≡_, refl, sym, ap, _∙_}
-use mathlib.Core.Bool.{Bool, true, false, cond}
+use mathlib.Core.Bool.{Bool, true, false, cond, Bool·beq}
 use mathlib.Core.List.{List, [], _∷_, _++_, map, append-nil}
 use Prim.Native.Nat.{ℕ, zero, suc, _+_, _-_, _*_, _≤_, _<_}
 use native.Mathlib.Numerals.{add-one}
 use native.Mathlib.Omega.{arith}
-use lib.ListN.{length, getD, take, drop, length-append, length-drop, length-map}
+use lib.ListN.{length, getD, take, length-append, length-drop, length-map}
 use lib.Seq.{length-take-le}
-use lib.Dec.{eqb, ltb}
+use lib.Dec.{eqb, ltb, leb}
 use borrow.Author.Tests.{eq-eqb, ne-eqb, eqb-true, ltb-true, ltb-false}
+use Rattle.lists.specs.Elements.{nth, allBelow}
+use Rattle.lists.proofs.Tests.{beq-same}
+use Rattle.lists.proofs.Elements.{below-at}
 use Rattle.edition.specs.Limits.{filterText}
+use Rattle.image_format.specs.Codes.{codes, codeCount, codeOf}
 use Rattle.image_format.specs.Image.{Constant, number, text, Instruction}
 use Rattle.image_format.specs.Numbers.{coded}
 use Rattle.image_format.specs.Writing.{all, bytes, instructionIn}
+use Rattle.opcodes.specs.Rows.{operandsIn}
 use Rattle.varint.proofs.Puts.{coded-short}
 use Rattle.program_emitter.specs.Words.{opIn, depthIn, firstIn}
 use Rattle.program_tables.specs.declared.tables.Entry.{Entry}
@@ -20,6 +25,13 @@ use Rattle.program_tables.specs.Texts.{unescape, valueOf, between, valueIn}
 use Rattle.program_tables.specs.Tables.{entryIn, meant, InsideText, entriesFrom}
 use Rattle.program_tables.proofs.Values.{between-more, between-end}
 use Rattle.program_image.specs.Written.{textOf, entryBytes, hasOperand, instructionOf, instructionsOf}
+
+-- the most bytes of an entry, two numbers and a text, and of an instruction, three numbers
+abbrev pub entryMost : ℕ
+entryMost = 8208
+
+abbrev pub instructionMost : ℕ
+instructionMost = 24
 
 -- ---- values
 
@@ -111,7 +123,7 @@ module _ (s : List ℕ) (e : Entry) where
       go false = value-short s escapes (e .value) (e .stop)
 
 constant-short : (constants : Bool) (c : Constant) → length (textOf c) ≤ filterText
-    → length (entryBytes constants c) ≤ 8208
+    → length (entryBytes constants c) ≤ entryMost
 unfolding entryBytes textOf
 constant-short true (number n) h =
     omega (arith, coded-short 0, coded-short n, length-append (coded 0) (coded n))
@@ -127,22 +139,22 @@ constant-short true (text l) h =
 constant-short false (number n) h = omega (arith, coded-short 0, length-append (coded 0) [])
 constant-short false (text l) h = omega (arith, h, coded-short (length l), length-append (coded (length l)) l)
 
-module _ (s : List ℕ) (constants : Bool) (table : List ℕ) where
-  -- an entry has two numbers at most, and a text
-  pub entry-short : (e : Entry) → length s ≤ filterText → length (entryBytes constants (meant s constants e)) ≤ 8208
-  entry-short e h =
-      let t = text-short s e constants in
-      constant-short constants (meant s constants e) (omega (arith, t, h))
+pub entry-short : (s : List ℕ) (constants : Bool) (e : Entry) → length s ≤ filterText
+    → length (entryBytes constants (meant s constants e)) ≤ entryMost
+entry-short s constants e h =
+    let t = text-short s e constants in
+    constant-short constants (meant s constants e) (omega (arith, t, h))
 
+module _ (s : List ℕ) (constants : Bool) (table : List ℕ) where
   pub entries-short : (k n : ℕ) → length s ≤ filterText
-      → length (all (entryBytes constants) (entriesFrom s constants table k n)) ≤ 8208 * n
+      → length (all (entryBytes constants) (entriesFrom s constants table k n)) ≤ entryMost * n
   unfolding all entriesFrom
   entries-short k zero h = omega arith
   entries-short k (suc n) h =
       let e = meant s constants (entryIn table k) in
       omega (
         arith,
-        entry-short (entryIn table k) h,
+        entry-short s constants (entryIn table k) h,
         entries-short (suc k) n h,
         length-append (entryBytes constants e) (all (entryBytes constants) (entriesFrom s constants table (suc k) n)),
       )
@@ -209,6 +221,19 @@ operand-none op a b c d e f g h =
       ne-eqb op 29 h,
     )
 
+-- the codes that name a number are those of the table that do
+operand-rows : (edition : ℕ)
+    → allBelow (λ n. Bool·beq (hasOperand n) (leb 1 (operandsIn (codeOf edition n)))) 32 ≡ true
+unfolding allBelow hasOperand codeOf codeCount codes nth
+operand-rows edition = refl
+
+pub operand-table : (edition op : ℕ) → op < codeCount edition
+    → hasOperand op ≡ leb 1 (operandsIn (codeOf edition op))
+unfolding codeCount
+operand-table edition op h =
+    beq-same (hasOperand op) (leb 1 (operandsIn (codeOf edition op)))
+    (below-at (λ n. Bool·beq (hasOperand n) (leb 1 (operandsIn (codeOf edition n)))) 32 (operand-rows edition) op h)
+
 module _ (w : ℕ) where
   pub operand-bytes : hasOperand (opIn w) ≡ true
       → instructionIn coded (instructionOf w) ≡ coded (opIn w) ++ (coded (depthIn w) ++ coded (firstIn w))
@@ -220,8 +245,7 @@ module _ (w : ℕ) where
   unfolding instructionOf all
   plain-bytes h = rw (h, append-nil (coded (depthIn w)))
 
-  -- an instruction has three numbers at most
-  pub instruction-short : length (instructionIn coded (instructionOf w)) ≤ 24
+  pub instruction-short : length (instructionIn coded (instructionOf w)) ≤ instructionMost
   instruction-short = go (hasOperand (opIn w)) refl
     where
       a : List ℕ
@@ -233,7 +257,7 @@ module _ (w : ℕ) where
       x : List ℕ
       x = coded (firstIn w)
 
-      go : (t : Bool) → hasOperand (opIn w) ≡ t → length (instructionIn coded (instructionOf w)) ≤ 24
+      go : (t : Bool) → hasOperand (opIn w) ≡ t → length (instructionIn coded (instructionOf w)) ≤ instructionMost
       go true h =
           omega (
             arith,
@@ -254,7 +278,7 @@ module _ (w : ℕ) where
           )
 
 pub instructions-short : (section : List ℕ) (n : ℕ)
-    → length (all (instructionIn coded) (instructionsOf section n)) ≤ 24 * n
+    → length (all (instructionIn coded) (instructionsOf section n)) ≤ instructionMost * n
 unfolding all
 instructions-short section zero = omega arith
 instructions-short [] (suc n) = omega arith

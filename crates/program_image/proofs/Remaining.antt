@@ -1,11 +1,11 @@
 -- Bytes written to a room one part after the other.
 use mathlib.Core.Path.{_≡_, refl, sym, ap, _∙_}
 use mathlib.Core.List.{List, [], _∷_, _++_}
-use Prim.Native.Nat.{ℕ, _+_, _≤_}
+use Prim.Native.Nat.{ℕ, suc, _+_, _≤_}
 use native.Mathlib.Omega.{arith}
 use lib.ListN.{length, drop, length-append}
 use Rattle.varint.specs.Room.{withAll}
-use Rattle.varint.proofs.Words.{all-append, all-fits}
+use Rattle.varint.proofs.Words.{one-set, all-append, all-fits}
 use Rattle.program_image.specs.Written.{Writes}
 
 pub writes-by : {room room' l : List ℕ} {k r : ℕ} → (r ≡ k + length l) × (room' ≡ withAll room k l)
@@ -59,3 +59,10 @@ pub all-there : (room l : List ℕ) → length l ≤ length room → withAll roo
 all-there room l h =
     let none : 0 + length l ≡ length l = omega arith in
     all-fits room 0 l (omega (arith, h)) ∙ rw none
+
+-- and an empty room stays so: writing to it only measures
+pub none-there : (k : ℕ) (l : List ℕ) → withAll [] k l ≡ []
+unfolding withAll
+none-there k [] = refl
+none-there k (x ∷ l) =
+    ap (λ (room : List ℕ). withAll room (suc k) l) (one-set [] k x) ∙ none-there (suc k) l

@@ -7,7 +7,6 @@ use Rattle.lists.specs.Elements.{all}
 use Rattle.edition.specs.Limits.{userNames, constantCount, ereCount, instructionCount, operandDepth}
 use Rattle.image_format.specs.Image.{Instruction}
 use Rattle.semantics.specs.Variables.{specialCount}
-use Rattle.program_image.specs.Written.{instructionsOf}
 
 -- "operand depth 32"
 abbrev pub depthsFit : List Instruction → Bool

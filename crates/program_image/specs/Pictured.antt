@@ -1,6 +1,6 @@
 -- The image that tables of entries and sections of words stand for.
 use mathlib.Core.Path.{_≡_}
-use mathlib.Core.Bool.{Bool, true, false}
+use mathlib.Core.Bool.{true, false}
 use mathlib.Core.List.{List, map}
 use Prim.Native.Nat.{ℕ, _*_, _≤_}
 use lib.ListN.{length}
@@ -9,7 +9,7 @@ use Rattle.image_format.specs.Image.{Image}
 use Rattle.image_format.specs.Writing.{bytesOf}
 use Rattle.varint.specs.Room.{withAll}
 use Rattle.program_tables.specs.Tables.{AllInside, entriesFrom}
-use Rattle.program_image.specs.Written.{AllSmall, textOf, instructionsOf}
+use Rattle.program_image.specs.Written.{textOf, instructionsOf}
 
 -- the first entries of two tables, over a filter's text, and the first words of three sections
 unfoldable pub imageIn : ℕ → ℕ → List ℕ → List ℕ → ℕ → List ℕ → ℕ → List ℕ → ℕ → List ℕ → ℕ → List ℕ → ℕ → Image

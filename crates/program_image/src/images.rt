@@ -1,7 +1,7 @@
 // The whole image: whether its sizes fit, and its bytes.
 ghost use mathlib.Core.Path.{_≡_};
 ghost use mathlib.Core.Bool.{true};
-ghost use Prim.Native.Nat.{_+_, _-_, _≤_, _<_, _^_};
+ghost use Prim.Native.Nat.{_+_, _-_, _≤_, _<_};
 ghost use lib.ListN.{length};
 ghost use Rattle.edition.specs.Limits.{filterText, numberBound};
 ghost use Rattle.semantics.specs.Variables.{specialCount};

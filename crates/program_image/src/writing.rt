@@ -9,7 +9,8 @@ ghost use Rattle.image_format.specs.Numbers.{coded};
 ghost use Rattle.image_format.specs.Writing.{bytes, instructionIn};
 ghost use Rattle.program_tables.specs.Texts.{valueIn};
 ghost use Rattle.program_tables.specs.Tables.{meant, InsideText, AllInside};
-ghost use Rattle.program_image.specs.Written.{Writes, SmallNumber, AllSmall, entryBytes, entriesBytes, hasOperand, instructionOf, sectionBytes};
+ghost use Rattle.program_image.specs.Written.{Writes, SmallNumber, AllSmall, entryBytes, entriesBytes};
+ghost use Rattle.program_image.specs.Written.{hasOperand, instructionOf, sectionBytes};
 use program_tables::Entry;
 
 // The code of `match`.

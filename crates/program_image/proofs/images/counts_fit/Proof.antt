@@ -1,5 +1,5 @@
 -- `counts_fit`: the tests, by the number of special variables.
-use mathlib.Core.Path.{_≡_, refl}
+use mathlib.Core.Path.{refl}
 use native.Mathlib.Omega.{arith}
 use borrow.Author.Needs.{needs}
 use Rattle.semantics.specs.Variables.{specialCount}

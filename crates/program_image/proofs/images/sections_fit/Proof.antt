@@ -1,5 +1,5 @@
 -- `sections_fit`: the answers for the three.
-use mathlib.Core.Path.{_≡_, refl}
+use mathlib.Core.Path.{refl}
 use borrow.Author.Needs.{needs}
 use Rattle.program_image.proofs.images.sections_fit.Statement.{statement}
 use Rattle.program_image.proofs.images.sections_fit.Tie as tie

@@ -1,5 +1,5 @@
 -- `constant_fits`: a number, or a text by its length.
-use mathlib.Core.Path.{_≡_, sym, ap, subst, _∙_}
+use mathlib.Core.Path.{sym, ap, subst, _∙_}
 use mathlib.Core.Bool.{true}
 use Prim.Native.Nat.{ℕ}
 use lib.Dec.{leb}
@@ -19,17 +19,22 @@ returns : tie.Need-returns
 returns c =
     let s = c .before .before .before .before .before .args .s .now in
     let e = c .before .before .entry-in in
-    sym (ap (λ (x : Entry). smallConstant (meant s true x)) (sym (e .ensures)) ∙ number-small s (e .result) (c .if1 .taken))
+    let same = ap (λ (x : Entry). smallConstant (meant s true x)) (sym (e .ensures)) in
+    sym (same ∙ number-small s (e .result) (c .if1 .taken))
 
 value-length-requires : tie.Need-value-length-requires
-value-length-requires c κs = subst (InsideText (c .before .before .before .before .before .args .s .now)) (sym (c .before .before .entry-in .ensures)) (c .before .before .before .before .before .pre .1)
+value-length-requires c κs =
+    let p = c .before .before .before .before .before .pre in
+    let a = c .before .before .before .before .before .args in
+    subst (InsideText (a .s .now)) (sym (c .before .before .entry-in .ensures)) (p .1)
 
 returns-2 : tie.Need-returns-2
 returns-2 c =
     let s = c .before .before .before .before .before .before .args .s .now in
     let e = c .before .before .before .entry-in in
+    let same = ap (λ (x : Entry). smallConstant (meant s true x)) (sym (e .ensures)) in
     ap (λ (n : ℕ). leb n textBytes) (c .value-length .ensures)
-    ∙ sym (ap (λ (x : Entry). smallConstant (meant s true x)) (sym (e .ensures)) ∙ text-small s (e .result) (c .before .if1 .left))
+    ∙ sym (same ∙ text-small s (e .result) (c .before .if1 .left))
 
 pub constant-fits-spec : {M : Type 1} → statement M
 constant-fits-spec = tie.close (tie.spec entry-in-requires returns value-length-requires returns-2)

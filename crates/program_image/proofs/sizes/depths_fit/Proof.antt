@@ -1,6 +1,6 @@
 -- `depths_fit`: the instructions that are left say what all do.
 use mathlib.Core.Path.{_≡_, refl, sym, _∙_}
-use Prim.Native.Nat.{_+_, _-_, _≤_}
+use Prim.Native.Nat.{_-_, _≤_}
 use native.Mathlib.Omega.{arith}
 use borrow.Author.Needs.{needs}
 use Rattle.program_image.specs.Fitting.{depthsFit}
@@ -11,8 +11,7 @@ use Rattle.program_image.proofs.sizes.depths_fit.Tie as tie
 
 abbrev Inv-loop : tie.InvT-loop
 Inv-loop section count i₀ i =
-    (i ≤ count)
-    × (depthsFit (instructionsFrom section 0 count) ≡ depthsFit (instructionsFrom section i count))
+    (i ≤ count) × (depthsFit (instructionsFrom section 0 count) ≡ depthsFit (instructionsFrom section i count))
 
 abbrev μ-loop : tie.MeasureT-loop
 μ-loop section count i₀ i = count - i
@@ -32,10 +31,11 @@ depth-in-requires c κs = search needs
 returns : tie.Need-returns Inv-loop μ-loop
 returns c =
     let a = c .before .before .before .before .before .before .args in
+    let p = c .before .before .before .before .before .before .pre in
     let l = c .before .before .before .before .loop in
-    let over = depth-over (a .section .now) (l .i) (a .count) (c .before .before .before .loop-test .taken) (c .before .before .before .before .before .before .pre)
-    (omega (arith, c .if1 .taken, c .before .depth-in .ensures)) in
-    sym (l .inv .1 ∙ over)
+    let below = c .before .before .before .loop-test .taken in
+    let over = depth-over (a .section .now) (l .i) (a .count) below p in
+    sym (l .inv .1 ∙ over (omega (arith, c .if1 .taken, c .before .depth-in .ensures)))
 
 add-i : tie.Need-add-i Inv-loop μ-loop
 add-i c = search needs
@@ -46,11 +46,11 @@ loop-less c = omega (arith, c .before .before .before .loop-test .taken)
 loop-again : tie.Need-loop-again Inv-loop μ-loop
 loop-again c =
     let a = c .before .before .before .before .before .before .args in
+    let p = c .before .before .before .before .before .before .pre in
     let l = c .before .before .before .before .loop in
     let below = c .before .before .before .loop-test .taken in
-    let within = depth-within (a .section .now) (l .i) (a .count) below (c .before .before .before .before .before .before .pre)
-    (omega (arith, c .if1 .left, c .before .depth-in .ensures)) in
-    (omega (arith, below), l .inv .1 ∙ within)
+    let within = depth-within (a .section .now) (l .i) (a .count) below p in
+    (omega (arith, below), l .inv .1 ∙ within (omega (arith, c .if1 .left, c .before .depth-in .ensures)))
 
 returns-2 : tie.Need-returns-2 Inv-loop μ-loop
 returns-2 c =

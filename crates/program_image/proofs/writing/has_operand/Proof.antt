@@ -1,5 +1,5 @@
 -- `has_operand`: the eight codes, one by one.
-use mathlib.Core.Path.{_≡_, refl}
+use mathlib.Core.Path.{refl}
 use Rattle.program_image.specs.Written.{hasOperand}
 use Rattle.program_image.proofs.Parts.{operand-none}
 use Rattle.program_image.proofs.writing.has_operand.Statement.{statement}
@@ -40,8 +40,9 @@ returns-8 c = rw (c .match .keys8) refl
 returns-9 : tie.Need-returns-9
 returns-9 c =
     let r = c .match .rest in
-    operand-none (c .before .args .op) (r .0 .0 .0 .0 .0 .0 .0 .1) (r .0 .0 .0 .0 .0 .0 .1) (r .0 .0 .0 .0 .0 .1) (r .0 .0 .0 .0 .1) (r .0 .0 .0 .1)
-    (r .0 .0 .1) (r .0 .1) (r .1)
+    let s = r .0 .0 .0 .0 in
+    let op = c .before .args .op in
+    operand-none op (s .0 .0 .0 .1) (s .0 .0 .1) (s .0 .1) (s .1) (r .0 .0 .0 .1) (r .0 .0 .1) (r .0 .1) (r .1)
 
 pub has-operand-spec : {M : Type 1} → statement M
 has-operand-spec =
