@@ -1,0 +1,3 @@
+-- Laws on the users' names of a filter text.
+pub mod Walks
+pub mod Expressions
