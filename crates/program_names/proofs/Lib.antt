@@ -1,3 +1,4 @@
 -- Laws on the users' names of a filter text.
 pub mod Walks
 pub mod Expressions
+pub mod Statements
