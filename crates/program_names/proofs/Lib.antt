@@ -2,3 +2,4 @@
 pub mod Walks
 pub mod Expressions
 pub mod Statements
+pub mod Programs
