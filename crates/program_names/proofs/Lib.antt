@@ -3,3 +3,4 @@ pub mod Walks
 pub mod Expressions
 pub mod Statements
 pub mod Programs
+pub mod Order
