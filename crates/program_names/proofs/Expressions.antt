@@ -1,11 +1,10 @@
 -- An expression that is read: the walk passes its names, in its order.
-use mathlib.Core.Path.{_≡_, refl, sym, ap, subst, _∙_}
+use mathlib.Core.Path.{_≡_, refl, sym, subst, _∙_}
 use mathlib.Core.Bool.{Bool, true, false, cond, _&&_}
-use mathlib.Core.List.{List, [], _∷_, _++_, append-assoc, append-nil}
+use mathlib.Core.List.{List, [], _∷_, _++_, append-assoc}
 use mathlib.Core.Option.{Option, some, none}
 use Prim.Native.Nat.{ℕ, zero, suc}
 use native.Mathlib.Omega.{arith}
-use lib.ListN.{length}
 use lib.Dec.{eqb, leb}
 use borrow.Author.Tests.{eqb-true, eq-eqb}
 use Rattle.lists.specs.Elements.{all}
@@ -13,22 +12,19 @@ use Rattle.lists.proofs.Tests.{clash, and-true}
 use Rattle.program_tokens.specs.Kinds.{Kind, newline, NUMBER, STRING, ERE, fixed-variable, open-paren, close-paren, comma, tilde, greater, dollar, assign as assign-sign, no-match as no-match-sign, same, among, rank}
 use Rattle.program_tokens.proofs.Ranks.{same-is}
 use Rattle.program_tokens.specs.Words.{wordKind}
-use Rattle.program_tokens.specs.Tokens.{Token, is, isOneOf, tokenAfter, asOperand, spelling, ereIn}
+use Rattle.program_tokens.specs.Tokens.{Token, is, isOneOf, tokenAfter, spelling, ereIn}
 use Rattle.program_tree.specs.Tree.{Expression, constant, ere, variable, parentheses, length-of, index, substr, match, field, prefix, arithmetic, join, compare, matches, no-match, both, either, assign, assign-field}
 use Rattle.program_tree.specs.Functions.{Shape, an-expression, an-ere, Call, Function, functions, functionIn, functionOf}
 use Rattle.program_grammar.specs.Sets.{names, prefixes, startsJoined}
 use Rattle.program_reader.specs.Read.{Read, ok, no, map, bind, operandAfter, past, pastNewlines}
 use Rattle.program_reader.specs.Operators.{fields, prefixed, concatenations, matched, conjunctions, expressions, Operator, binary, operatorIn, tierIn, tierOf, treeIn, treeOf, prefixOf}
 use Rattle.program_reader.specs.Expressions.{Inner, assignTo, turns, closed, argument, arguments, call, calling, primary, fieldForm, prefixForm, rightOf, more, matchWith, matching, assigned, assignment, stepTier, tier, inside, expressionAt}
+use Rattle.program_parser.proofs.Tokens.{choose}
 use Rattle.program_numbering.specs.Names.{namesIn}
 use Rattle.program_names.specs.Walk.{spanned, operandEnds}
-use Rattle.program_names.proofs.Walks.{among-all, is-all, settled, opens, passed, parens, deeper, Meets, meets-token, meets-kind, own, Walks, here, open-token, operand-token, open-parenthesis, close-parenthesis, meets-spanned, meets-operand, newlines-walk, joined, onward, to, from, past-names}
+use Rattle.program_names.proofs.Walks.{among-all, is-all, settled, opens, passed, parens, deeper, Meets, meets-token, meets-kind, Walks, here, open-token, operand-token, open-parenthesis, close-parenthesis, meets-spanned, meets-operand, newlines-walk, joined, onward, to, from, past-names}
 
 -- ---- tables
-
-pub choose : {A : Type 0} (P : A → Type 0) (b : Bool) (x y : A) → (b ≡ true → P x) → (b ≡ false → P y) → P (cond b x y)
-choose P true x y p q = p refl
-choose P false x y p q = q refl
 
 abbrev Keeps : Operator → Type 0
 Keeps o = (a b : Expression) → namesIn a ++ namesIn b ≡ namesIn ((o .tree) a b)
@@ -74,7 +70,8 @@ operator-opens : (edition : ℕ) (printed : Bool) (k : Kind) (j : ℕ) → eqb (
 unfolding tierOf among rank
 operator-opens edition printed k j h f =
     choose (λ (n : ℕ). eqb n (suc j) ≡ true → opens k ≡ true) (printed && same k greater) fields
-    (tierIn edition k (operatorIn k binary)) (λ e g. none-such g) (λ e g. go (operatorIn k binary) (operator-in k binary refl) g) h
+    (tierIn edition k (operatorIn k binary)) (λ e g. none-such g)
+    (λ e g. go (operatorIn k binary) (operator-in k binary refl) g) h
   where
     none-such : eqb 0 (suc j) ≡ true → opens k ≡ true
     none-such g = let e = eqb-true 0 (suc j) g in absurd (omega (arith, e))
@@ -136,7 +133,8 @@ AssignNames e (some f) = (a : Expression) → namesIn e ++ namesIn a ≡ namesIn
 assign-names : (edition : ℕ) (e : Expression) → AssignNames e (assignTo edition e)
 unfolding assignTo namesIn
 assign-names edition (variable n) =
-    choose (AssignNames (variable n)) (same (wordKind edition n) fixed-variable) none (some (assign n)) (λ q. tt) (λ q a. refl)
+    choose (AssignNames (variable n)) (same (wordKind edition n) fixed-variable) none (some (assign n)) (λ q. tt)
+    (λ q a. refl)
 assign-names edition (field j) = λ a. refl
 assign-names edition (constant c) = tt
 assign-names edition (ere r) = tt
@@ -175,8 +173,8 @@ module _ (edition : ℕ) (s : List ℕ) where
   good-map k l w v m o n before f (ok a t) p e g = past-names (joined p g) (e a)
   good-map k l w v m o n before f (no outcome place) p e g = tt
 
-  pub good-bind : {A B : Type 0} (k : A → List (List ℕ)) (l : B → List (List ℕ)) (v : Token) (o p : ℕ) (w : Token) (m n : ℕ)
-      (r : Read A) (f : A → Token → Read B) → Good k v o p r
+  pub good-bind : {A B : Type 0} (k : A → List (List ℕ)) (l : B → List (List ℕ)) (v : Token) (o p : ℕ)
+      (w : Token) (m n : ℕ) (r : Read A) (f : A → Token → Read B) → Good k v o p r
       → ((a : A) (t : Token) → Walks edition s v o (k a) t p → Good l w m n (f a t)) → Good l w m n (bind r f)
   good-bind k l v o p w m n (ok a t) f g h = h a t g
   good-bind k l v o p w m n (no outcome place) f g h = tt
@@ -186,12 +184,14 @@ module _ (edition : ℕ) (s : List ℕ) where
   unfolding closed
   closed-good w m x (no outcome place) g = tt
   closed-good w m x (ok e t) g =
-      good-cond namesIn w m (parens x) (is close-paren t) _ _ (λ q. onward g (close-parenthesis edition s t x q)) (λ q. tt)
+      good-cond namesIn w m (parens x) (is close-paren t) _ _ (λ q. onward g (close-parenthesis edition s t x q))
+      (λ q. tt)
 
   -- ---- tokens that the reader takes
 
   -- an operand of one token
-  constant-met : (k : Kind) (w t : Token) (m : ℕ) → among operandEnds k ≡ true → settled k ≡ true → among names k ≡ false
+  constant-met : (k : Kind) (w t : Token) (m : ℕ) → among operandEnds k ≡ true → settled k ≡ true
+      → among names k ≡ false
       → is k t ≡ true → Meets w t → Walks edition s w m [] (tokenAfter edition s t) m
   constant-met k w t m a b c q h =
       let e : k ≡ t .kind = sym (same-is (t .kind) k q) in
@@ -223,7 +223,7 @@ module _ (edition : ℕ) (s : List ℕ) where
 
   -- ---- forms
 
-  -- an operator of no operand but an ERE
+  -- an operator whose right side is an ERE
   match-good : (w : Token) (m : ℕ) (e : Expression) (t u v : Token) → Walks edition s w m (namesIn e) v m → Meets v u
       → Good namesIn w m m (matchWith edition s e t u)
   unfolding matchWith namesIn rank among
@@ -234,7 +234,8 @@ module _ (edition : ℕ) (s : List ℕ) where
       (λ q. refl) (λ q. refl)))
       (λ q. tt)
 
-  matching-good : (w : Token) (m : ℕ) (r : Read Expression) → Good namesIn w m m r → Good namesIn w m m (matching edition s r)
+  matching-good : (w : Token) (m : ℕ) (r : Read Expression) → Good namesIn w m m r
+      → Good namesIn w m m (matching edition s r)
   unfolding matching rank among
   matching-good w m (no outcome place) g = tt
   matching-good w m (ok e t) g =
@@ -259,16 +260,19 @@ module _ (edition : ℕ) (s : List ℕ) where
   unfolding rightOf
   right-walk printed j t m h =
       let u : Token = tokenAfter edition s t in
-      choose (λ (v : Token). Right t v m) (eqb (suc j) concatenations) t _
+      let v : Token = past edition s (newline ∷ []) u in
+      choose (λ (z : Token). Right t z m) (eqb (suc j) concatenations) t _
       (λ q. record { at = t; walk = here t m; meets = λ e. refl })
       (λ q.
       let p = open-token edition s t m (operator-opens edition printed (t .kind) j h q) in
-      choose (λ (v : Token). Right t v m) (leb conjunctions (suc j)) (pastNewlines edition s u) (operandAfter edition s t)
-      (λ f. record { at = spanned s (past edition s (newline ∷ []) u); walk = onward p (newlines-walk edition s u m); meets = meets-operand edition s (past edition s (newline ∷ []) u) })
+      let on = onward p (newlines-walk edition s u m) in
+      choose (λ (z : Token). Right t z m) (leb conjunctions (suc j)) (pastNewlines edition s u)
+      (operandAfter edition s t)
+      (λ f. record { at = spanned s v; walk = on; meets = meets-operand edition s v })
       (λ f. record { at = spanned s u; walk = p; meets = meets-operand edition s u }))
 
-  more-good : (printed : Bool) (j : ℕ) (below : Token → Read Expression) → Reads below → (n : ℕ) (w : Token) (x : Option ℕ)
-      (r : Read Expression) → Good namesIn w (parens x) (parens x) r
+  more-good : (printed : Bool) (j : ℕ) (below : Token → Read Expression) → Reads below
+      → (n : ℕ) (w : Token) (x : Option ℕ) (r : Read Expression) → Good namesIn w (parens x) (parens x) r
       → Good namesIn w (parens x) (parens x) (more edition s printed (suc j) below n r)
   unfolding more
   more-good printed j below b zero w x r g = g
@@ -290,7 +294,8 @@ module _ (edition : ℕ) (s : List ℕ) where
 
   module _ (inner : Inner) (i : ReadsInside inner) where
     -- an operand inside, after a token
-    after-good : (w t : Token) (x : Option ℕ) (before : List (List ℕ)) (printed : Bool) (k : ℕ) (f : Expression → Expression)
+    after-good : (w t : Token) (x : Option ℕ) (before : List (List ℕ)) (printed : Bool) (k : ℕ)
+        (f : Expression → Expression)
         → Walks edition s w (parens x) before (spanned s (tokenAfter edition s t)) (parens x)
         → ((a : Expression) → before ++ namesIn a ≡ namesIn (f a))
         → Good namesIn w (parens x) (parens x) (map f (inner printed k t (operandAfter edition s t)))
@@ -301,12 +306,15 @@ module _ (edition : ℕ) (s : List ℕ) where
 
     module _ (w : Token) (m : ℕ) (x : Option ℕ) where
       argument-good : (u : Token) (y : Shape) (l : List Shape) (f : Call (y ∷ l)) (ns : List (List ℕ)) (v t : Token)
-          (rest : Call l → Token → Read Expression) → CallNames (y ∷ l) f ns → Walks edition s w m ns v (parens x) → Meets v t
-          → ((g : Call l) (ms : List (List ℕ)) (z : Token) → CallNames l g ms → Walks edition s w m ms z (parens x) → Good namesIn w m (parens x) (rest g z))
+          (rest : Call l → Token → Read Expression) → CallNames (y ∷ l) f ns
+          → Walks edition s w m ns v (parens x) → Meets v t
+          → ((g : Call l) (ms : List (List ℕ)) (z : Token) → CallNames l g ms → Walks edition s w m ms z (parens x)
+          → Good namesIn w m (parens x) (rest g z))
           → Good namesIn w m (parens x) (argument edition s inner u y l f t rest)
       unfolding argument rank among
       argument-good u an-expression l f ns v t rest c p h k =
-          good-bind namesIn namesIn v (parens x) (parens x) w m (parens x) (inner false expressions u t) (λ e z. rest (f e) z)
+          good-bind namesIn namesIn v (parens x) (parens x) w m (parens x) (inner false expressions u t)
+          (λ e z. rest (f e) z)
           (i false expressions u v t x h) (λ e z q. k (f e) (ns ++ namesIn e) z (c e) (joined p q))
       argument-good u an-ere l f ns v t rest c p h k =
           good-cond namesIn w m (parens x) (is ERE t) _ _
@@ -321,7 +329,8 @@ module _ (edition : ℕ) (s : List ℕ) where
           let a : Token = tokenAfter edition s t in
           let v : Token = past edition s (newline ∷ []) a in
           good-cond namesIn w m (parens x) (is comma t) _ _
-          (λ q. argument-good u y l f ns (spanned s v) (pastNewlines edition s a) (arguments edition s inner u false l) c
+          (λ q. argument-good u y l f ns (spanned s v) (pastNewlines edition s a)
+          (arguments edition s inner u false l) c
           (onward p (onward (open-met comma t t (parens x) refl q (λ e. refl)) (newlines-walk edition s a (parens x))))
           (meets-operand edition s v) (λ g ms z d j. arguments-good u l g ms z d j))
           (λ q. tt)
@@ -333,7 +342,8 @@ module _ (edition : ℕ) (s : List ℕ) where
     first-good w t u x [] f c p = absurd c
     first-good w t u x (y ∷ l) f c p =
         let a : Token = tokenAfter edition s u in
-        argument-good w (parens x) (deeper x) u y l f [] (spanned s a) (operandAfter edition s u) (arguments edition s inner u false l) c p
+        argument-good w (parens x) (deeper x) u y l f [] (spanned s a) (operandAfter edition s u)
+        (arguments edition s inner u false l) c p
         (meets-operand edition s a) (λ g ms z d j. arguments-good w (parens x) (deeper x) u l g ms z d j)
 
     calling-good : (w t : Token) (x : Option ℕ) (o : Option Function) → Called (t .kind) o → Meets w t
@@ -344,7 +354,8 @@ module _ (edition : ℕ) (s : List ℕ) where
         let u : Token = tokenAfter edition s t in
         good-cond namesIn w (parens x) (parens x) (is open-paren u) _ _
         (λ q. closed-good w (parens x) x _ (first-good w t u x (f .shapes) (f .tree) (c .1)
-        (onward (to (open-passed w t (parens x) (c .0) h) (meets-kind open-paren (spanned s u) u refl q (meets-spanned edition s u)))
+        (onward (to (open-passed w t (parens x) (c .0) h)
+        (meets-kind open-paren (spanned s u) u refl q (meets-spanned edition s u)))
         (open-parenthesis edition s u x q))))
         (λ q. tt)
 
@@ -362,7 +373,8 @@ module _ (edition : ℕ) (s : List ℕ) where
         let r : Read Expression = inner false expressions t (operandAfter edition s t) in
         good-map namesIn namesIn w (spanned s u) m (parens (deeper x)) m [] parentheses (closed edition s r)
         (from (meets-kind open-paren w t refl b h) (open-parenthesis edition s t x b)) (λ a. refl)
-        (closed-good (spanned s u) (parens (deeper x)) x r (i false expressions t (spanned s u) _ (deeper x) (meets-operand edition s u))))
+        (closed-good (spanned s u) (parens (deeper x)) x r
+        (i false expressions t (spanned s u) _ (deeper x) (meets-operand edition s u))))
         (λ b. calling-good w t x (functionOf edition (t .kind)) (function-called edition (t .kind)) h)))))
 
     field-good : Reads (fieldForm edition s inner)
@@ -376,10 +388,12 @@ module _ (edition : ℕ) (s : List ℕ) where
     unfolding prefixForm namesIn rank among
     prefix-good below r w t x h =
         good-cond namesIn w (parens x) (parens x) (isOneOf prefixes t) _ _
-        (λ b. after-good w t x [] false prefixed (prefix (prefixOf (t .kind))) (open-some prefixes w t (parens x) refl b h) (λ a. refl))
+        (λ b. after-good w t x [] false prefixed (prefix (prefixOf (t .kind)))
+        (open-some prefixes w t (parens x) refl b h) (λ a. refl))
         (λ b. r w t x h)
 
-    assigned-good : (w : Token) (x : Option ℕ) (printed : Bool) (e : Expression) (t : Token) (o : Option (Expression → Expression))
+    assigned-good : (w : Token) (x : Option ℕ) (printed : Bool) (e : Expression) (t : Token)
+        (o : Option (Expression → Expression))
         → AssignNames e o → Walks edition s w (parens x) (namesIn e) t (parens x) → is assign-sign t ≡ true
         → Good namesIn w (parens x) (parens x) (assigned edition s inner printed e t o)
     unfolding assigned rank among
@@ -389,7 +403,8 @@ module _ (edition : ℕ) (s : List ℕ) where
         (onward p (open-met assign-sign t t (parens x) refl q (λ b. refl))) c
 
     assignment-good : (w : Token) (x : Option ℕ) (printed : Bool) (r : Read Expression)
-        → Good namesIn w (parens x) (parens x) r → Good namesIn w (parens x) (parens x) (assignment edition s inner printed r)
+        → Good namesIn w (parens x) (parens x) r
+        → Good namesIn w (parens x) (parens x) (assignment edition s inner printed r)
     unfolding assignment
     assignment-good w x printed (no outcome place) g = tt
     assignment-good w x printed (ok e t) g =
@@ -409,12 +424,14 @@ module _ (edition : ℕ) (s : List ℕ) where
     tier-good : (printed : Bool) (k : ℕ) → Reads (tier edition s inner printed k)
     unfolding tier
     tier-good printed zero w t x h = field-good w t x h
-    tier-good printed (suc k) w t x h = step-good printed k (tier edition s inner printed k) (tier-good printed k) w t x h
+    tier-good printed (suc k) w t x h =
+        step-good printed k (tier edition s inner printed k) (tier-good printed k) w t x h
 
   pub inside-good : (levels : ℕ) → ReadsInside (inside edition s levels)
   unfolding inside
   inside-good zero printed k opener w t x h = tt
-  inside-good (suc levels) printed k opener w t x h = tier-good (inside edition s levels) (inside-good levels) printed k w t x h
+  inside-good (suc levels) printed k opener w t x h =
+      tier-good (inside edition s levels) (inside-good levels) printed k w t x h
 
   pub expression-good : (levels : ℕ) (printed : Bool) → Reads (expressionAt edition s levels printed)
   expression-good levels printed w t x h =

@@ -7,23 +7,19 @@ use mathlib.Core.Option.{Option, some, none}
 use Prim.Native.Nat.{ℕ, zero, suc, _+_, _≤_, _<_}
 use native.Mathlib.Omega.{arith}
 use lib.ListN.{length, drop, take}
-use borrow.Author.Tests.{not-true}
 use Rattle.lists.proofs.Tests.{clash, or-false}
 use Rattle.ere_meaning.specs.Tree.{Class, Ere}
 use Rattle.ere_grammar.specs.Read.{readEre}
 use Rattle.program_tokens.specs.Kinds.{Kind, text-end, ERE, user-name, variable, fixed-variable, slash, div-assign, same, among, rank}
 use Rattle.program_tokens.specs.Words.{wordKind}
-use Rattle.program_tokens.specs.Tokens.{Token, token, is, isOneOf, tokenAt, tokenAfter, ereLength, ereRead, ereToken, asOperand, spelling}
+use Rattle.program_tokens.specs.Tokens.{Token, is, isOneOf, tokenAt, tokenAfter, ereLength, ereRead, ereToken, asOperand, spelling}
 use Rattle.program_tokens.proofs.Ranks.{same-is}
-use Rattle.program_tree.specs.Tree.{Program}
 use Rattle.program_grammar.specs.Sets.{names}
-use Rattle.program_reader.specs.Read.{Read, ok}
-use Rattle.program_reader.specs.Programs.{readProgram}
 use Rattle.program_numbering.specs.Names.{usersAmong, namesInProgram}
 use Rattle.program_parser.specs.Reading.{Good}
 use Rattle.program_parser.proofs.Tokens.{choose, good-at, good-after, good-operand}
 use Rattle.program_expressions.proofs.Names.{name-word}
-use Rattle.program_names.specs.Walk.{spannedBy, spanned, openAfter, ereFollows, nextIn, namesFrom, namesInText, NamesInOrder}
+use Rattle.program_names.specs.Walk.{spannedBy, spanned, openAfter, ereFollows, nextIn, namesFrom, NamesInOrder}
 use Rattle.program_names.proofs.Walks.{own, Walks, here, pass}
 use Rattle.program_names.proofs.Programs.{GoodProgram, program-good}
 
@@ -69,7 +65,8 @@ module _ (edition : ℕ) (s : List ℕ) where
       let again = good-operand edition s p t g in
       choose (Kept p) (isOneOf (slash ∷ div-assign ∷ []) t) (spannedBy t (ereLength false l)) t
       (λ q. spanned-by p t l (ereLength false l) g
-      (subst (λ (b : Bool). (cond b (ereToken edition (t .start) l (ereLength false l)) t) .stop ≤ length s) q (again .within)))
+      (subst (λ (b : Bool). (cond b (ereToken edition (t .start) l (ereLength false l)) t) .stop ≤ length s)
+      q (again .within)))
       (λ q. inl g)
 
   after-good : (p : ℕ) (t : Token) → Kept p t → Good edition s (t .stop) (tokenAfter edition s t)
@@ -121,8 +118,10 @@ module _ (edition : ℕ) (s : List ℕ) where
       let next = next-kept p a c k in
       let later = kept-start (a .stop) (nextIn edition s a c) next in
       let rest : namesFrom edition s steps (nextIn edition s a c) (openAfter (a .kind) c) ≡ usersAmong edition j =
-      walk-names (nextIn edition s a c) b (openAfter (a .kind) c) d j w last (a .stop) next steps (omega (arith, shape .0, later)) in
-      rw e (ap (λ (r : List (List ℕ)). cond (is user-name a) (spelling s a ∷ r) r) rest ∙ own-users a j (kept-worded p a k))
+      walk-names (nextIn edition s a c) b (openAfter (a .kind) c) d j w last (a .stop) next steps
+      (omega (arith, shape .0, later)) in
+      rw e (ap (λ (r : List (List ℕ)). cond (is user-name a) (spelling s a ∷ r) r) rest
+      ∙ own-users a j (kept-worded p a k))
 
 -- the walk passes the names of the tree, in the text's order
 pub names-in-order : (edition : ℕ) (s : List ℕ) → NamesInOrder edition s

@@ -1,6 +1,6 @@
--- The walk over a text's tokens, without a bound on its steps: from one token to another, with the names that it passes.
-use mathlib.Core.Path.{_≡_, refl, sym, ap, subst, _∙_}
-use mathlib.Core.Bool.{Bool, true, false, not, cond, _&&_, _||_}
+-- The walk over a text's tokens, with no bound on its steps: from one token to another, past some names.
+use mathlib.Core.Path.{_≡_, refl, sym, subst, _∙_}
+use mathlib.Core.Bool.{Bool, true, false, not, cond, _&&_}
 use mathlib.Core.List.{List, [], _∷_, _++_, append-assoc, append-nil}
 use mathlib.Core.Logic.{⊎-elim}
 use mathlib.Core.Option.{Option, some, none}
@@ -10,20 +10,21 @@ use native.Mathlib.Omega.{arith}
 use lib.Dec.{eqb, leb}
 use borrow.Author.Tests.{not-true, ne-eqb, lt-leb}
 use Rattle.lists.specs.Elements.{all}
-use Rattle.lists.proofs.Tests.{clash, and-true, or-cases, or-false}
+use Rattle.lists.proofs.Tests.{clash, and-true, or-cases}
 use Rattle.ere_meaning.specs.Tree.{Class, Ere}
 use Rattle.ere_grammar.specs.Read.{readEre}
-use Rattle.program_tokens.specs.Kinds.{Kind, text-end, newline, bad, bad-ere, NUMBER, STRING, ERE, IF, WHILE, open-paren, close-paren, slash, div-assign, same, among, rank}
+use Rattle.program_tokens.specs.Kinds.{Kind, text-end, newline, bad, bad-ere, ERE, IF, WHILE, open-paren, close-paren, slash, div-assign, same, among, rank}
 use Rattle.program_tokens.specs.Tokens.{Token, token, is, isOneOf, tokenAfter, ereLength, ereRead, ereToken, asOperand, spelling}
 use Rattle.program_tokens.proofs.Ranks.{same-is}
 use Rattle.program_grammar.specs.Sets.{names}
-use Rattle.program_reader.specs.Read.{pastIn, past, pastNewlines, operandAfter}
+use Rattle.program_reader.specs.Read.{pastIn, past}
 use Rattle.program_names.specs.Walk.{spannedBy, spanned, openAfter, operandEnds, ereFollows, nextIn}
 
 -- ---- kinds
 
 -- what a test says of each kind of a list, it says of a kind that is one of them
-pub among-all : (test : Kind → Bool) (ks : List Kind) (k : Kind) → all test ks ≡ true → among ks k ≡ true → test k ≡ true
+pub among-all : (test : Kind → Bool) (ks : List Kind) (k : Kind) → all test ks ≡ true → among ks k ≡ true
+    → test k ≡ true
 unfolding among
 among-all test [] k h e = absurd (clash (sym e))
 among-all test (a ∷ ks) k h e =
@@ -54,12 +55,14 @@ pub record Opens (k : Kind) : Type 0 where
   pub follows : (m : ℕ) → ereFollows k m ≡ true
   pub keeps : (m : ℕ) → openAfter k m ≡ m
 
+-- a name ends an operand
 ended-name : (k : Kind) → among operandEnds k ≡ false → among names k ≡ false
-unfolding among
-ended-name k e =
-    let a = or-false (same k NUMBER) (among (STRING ∷ ERE ∷ names) k) e in
-    let b = or-false (same k STRING) (among (ERE ∷ names) k) (a .1) in
-    or-false (same k ERE) (among names k) (b .1) .1
+unfolding among rank
+ended-name k e = go (among names k) refl
+  where
+    go : (b : Bool) → among names k ≡ b → b ≡ false
+    go true q = absurd (clash (sym (among-all (among operandEnds) names k refl q) ∙ e))
+    go false q = refl
 
 pub opened : (k : Kind) → opens k ≡ true → Opens k
 unfolding among ereFollows openAfter
@@ -124,7 +127,7 @@ closing (some j) = let later : leb (2 + suc j) 2 ≡ false = lt-leb (2 + suc j) 
 closing-divides : (x : Option ℕ) → ereFollows close-paren (parens (deeper x)) ≡ false
 unfolding ereFollows rank among
 closing-divides none = refl
-closing-divides (some j) = ne-eqb (2 + suc j) 2 (omega arith)
+closing-divides (some j) = ne-eqb (2 + suc j) _ (omega arith)
 
 -- ---- where the walk is, and where the reader is
 
@@ -230,7 +233,8 @@ module _ (edition : ℕ) (s : List ℕ) where
       not-true _ (and-true (not (isOneOf (slash ∷ div-assign ∷ []) t)) _ e .0) in
       rw plain
 
-  meets-read : (t : Token) (n : ℕ) (r : Option (Ere Class)) → Meets (token (t .start) ERE (2 + n)) (ereRead (t .start) (2 + n) r)
+  meets-read : (t : Token) (n : ℕ) (r : Option (Ere Class))
+      → Meets (token (t .start) ERE (2 + n)) (ereRead (t .start) (2 + n) r)
   unfolding ereRead rank among
   meets-read t n none e = absurd (clash (sym e))
   meets-read t n (some r) e = refl
@@ -247,7 +251,8 @@ module _ (edition : ℕ) (s : List ℕ) where
       l : List ℕ
       l = drop (suc (t .start)) s
 
-      go : (b : Bool) → Meets (cond b (spannedBy t (ereLength false l)) t) (cond b (ereToken edition (t .start) l (ereLength false l)) t)
+      go : (b : Bool) → Meets (cond b (spannedBy t (ereLength false l)) t)
+          (cond b (ereToken edition (t .start) l (ereLength false l)) t)
       go true = meets-ere t l (ereLength false l)
       go false = λ e. refl
 
@@ -258,14 +263,18 @@ module _ (edition : ℕ) (s : List ℕ) where
   past-walk ks zero t m h = here _ m
   past-walk ks (suc n) t m h = go (isOneOf ks t) refl (past-walk ks n (tokenAfter edition s t) m h)
     where
-      go : (b : Bool) → isOneOf ks t ≡ b
-          → Walks (spanned s (tokenAfter edition s t)) m [] (spanned s (pastIn edition s ks n (tokenAfter edition s t))) m
-          → Walks (spanned s t) m [] (spanned s (cond b (pastIn edition s ks n (tokenAfter edition s t)) t)) m
+      u : Token
+      u = tokenAfter edition s t
+
+      v : Token
+      v = pastIn edition s ks n u
+
+      go : (b : Bool) → isOneOf ks t ≡ b → Walks (spanned s u) m [] (spanned s v) m
+          → Walks (spanned s t) m [] (spanned s (cond b v t)) m
       go true e p =
           let both = and-true (opens (t .kind)) _ (among-all passed ks (t .kind) h e) in
-          let v : Token = spanned s (pastIn edition s ks n (tokenAfter edition s t)) in
-          subst (λ (w : Token). Walks w m [] v m) (sym (meets-spanned t (both .1)))
-          (walks-join t (spanned s (tokenAfter edition s t)) v m m m [] [] (open-token t m (both .0)) p)
+          subst (λ (w : Token). Walks w m [] (spanned s v) m) (sym (meets-spanned t (both .1)))
+          (walks-join t (spanned s u) (spanned s v) m m m [] [] (open-token t m (both .0)) p)
       go false e p = here _ m
 
   -- "newlines may follow": to the first token after them, where an operand may stand
@@ -290,7 +299,8 @@ module _ {edition : ℕ} {s : List ℕ} where
   pub to : {t u v : Token} {m n : ℕ} {l : List (List ℕ)} → Walks edition s t m l u n → u ≡ v → Walks edition s t m l v n
   to {t} {u} {v} {m} {n} {l} p e = subst (λ (w : Token). Walks edition s t m l w n) e p
 
-  pub from : {t u v : Token} {m n : ℕ} {l : List (List ℕ)} → v ≡ t → Walks edition s t m l u n → Walks edition s v m l u n
+  pub from : {t u v : Token} {m n : ℕ} {l : List (List ℕ)} → v ≡ t → Walks edition s t m l u n
+      → Walks edition s v m l u n
   from {t} {u} {v} {m} {n} {l} e p = subst (λ (w : Token). Walks edition s w m l u n) (sym e) p
 
   pub past-names : {t u : Token} {m n : ℕ} {k l : List (List ℕ)} → Walks edition s t m k u n → k ≡ l
