@@ -35,7 +35,7 @@ among-all test (a ∷ ks) k h e =
 pub is-all : (test : Kind → Bool) (a k : Kind) → test a ≡ true → same k a ≡ true → test k ≡ true
 is-all test a k h q = subst (λ (c : Kind). test c ≡ true) (sym (same-is k a q)) h
 
--- a kind that a `/` can't be read again from, and that is no ERE that can't be read
+-- a kind that is no `/`, which an ERE may start with, and no bad token or ERE
 abbrev pub settled : Kind → Bool
 settled k = not (among (slash ∷ div-assign ∷ []) k) && not (among (bad ∷ bad-ere ∷ []) k)
 
@@ -131,7 +131,7 @@ closing-divides (some j) = ne-eqb (2 + suc j) _ (omega arith)
 
 -- ---- where the walk is, and where the reader is
 
--- the walk's token is the reader's, but where that is a `/` or no token
+-- the walk's token is the reader's, but where that is a `/`, or is bad
 abbrev pub Meets : Token → Token → Type 0
 Meets w t = settled (t .kind) ≡ true → w ≡ t
 
