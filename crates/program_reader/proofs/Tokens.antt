@@ -32,7 +32,7 @@ choose P true x y p q = p
 choose P false x y p q = q
 
 -- what a test says of each kind of a table, and of the other kind, it says of the kind that the table gives
-kind-has : (test : Kind → Bool) (edition : ℕ) (other : Kind) (w : List ℕ) (l : List Word) → test other ≡ true
+pub kind-has : (test : Kind → Bool) (edition : ℕ) (other : Kind) (w : List ℕ) (l : List Word) → test other ≡ true
     → all (λ (x : Word). test (x .kind)) l ≡ true → test (kindIn edition other w l) ≡ true
 unfolding kindIn
 kind-has test edition other w [] h each = h

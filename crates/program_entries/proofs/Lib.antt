@@ -1,0 +1,6 @@
+-- Laws on entries.
+pub mod Strings
+pub mod SpecialNames
+pub mod Placing
+pub mod Spans
+pub mod Naming

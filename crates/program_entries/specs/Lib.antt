@@ -1,0 +1,2 @@
+-- What the operands of a program's words name.
+pub mod Named
