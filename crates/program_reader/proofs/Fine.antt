@@ -1,5 +1,5 @@
--- The trees that are read hold only EREs that read, names, and assignments to what can be assigned; a refusal has a
--- number.
+-- The trees that are read hold only EREs that read, names, constants that a token spells, and assignments to what can
+-- be assigned; a refusal has a number.
 use mathlib.Core.Path.{_≡_, refl, sym}
 use mathlib.Core.Bool.{Bool, true, false, true≢false, not, cond, _&&_}
 use mathlib.Core.List.{List, [], _∷_, _++_}
@@ -10,9 +10,11 @@ use Rattle.edition.specs.Limits.{nestingDepth}
 use Rattle.edition.specs.Outcomes.{badToken, misplacedToken, badEre}
 use lib.ListN.{length}
 use lib.Dec.{eqb, leb}
+use Rattle.image_format.specs.Image.{Constant, number, text}
 use Rattle.program_tokens.specs.Kinds.{Kind, newline, bad, bad-ere, NUMBER, STRING, ERE, fixed-variable, open-paren, close-paren, comma, tilde, dollar, assign as assign-sign, no-match as no-match-sign, same, text-end, BEGIN, END, IF, ELSE, WHILE, PRINT, NEXT, EXIT, open-brace, close-brace, semicolon}
 use Rattle.program_tokens.specs.Words.{wordKind}
-use Rattle.program_tokens.specs.Tokens.{Token, is, isOneOf, tokenAt, tokenAfter, asOperand, spelling, ereIn}
+use Rattle.program_tokens.specs.Tokens.{Token, is, isOneOf, tokenAt, tokenAfter, asOperand}
+use Rattle.program_tokens.specs.Tokens.{spelling, numberIn, stringIn, ereIn}
 use Rattle.program_tree.specs.Tree.{Expression, constant, ere, variable, parentheses, length-of, index, substr, match, field, prefix, arithmetic, join, compare, matches, no-match, both, either, assign, assign-field, Statement, expression, print, if, if-else, while, block, next, exit, empty, sequence, Item, begin, end, main, Program}
 use Rattle.program_tree.specs.Functions.{Shape, an-expression, an-ere, Call, Function, functions, functionIn, functionOf}
 use Rattle.program_grammar.specs.Sets.{names, prefixes, enders, startsExpression, startsStatement}
@@ -26,9 +28,9 @@ and-right : (a b : Bool) → (a && b) ≡ true → b ≡ true
 and-right true b h = h
 and-right false b h = absurd (true≢false (sym h))
 
-module _ (edition : ℕ) (s : List ℕ) (R N : List ℕ → Type 0) where
+module _ (edition : ℕ) (s : List ℕ) (R N : List ℕ → Type 0) (C : Constant → Type 0) where
   abbrev pub Fine : Expression → Type 0
-  Fine (constant c) = Unit
+  Fine (constant c) = C c
   Fine (ere r) = R r
   Fine (variable v) = N v
   Fine (parentheses e) = Fine e
@@ -50,7 +52,11 @@ module _ (edition : ℕ) (s : List ℕ) (R N : List ℕ → Type 0) where
 
   -- a token says what its kind says
   abbrev pub Honest : Token → Type 0
-  Honest t = (is ERE t ≡ true → R (ereIn s t)) × (isOneOf names t ≡ true → N (spelling s t))
+  Honest t =
+      (is ERE t ≡ true → R (ereIn s t))
+      × (isOneOf names t ≡ true → N (spelling s t))
+      × (is NUMBER t ≡ true → C (number (numberIn s t)))
+      × (is STRING t ≡ true → C (text (stringIn s t)))
 
   abbrev pub Good : {A : Type 0} → (A → Type 0) → Read A → Type 0
   Good P (ok a t) = (P a) × (Honest t)
@@ -203,8 +209,8 @@ module _ (edition : ℕ) (s : List ℕ) (R N : List ℕ → Type 0) where
       primary-good : Reads (primary edition s inner)
       unfolding primary
       primary-good t h =
-          good-cond Fine (is NUMBER t) _ _ (λ b. (tt, honest-after t))
-          (λ b. good-cond Fine (is STRING t) _ _ (λ b. (tt, honest-after t))
+          good-cond Fine (is NUMBER t) _ _ (λ b. (h .2 b, honest-after t))
+          (λ b. good-cond Fine (is STRING t) _ _ (λ b. (h .3 b, honest-after t))
           (λ b. good-cond Fine (is ERE t) _ _ (λ b. (h .0 b, honest-after t))
           (λ b. good-cond Fine (isOneOf names t) _ _ (λ b. (h .1 b, honest-after t))
           (λ b. good-cond Fine (is open-paren t) _ _

@@ -30,7 +30,7 @@ use Rattle.program_tree.specs.Tree.{Program}
 use Rattle.program_reader.specs.Read.{Read, ok, no}
 use Rattle.program_reader.specs.Programs.{readProgram}
 use Rattle.program_reader.proofs.Fine.{Good}
-use Rattle.program_reader.proofs.Tokens.{Readable, IsName, read-fine}
+use Rattle.program_reader.proofs.Tokens.{Readable, Spelled, IsName, Said, read-fine}
 use Rattle.program_code.specs.Emitted.{Operand, nothing, the-constant, the-variable, the-ere, the-instruction, the-count, Emitted, opcode}
 use Rattle.program_code.specs.Sections.{compileStatement, partsOf, sectionCode}
 use Rattle.program_code.proofs.Opcodes.{opcode-row}
@@ -39,7 +39,7 @@ use Rattle.program_code.proofs.Sections.{flows-section}
 use Rattle.program_numbering.specs.Names.{has, numberOf, usersOf}
 use Rattle.program_numbering.specs.Numbering.{specialNames, sameConstant, constantIn, ereIn, operandsBy, allCode, Tables, tablesOf, numbersOf, instructions, imageBy, imageOf}
 use Rattle.program_numbering.specs.Sizes.{sectionFits, fits}
-use Rattle.program_numbering.proofs.Numbers.{Each, each-at, each-join, new-each, number-below, and-left, and-right}
+use Rattle.program_numbering.proofs.Numbers.{Each, each-at, each-join, each-map, new-each, number-below, and-left, and-right}
 use Rattle.edition.specs.Limits.{filterText}
 use Rattle.edition.specs.Outcomes.{done, filterTextTooLong, nulByte, sizePassed, roomTooSmall}
 use Rattle.image_format.specs.Writing.{bytesOf}
@@ -239,7 +239,7 @@ module _ (s : List ℕ) (p : Program) where
     allowed n i (plain a d e g) f hc hr inside start deep =
         make (action a) d nothing n (subst (λ (q : List ImmediateKind). AllExist img z q []) (sym e) tt) (λ q. omega (arith, q, g)) inside start (λ q. absurd (omega (arith, q, g)))
         (λ q. absurd (omega (arith, q, g))) deep (f .0) (f .1)
-    allowed n i (constant-sound c d) f hc hr inside start deep =
+    allowed n i (constant-sound c d sd) f hc hr inside start deep =
         make (action constant) d (the-constant c) n (constant-exists c (hc .0), tt) (λ q. omega (arith, q)) inside start (λ q. absurd (omega (arith, q)))
         (λ q. absurd (omega (arith, q))) deep (f .0) (f .1)
     allowed n i (get-sound v d nm ls) f hc hr inside start deep =
@@ -347,38 +347,67 @@ module _ (s : List ℕ) (p : Program) where
 
   -- ---- the image
 
-  eres-of : (inMain : Bool) (l : List Emitted) → AllSound 1 s (Listed 1 s p) inMain l → Each (Readable 1 s) (operandsBy ereIn l)
-  unfolding operandsBy
-  eres-of inMain [] h = tt
-  eres-of inMain (i ∷ l) h = each-join (Readable 1 s) (ereIn (i .operand)) (operandsBy ereIn l) (one i (h .0)) (eres-of inMain l (h .1))
-    where
-      one : (i : Emitted) → Sound 1 s (Listed 1 s p) inMain i → Each (Readable 1 s) (ereIn (i .operand))
-      one i (plain a d e g) = tt
-      one i (constant-sound c d) = tt
-      one i (get-sound v d a b) = tt
-      one i (set-sound v d a b c) = tt
-      one i (matches-sound r d a) = (a, tt)
-      one i (match-sound r d a) = (a, tt)
-      one i (jump-sound m d) = tt
-      one i (branch-sound m d) = tt
-      one i (print-sound m d a) = tt
-      one i (next-sound r) = tt
-      one i exit-sound = tt
+  -- what the instructions name, by what a sound one names
+  module _ {A : Type 0} (f : Operand → List A) (P : A → Type 0) (none-named : Each P (f nothing))
+      (one : (inMain : Bool) (i : Emitted) → Sound 1 s (Listed 1 s p) inMain i → Each P (f (i .operand))) where
+    named-of : (inMain : Bool) (l : List Emitted) → AllSound 1 s (Listed 1 s p) inMain l → Each P (operandsBy f l)
+    unfolding operandsBy
+    named-of inMain [] h = tt
+    named-of inMain (i ∷ l) h =
+        each-join P (f (i .operand)) (operandsBy f l) (one inMain i (h .0)) (named-of inMain l (h .1))
+
+    section-named : FineP 1 s (Listed 1 s p) p → (z : Section) → Each P (operandsBy f (sectionCode z p))
+    unfolding operandsBy
+    section-named fine z =
+        subst (λ (q : List Emitted). Each P (operandsBy f q)) (sym (code-is z))
+        (join-named f P (body z) (emitted (flow section-end) 0 nothing ∷ [])
+        (named-of (isMain 1 s (Listed 1 s p) z) (body z) (sound-parts 1 s (Listed 1 s p) z p fine (names-listed 1 s p)))
+        (each-join P (f nothing) [] none-named tt))
+
+    all-named : FineP 1 s (Listed 1 s p) p → Each P (operandsBy f (allCode p))
+    all-named fine =
+        join-named f P (sectionCode begin p) (sectionCode main p ++ sectionCode end p) (section-named fine begin)
+        (join-named f P (sectionCode main p) (sectionCode end p) (section-named fine main) (section-named fine end))
+
+  one-ere : (inMain : Bool) (i : Emitted) → Sound 1 s (Listed 1 s p) inMain i → Each (Spelled 1 s) (ereIn (i .operand))
+  one-ere inMain i (plain a d e g) = tt
+  one-ere inMain i (constant-sound c d a) = tt
+  one-ere inMain i (get-sound v d a b) = tt
+  one-ere inMain i (set-sound v d a b c) = tt
+  one-ere inMain i (matches-sound r d a) = (a, tt)
+  one-ere inMain i (match-sound r d a) = (a, tt)
+  one-ere inMain i (jump-sound m d) = tt
+  one-ere inMain i (branch-sound m d) = tt
+  one-ere inMain i (print-sound m d a) = tt
+  one-ere inMain i (next-sound r) = tt
+  one-ere inMain i exit-sound = tt
+
+  one-constant : (inMain : Bool) (i : Emitted) → Sound 1 s (Listed 1 s p) inMain i
+      → Each (Said 1 s) (constantIn (i .operand))
+  one-constant inMain i (plain a d e g) = tt
+  one-constant inMain i (constant-sound c d a) = (a, tt)
+  one-constant inMain i (get-sound v d a b) = tt
+  one-constant inMain i (set-sound v d a b c) = tt
+  one-constant inMain i (matches-sound r d a) = tt
+  one-constant inMain i (match-sound r d a) = tt
+  one-constant inMain i (jump-sound m d) = tt
+  one-constant inMain i (branch-sound m d) = tt
+  one-constant inMain i (print-sound m d a) = tt
+  one-constant inMain i (next-sound r) = tt
+  one-constant inMain i exit-sound = tt
 
   module _ (fine : FineP 1 s (Listed 1 s p) p) where
-    section-eres : (z : Section) → Each (Readable 1 s) (operandsBy ereIn (sectionCode z p))
-    unfolding operandsBy
-    section-eres z =
-        subst (λ (q : List Emitted). Each (Readable 1 s) (operandsBy ereIn q)) (sym (code-is z))
-        (join-named ereIn (Readable 1 s) (body z) (emitted (flow section-end) 0 nothing ∷ [])
-        (eres-of (isMain 1 s (Listed 1 s p) z) (body z) (sound-parts 1 s (Listed 1 s p) z p fine (names-listed 1 s p))) tt)
-
-    eres-read : Each (Readable 1 s) (t .eres)
+    pub eres-spelled : Each (Spelled 1 s) (t .eres)
     unfolding tablesOf
-    eres-read =
-        new-each sameBytes (Readable 1 s) (operandsBy ereIn (allCode p)) [] tt
-        (join-named ereIn (Readable 1 s) (sectionCode begin p) (sectionCode main p ++ sectionCode end p) (section-eres begin)
-        (join-named ereIn (Readable 1 s) (sectionCode main p) (sectionCode end p) (section-eres main) (section-eres end)))
+    eres-spelled =
+        new-each sameBytes (Spelled 1 s) (operandsBy ereIn (allCode p)) [] tt
+        (all-named ereIn (Spelled 1 s) tt one-ere fine)
+
+    pub constants-said : Each (Said 1 s) (t .constants)
+    unfolding tablesOf
+    constants-said =
+        new-each sameConstant (Said 1 s) (operandsBy constantIn (allCode p)) [] tt
+        (all-named constantIn (Said 1 s) tt one-constant fine)
 
     short : (c : Constant) → smallConstant c ≡ true → Short c
     short (number n) h = tt
@@ -409,21 +438,27 @@ module _ (s : List ℕ) (p : Program) where
                 (and-right (all smallConstant (img .constants)) _ (and-right (leb (length (img .constants)) constantCount) _ rest-sizes));
             reads = λ n l h. each-at (λ (r : List ℕ). (e : Ere Class) × (readEre (img .edition) r ≡ some e)) (img .eres) n l
                 (subst (λ (v : ℕ). Each (λ (r : List ℕ). (e : Ere Class) × (readEre v r ≡ some e)) (img .eres)) (sym edition-is)
-                (subst (λ (q : List (List ℕ)). Each (Readable 1 s) q) (sym eres-is) eres-read)) h;
+                (subst (λ (q : List (List ℕ)). Each (Readable 1 s) q) (sym eres-is)
+                (each-map (Spelled 1 s) (Readable 1 s) (t .eres) (λ r x. x .0) eres-spelled))) h;
             some-code = section-some;
             few = λ z. section-short z fine (sections-fit z);
             each-one = λ z n j h. at-section z fine (sections-fit z) n j h;
           }
 
+pub program-fine : (s : List ℕ) (p : Program) (t : Token) → readProgram 1 s ≡ ok p t → FineP 1 s (Listed 1 s p) p
+program-fine s p t e =
+    subst (λ (r : Read Program). Good 1 s (Spelled 1 s) (IsName 1 s) (Said 1 s) (FineP 1 s (Listed 1 s p)) r) e (read-fine 1 s) .0
+
 -- a text of edition 1 that is read to a program whose image fits: the image passes the check
 pub compiled-passes : (s : List ℕ) → CompiledPasses 1 s
-compiled-passes s p t e small =
-    let fine : FineP 1 s (Listed 1 s p) p = subst (λ (r : Read Program). Good 1 s (Readable 1 s) (IsName 1 s) (FineP 1 s (Listed 1 s p)) r) e (read-fine 1 s) .0 in
-    check-exactly (imageOf 1 p) .1 (checked s p fine small)
+compiled-passes s p t e small = check-exactly (imageOf 1 p) .1 (checked s p (program-fine s p t e) small)
 
 -- "Each image that `translate` writes passes the check": on outcome 0 the room begins with the bytes of such an image
 pub record Written (s room : List ℕ) : Type 0 where
   pub program : Program
+  pub last : Token
+  pub reads : readProgram 1 s ≡ ok program last
+  pub fitting : fits (imageOf 1 program) ≡ true
   pub passes : check (imageOf 1 program) ≡ true
   pub answer : translateOf 1 s room
       ≡ record { outcome = done; place = length (bytesOf (imageOf 1 program)); room = bytesOf (imageOf 1 program) ++ drop (length (bytesOf (imageOf 1 program))) room }
@@ -441,11 +476,13 @@ written-passes s room h = long (ltb filterText (length s)) refl
     image : (p : Program) (t : Token) → readProgram 1 s ≡ ok p t → (a b : Bool) → fits (imageOf 1 p) ≡ a → leb (length (bytesOf (imageOf 1 p))) (length room) ≡ b
         → translateOf 1 s room ≡ cond a (cond b (record { outcome = done; place = length (bytesOf (imageOf 1 p)); room = bytesOf (imageOf 1 p) ++ drop (length (bytesOf (imageOf 1 p))) room }) (refused room roomTooSmall (length s))) (refused room sizePassed (length s))
         → Written s room
-    image p t e true true f g w = record { program = p; passes = compiled-passes s p t e f; answer = w }
+    image p t e true true f g w =
+        let h = compiled-passes s p t e f in
+        record { program = p; last = t; reads = e; fitting = f; passes = h; answer = w }
     image p t e true false f g w = zero-one _ (sym (ap (λ (r : Translation). r .outcome) w) ∙ h) (omega arith)
     image p t e false b f g w = zero-one _ (sym (ap (λ (r : Translation). r .outcome) w) ∙ h) (omega arith)
 
-    reading : (r : Read Program) → readProgram 1 s ≡ r → Good 1 s (Readable 1 s) (IsName 1 s) (FineP 1 s (Listed 1 s [])) r → translateOf 1 s room ≡ ofProgram room 1 s r → Written s room
+    reading : (r : Read Program) → readProgram 1 s ≡ r → Good 1 s (Spelled 1 s) (IsName 1 s) (Said 1 s) (FineP 1 s (Listed 1 s [])) r → translateOf 1 s room ≡ ofProgram room 1 s r → Written s room
     reading (no outcome place) e g w = zero-one outcome (sym (ap (λ (r : Translation). r .outcome) w) ∙ h) g
     reading (ok p t) e g w = image p t e (fits (imageOf 1 p)) (leb (length (bytesOf (imageOf 1 p))) (length room)) refl refl w
 

@@ -19,7 +19,7 @@ use Rattle.program_code.specs.Sections.{compileAll, compilePrint, sizeOf, compi
 use Rattle.program_numbering.specs.Names.{namesIn, namesInAll, namesInStatement, namesInPattern, namesInItem, namesInProgram}
 use Rattle.program_numbering.proofs.Numbers.{Each, each-left, each-right, each-join}
 use Rattle.program_reader.proofs.Fine.{Fine, AllFineIn, FineStatement, FineItem, FineProgram}
-use Rattle.program_reader.proofs.Tokens.{Readable, IsName, after-true, operand-true}
+use Rattle.program_reader.proofs.Tokens.{Spelled, IsName, Said, after-true, operand-true}
 
 -- which rules of its own an operation has: print, set, end, next, exit
 abbrev pub actionTag : Action → ℕ
@@ -56,11 +56,11 @@ emitted o d x = record { operation = o; depth = d; operand = x }
 module _ (edition : ℕ) (s : List ℕ) (Q : List ℕ → Type 0) where
   pub data Sound (inMain : Bool) : Emitted → Type 0 where
     plain : (a : Action) (d : ℕ) → rowOf (action a) .immediates ≡ [] → actionTag a ≡ 0 → Sound inMain (emitted (action a) d nothing)
-    constant-sound : (c : Constant) (d : ℕ) → Sound inMain (emitted (action constant) d (the-constant c))
+    constant-sound : (c : Constant) (d : ℕ) → Said edition s c → Sound inMain (emitted (action constant) d (the-constant c))
     get-sound : (v : List ℕ) (d : ℕ) → IsName edition s v → Q v → Sound inMain (emitted (action get) d (the-variable v))
     set-sound : (v : List ℕ) (d : ℕ) → IsName edition s v → Q v → same (wordKind edition v) fixed-variable ≡ false → Sound inMain (emitted (action set) d (the-variable v))
-    matches-sound : (r : List ℕ) (d : ℕ) → Readable edition s r → Sound inMain (emitted (action matches) d (the-ere r))
-    match-sound : (r : List ℕ) (d : ℕ) → Readable edition s r → Sound inMain (emitted (action match) d (the-ere r))
+    matches-sound : (r : List ℕ) (d : ℕ) → Spelled edition s r → Sound inMain (emitted (action matches) d (the-ere r))
+    match-sound : (r : List ℕ) (d : ℕ) → Spelled edition s r → Sound inMain (emitted (action match) d (the-ere r))
     jump-sound : (m d : ℕ) → Sound inMain (emitted (flow jump) d (the-instruction m))
     branch-sound : (m d : ℕ) → Sound inMain (emitted (flow jump-if-false) d (the-instruction m))
     print-sound : (m d : ℕ) → 1 ≤ m → Sound inMain (emitted (action print) d (the-count m))
@@ -68,10 +68,10 @@ module _ (edition : ℕ) (s : List ℕ) (Q : List ℕ → Type 0) where
     exit-sound : Sound inMain (emitted (flow exit) 0 nothing)
 
   abbrev FineE : Expression → Type 0
-  FineE e = Fine edition s (Readable edition s) (IsName edition s) e
+  FineE e = Fine edition s (Spelled edition s) (IsName edition s) (Said edition s) e
 
   abbrev FineS : Bool → Statement → Type 0
-  FineS inMain a = FineStatement edition s (Readable edition s) (IsName edition s) (after-true edition s) (operand-true edition s) inMain a
+  FineS inMain a = FineStatement edition s (Spelled edition s) (IsName edition s) (Said edition s) (after-true edition s) (operand-true edition s) inMain a
 
   module _ (inMain : Bool) where
     abbrev pub AllSound : List Emitted → Type 0
@@ -105,8 +105,8 @@ module _ (edition : ℕ) (s : List ℕ) (Q : List ℕ → Type 0) where
 
     sound : (e : Expression) (n d : ℕ) → FineE e → Each Q (namesIn e) → AllSound (compile e n d)
     unfolding compile namesIn
-    sound (constant-of c) n d f q = (constant-sound c d, tt)
-    sound (ere r) n d f q = (constant-sound (number 0) d, (plain field (d + 1) refl refl, (matches-sound r (d + 1) f, tt)))
+    sound (constant-of c) n d f q = (constant-sound c d f, tt)
+    sound (ere r) n d f q = (constant-sound (number 0) d (omega arith), (plain field (d + 1) refl refl, (matches-sound r (d + 1) f, tt)))
     sound (variable v) n d f q = (get-sound v d f (q .0), tt)
     sound (parentheses e) n d f q = sound e n d f q
     sound (length-call e) n d f q = un e n d _ (sound e n d f q) (plain length-of (d + 1) refl refl)
@@ -136,7 +136,7 @@ module _ (edition : ℕ) (s : List ℕ) (Q : List ℕ → Type 0) where
         plus (compile a n d) (emit (flow jump-if-false) (d + 1) (the-instruction (m + 3)) ++ (code-b ++ tail)) (sound a n d (f .0) (lq (namesIn a) (namesIn b) q)) (
           branch-sound (m + 3) (d + 1),
           plus code-b tail (sound b (n + size a + 1) d (f .1) (rq (namesIn a) (namesIn b) q))
-              (plain negation (d + 1) refl refl, (plain negation (d + 1) refl refl, (jump-sound (m + 4) (d + 1), (constant-sound (number 0) d, tt)))),
+              (plain negation (d + 1) refl refl, (plain negation (d + 1) refl refl, (jump-sound (m + 4) (d + 1), (constant-sound (number 0) d (omega arith), tt)))),
         )
     sound (either a b) n d f q =
         let j : ℕ = n + size a + 3 in
@@ -145,7 +145,7 @@ module _ (edition : ℕ) (s : List ℕ) (Q : List ℕ → Type 0) where
         (sound a n d (f .0) (lq (namesIn a) (namesIn b) q)) (
           branch-sound j (d + 1),
           (
-            constant-sound (number 1) d,
+            constant-sound (number 1) d (omega arith),
             (
               jump-sound (j + size b + 2) (d + 1),
               plus code-b (doubleNot (d + 1)) (sound b j d (f .1) (rq (namesIn a) (namesIn b) q)) (plain negation (d + 1) refl refl, (plain negation (d + 1) refl refl, tt)),
@@ -157,7 +157,7 @@ module _ (edition : ℕ) (s : List ℕ) (Q : List ℕ → Type 0) where
         bin a b n d _ (sound a n d (f .0) (lq (namesIn a) (namesIn b) q)) (sound b (n + size a) (d + 1) (f .1) (rq (namesIn a) (namesIn b) q)) (plain set-field (d + 2) refl refl)
 
     abbrev FineAll : List Expression → Type 0
-    FineAll es = AllFineIn edition s (Readable edition s) (IsName edition s) (after-true edition s) (operand-true edition s) es
+    FineAll es = AllFineIn edition s (Spelled edition s) (IsName edition s) (Said edition s) (after-true edition s) (operand-true edition s) es
 
     sound-all : (es : List Expression) (n d : ℕ) → FineAll es → Each Q (namesInAll es) → AllSound (compileAll es n d)
     unfolding compileAll namesInAll
@@ -167,7 +167,7 @@ module _ (edition : ℕ) (s : List ℕ) (Q : List ℕ → Type 0) where
 
     sound-print : (es : List Expression) (n : ℕ) → FineAll es → Each Q (namesInAll es) → AllSound (compilePrint es n)
     unfolding compilePrint
-    sound-print [] n f q = (constant-sound (number 0) 0, (plain field 1 refl refl, (print-sound 1 1 (omega arith), tt)))
+    sound-print [] n f q = (constant-sound (number 0) 0 (omega arith), (plain field 1 refl refl, (print-sound 1 1 (omega arith), tt)))
     sound-print (e ∷ l) n f q = plus (compileAll (e ∷ l) n 0) (emit (action print) (length (e ∷ l)) (the-count (length (e ∷ l)))) (sound-all (e ∷ l) n 0 f q) (print-sound (length (e ∷ l)) (length (e ∷ l)) (omega arith), tt)
 
     pub sound-statement : (a : Statement) (n : ℕ) → FineS inMain a → Each Q (namesInStatement a) → AllSound (compileStatement a n)
@@ -210,10 +210,10 @@ module _ (edition : ℕ) (s : List ℕ) (Q : List ℕ → Type 0) where
   isMain end-section = false
 
   abbrev pub FineP : Program → Type 0
-  FineP p = FineProgram edition s (Readable edition s) (IsName edition s) (after-true edition s) (operand-true edition s) p
+  FineP p = FineProgram edition s (Spelled edition s) (IsName edition s) (Said edition s) (after-true edition s) (operand-true edition s) p
 
   abbrev FineI : Item → Type 0
-  FineI i = FineItem edition s (Readable edition s) (IsName edition s) (after-true edition s) (operand-true edition s) i
+  FineI i = FineItem edition s (Spelled edition s) (IsName edition s) (Said edition s) (after-true edition s) (operand-true edition s) i
 
   guarded-fine : (e : Option Expression) (a : Statement) → FineI (main e a) → FineS true (guarded e a)
   unfolding guarded
