@@ -1,2 +1,3 @@
--- The tables hold.
+-- The claim and the tables hold.
+pub mod Whole
 pub mod Tables

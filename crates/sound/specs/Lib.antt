@@ -1,4 +1,5 @@
--- Document 01's cases and rules as tables.
+-- Demand 3 as one claim; document 01's cases and rules as tables.
+pub mod Demand
 pub mod Text
 pub mod Assembler
 pub mod EightCases
