@@ -77,6 +77,7 @@ use Rattle.sound.specs.RunRows.{unset-users, record-ends, read-stops, st
 use Rattle.sound.specs.RunRows.{budgets}
 use Rattle.sound.specs.RunRows.{prints, arithmetic-codes, comparison-codes, text-codes, jumps, kept-operands}
 use Rattle.sound.specs.RunRows.{missing-things, no-rules}
+use Rattle.sound.proofs.Filter.{print-translates as translates}
 
 -- document 01's eight cases; the tables of values; the tables of runs
 pub computed : (Each OfCase eightCases)
@@ -144,7 +145,7 @@ unfolding lists-nth lists-oneOf lists-leading lists-many buffer-firstByte buffer
     semantics-runFor semantics-run semantics-specials semantics-specialCount semantics-specialOf
     semantics-assignable semantics-valueAt semantics-splitBy semantics-readRecord
 computed = (
-  (refl, (refl, (refl, (refl, ((refl, refl), ((refl, refl), ((refl, refl, refl), ((refl, refl), tt)))))))),
+  (refl, (refl, (refl, (refl, ((refl, refl), ((refl, refl), ((translates, refl, refl, refl), ((refl, refl), tt)))))))),
   (refl, (refl, (refl, (refl, (refl, (refl, (refl, tt))))))),
   (refl, (refl, (refl, (refl, tt)))),
   (refl, (refl, (refl, (refl, tt)))),

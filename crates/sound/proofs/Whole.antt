@@ -32,7 +32,8 @@ use Rattle.program_numbering.specs.Numbering.{imageOf}
 use Rattle.translation.specs.Translation.{Translation, translateOf}
 use Rattle.translation.proofs.Passes.{written-passes}
 use Rattle.translation.proofs.Forming.{compiled-reads}
-use Rattle.sound.specs.Demand.{Verdicts, Sound, Named, Spends, Finishes, Stops, EndsAt, Answered, WholeRun, Writes, Demand3}
+use Rattle.sound.specs.Demand.{Verdicts, Sound, Named, Spends, Finishes, Stops, EndsAt, Answered, WholeRun}
+use Rattle.sound.specs.Demand.{Writes, Demand3}
 
 -- ---- the checker
 
@@ -100,54 +101,63 @@ kindOf stuck = 3
 -- a run stops as one of its moves does
 stop-named : (i : Image) (n : ℕ) (c : Config) (x : Stop) (d : Config) → after i n c ≡ stops-at x d → StopOfRun x
 unfolding after
-stop-named i zero c x d h = let k : kindOf (continues c) ≡ kindOf (stops-at x d) = ap kindOf h in absurd (omega (arith, k))
+stop-named i zero c x d h =
+    let k : kindOf (continues c) ≡ kindOf (stops-at x d) = ap kindOf h in
+    absurd (omega (arith, k))
 stop-named i (suc n) c x d h = by (stop-named i n) (move i c) refl h
   where
     by : ((e : Config) (x : Stop) (d : Config) → after i n e ≡ stops-at x d → StopOfRun x)
         → (m : Move) → move i c ≡ m → onward (after i n) m ≡ stops-at x d → StopOfRun x
     by r (continues e) q k = r e x d k
-    by r (finishes e) q k = let z : kindOf (finishes e) ≡ kindOf (stops-at x d) = ap kindOf k in absurd (omega (arith, z))
+    by r (finishes e) q k =
+        let z : kindOf (finishes e) ≡ kindOf (stops-at x d) = ap kindOf k in
+        absurd (omega (arith, z))
     by r (stops-at y e) q k = stops-named i c x d (q ∙ k)
     by r stuck q k = let z : kindOf stuck ≡ kindOf (stops-at x d) = ap kindOf k in absurd (omega (arith, z))
 
 -- ---- the runner
+
+-- the answer with an outcome at a configuration
+abbrev answerAt : ℕ → Config → Answer
+answerAt o c =
+    let w = c .world in
+    record { outcome = o; steps = c .control .steps; records = w .feed .count; output = w .output .bytes }
 
 module _ (i : Image) (budget : ℕ) (start : Config) where
   named : (x : Stop) (c : Config) → Stops i budget start x c → Named (x .outcome)
   named x c h = stop-named i (h .moves) start x c (h .there) .outcome
 
   module _ (room : List ℕ) (a : Answer) where
+    outcome-is : (b : Answer) → some b ≡ some a → b .outcome ≡ a .outcome
+    outcome-is b h = ap (λ (x : Answer). x .outcome) (some-one refl h)
+
     -- by the ending that the answer is of
     to-spent : (e : Ending) → Ends i budget start e → answerOf e ≡ some a → a .outcome ≡ budgetSpent
         → (c : Config) × (Spends i budget start c)
     to-spent (spent c) h is q = (c, h)
-    to-spent (finished c) h is q = absurd (omega (arith, ap (λ (b : Answer). b .outcome) (some-one refl is), q))
-    to-spent (stopped x c) h is q =
-        absurd (omega (arith, ap (λ (b : Answer). b .outcome) (some-one refl is), q, named x c h .0))
+    to-spent (finished c) h is q = absurd (omega (arith, outcome-is _ is, q))
+    to-spent (stopped x c) h is q = absurd (omega (arith, outcome-is _ is, q, named x c h .0))
     to-spent no-rule h is q = absurd (none-some is)
 
     to-finished : (e : Ending) → Ends i budget start e → answerOf e ≡ some a → a .outcome ≡ done
         → (c : Config) × (Finishes i budget start c)
-    to-finished (spent c) h is q = absurd (omega (arith, ap (λ (b : Answer). b .outcome) (some-one refl is), q))
+    to-finished (spent c) h is q = absurd (omega (arith, outcome-is _ is, q))
     to-finished (finished c) h is q = (c, h)
-    to-finished (stopped x c) h is q =
-        absurd (omega (arith, ap (λ (b : Answer). b .outcome) (some-one refl is), q, named x c h .0))
+    to-finished (stopped x c) h is q = absurd (omega (arith, outcome-is _ is, q, named x c h .0))
     to-finished no-rule h is q = absurd (none-some is)
 
     to-stopped : (e : Ending) → Ends i budget start e → answerOf e ≡ some a → (o : ℕ) → Named o → a .outcome ≡ o
         → (x : Stop) × (c : Config) × (Stops i budget start x c) × (x .outcome ≡ o)
-    to-stopped (spent c) h is o n q =
-        absurd (omega (arith, ap (λ (b : Answer). b .outcome) (some-one refl is), q, n .0))
-    to-stopped (finished c) h is o n q =
-        absurd (omega (arith, ap (λ (b : Answer). b .outcome) (some-one refl is), q, n .0))
-    to-stopped (stopped x c) h is o n q = (x, c, h, ap (λ (b : Answer). b .outcome) (some-one refl is) ∙ q)
+    to-stopped (spent c) h is o n q = absurd (omega (arith, outcome-is _ is, q, n .0))
+    to-stopped (finished c) h is o n q = absurd (omega (arith, outcome-is _ is, q, n .0))
+    to-stopped (stopped x c) h is o n q = (x, c, h, outcome-is _ is ∙ q)
     to-stopped no-rule h is o n q = absurd (none-some is)
 
     to-one : (e : Ending) → Ends i budget start e → answerOf e ≡ some a
         → (a .outcome ≡ budgetSpent) ⊎ ((a .outcome ≡ done) ⊎ (Named (a .outcome)))
-    to-one (spent c) h is = inl (sym (ap (λ (b : Answer). b .outcome) (some-one refl is)))
-    to-one (finished c) h is = inr (inl (sym (ap (λ (b : Answer). b .outcome) (some-one refl is))))
-    to-one (stopped x c) h is = inr (inr (subst Named (ap (λ (b : Answer). b .outcome) (some-one refl is)) (named x c h)))
+    to-one (spent c) h is = inl (sym (outcome-is _ is))
+    to-one (finished c) h is = inr (inl (sym (outcome-is _ is)))
+    to-one (stopped x c) h is = inr (inr (subst Named (outcome-is _ is) (named x c h)))
     to-one no-rule h is = absurd (none-some is)
 
     module _ (e : Ending) (ends : Ends i budget start e) (is : answerOf e ≡ some a) where
@@ -155,36 +165,37 @@ module _ (i : Image) (budget : ℕ) (start : Config) where
       any : (f : Ending) → Ends i budget start f → answerOf f ≡ some a
       any f h = ap answerOf (ends-one i budget start f e h ends) ∙ is
 
-      -- the answer at a configuration, whatever the outcome
-      of-point : {A : Type 0} (get : Answer → A) (have : Config → A)
-          → ((o : ℕ) (c : Config) → get (record { outcome = o; steps = c .control .steps; records = c .world .feed .count; output = c .world .output .bytes }) ≡ have c)
-          → (c : Config) → EndsAt i budget start c → get a ≡ have c
-      of-point get have same c p =
-          ⊎-elim (λ h. sym (ap get (some-one refl (any (spent c) h))) ∙ same budgetSpent c)
-          (λ q. ⊎-elim (λ h. sym (ap get (some-one refl (any (finished c) h))) ∙ same done c)
-          (λ h. sym (ap get (some-one refl (any (stopped (h .0) c) (h .1)))) ∙ same (h .0 .outcome) c) q) p
+      -- the answer is that at the configuration where the run ends
+      point : (c : Config) → EndsAt i budget start c → (o : ℕ) × (answerAt o c ≡ a)
+      point c p =
+          ⊎-elim (λ h. (budgetSpent, some-one refl (any (spent c) h)))
+          (λ q. ⊎-elim (λ h. (done, some-one refl (any (finished c) h)))
+          (λ h. (h .0 .outcome, some-one refl (any (stopped (h .0) c) (h .1)))) q) p
+
+      at-point : {A : Type 0} (get : Answer → A) (c : Config) (p : EndsAt i budget start c)
+          → get a ≡ get (answerAt (point c p .0) c)
+      at-point get c p = sym (ap get (point c p .1))
 
       answered : Answered i budget start room (resultOf room a)
       answered =
           record {
             spent = (
               to-spent e ends is,
-              (λ p. sym (ap (λ (b : Answer). b .outcome) (some-one refl (any (spent (p .0)) (p .1))))),
+              (λ p. sym (outcome-is _ (any (spent (p .0)) (p .1)))),
             );
             finished = (
               to-finished e ends is,
-              (λ p. sym (ap (λ (b : Answer). b .outcome) (some-one refl (any (finished (p .0)) (p .1))))),
+              (λ p. sym (outcome-is _ (any (finished (p .0)) (p .1)))),
             );
             stopped = λ o n. (
               to-stopped e ends is o n,
-              (λ p. sym (ap (λ (b : Answer). b .outcome) (some-one refl (any (stopped (p .0) (p .1)) (p .2)))) ∙ p .3),
+              (λ p. sym (outcome-is _ (any (stopped (p .0) (p .1)) (p .2))) ∙ p .3),
             );
             nothing-else = to-one e ends is;
-            steps = of-point (λ b. b .steps) (λ c. c .control .steps) (λ o c. refl);
-            records = of-point (λ b. b .records) (λ c. c .world .feed .count) (λ o c. refl);
-            bytes = of-point (λ b. length (b .output)) (λ c. length (c .world .output .bytes)) (λ o c. refl);
-            output = λ c p. ap (λ (l : List ℕ). l ++ drop (length (a .output)) room)
-                (of-point (λ b. b .output) (λ c. c .world .output .bytes) (λ o c. refl) c p);
+            steps = at-point (λ b. b .steps);
+            records = at-point (λ b. b .records);
+            bytes = at-point (λ b. length (b .output));
+            output = at-point (λ b. b .output ++ drop (length (a .output)) room);
           }
 
 whole : (bytes : List ℕ) → checkOf bytes ≡ done → (feed : Feed) (room : List ℕ) (size budget : ℕ) → workingRoom ≤ size
@@ -193,7 +204,7 @@ whole bytes h feed room size budget large =
     let p = verdicts bytes .passes .0 h in
     let i = p .0 in
     let ok = check-exactly i .1 (p .2) in
-    let a = run-exactly bytes i (p .1) ok feed room size budget (omega (arith, large)) in
+    let a = run-exactly bytes i (p .1) ok feed room size budget large in
     record {
       image = i;
       reads = p .1;
@@ -237,4 +248,9 @@ writes text room bytes h =
 -- ---- the whole
 
 pub demand-3 : Demand3
-demand-3 = record { checker = verdicts; runner = whole; translator = writes }
+demand-3 =
+    record {
+      checker = verdicts;
+      runner = λ bytes h feed room size budget large. whole bytes h feed room size budget (omega (arith, large));
+      translator = writes;
+    }

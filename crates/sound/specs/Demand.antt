@@ -1,5 +1,6 @@
--- Document 01, demand 3: "one claim about whole runs", from bytes. What the public checker, runner and translator answer
--- is `checkOf`, `runOf` and `translateOf`, by their contracts; the definition's run, which has no budget, is `after`.
+-- Document 01, "Promises": "Demand 3 is one claim about whole runs", here from bytes. What the public checker, runner
+-- and translator answer is `checkOf`, `runOf` and `translateOf`, by their contracts; the definition's run, which has no
+-- budget, is `after`.
 use mathlib.Core.Path.{_≡_}
 use mathlib.Core.Bool.{true}
 use mathlib.Core.Logic.{_↔_, _⊎_}

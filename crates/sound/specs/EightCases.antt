@@ -2,11 +2,12 @@
 -- are numbers.
 use mathlib.Core.Path.{_≡_}
 use mathlib.Core.Bool.{true}
-use mathlib.Core.List.{List, [], _∷_, map}
+use mathlib.Core.List.{List, [], _∷_, _++_, map}
 use mathlib.Core.Option.{Option, some, none}
-use Prim.Native.Nat.{ℕ}
+use Prim.Native.Nat.{ℕ, _≤_}
 use Prim.Native.String.{String}
 use lib.IntN.{ℤ, pos}
+use lib.ListN.{length, drop}
 use Rattle.edition.specs.Outcomes.{done, budgetSpent, numberOutOfRange}
 use Rattle.ere_grammar.specs.Read.{readEre}
 use Rattle.splitting.specs.Splitting.{Split, fields, long-record, bad-separator, many-fields, splitOf}
@@ -24,6 +25,7 @@ use Rattle.semantics.specs.World.{startOf, valueAt}
 use Rattle.semantics.specs.Operations.{Effect, byEre, matchMarked}
 use Rattle.semantics.specs.Check.{check}
 use Rattle.semantics.specs.Run.{Answer, answerOf, run}
+use Rattle.translation.specs.Translation.{translateOf}
 use Rattle.sound.specs.Text.{bytes, minus}
 use Rattle.sound.specs.Assembler.{constant, field, print, whole, image}
 
@@ -74,10 +76,16 @@ pub data Case : Type 0 where
   -- two cases of one row
   both : Case → Case → Case
 
--- The bytes are those of the image, read and written, and the image passes the check. That the filter's translation is
--- these bytes joins when there is a translator.
+-- The filter is translated to these bytes, in any room that has as many: "On 0 the place is the image's length, the
+-- room beyond untouched." They are those of the image, read and written, and the image passes the check.
 abbrev pub Translates : String → List ℕ → Image → Type 0
-Translates filter hex i = (readImage fromBytes hex ≡ some i) × (bytesOf i ≡ hex) × (check i ≡ true)
+Translates filter hex i =
+    ((room : List ℕ) → length hex ≤ length room
+    → translateOf 1 (bytes filter) room
+    ≡ record { outcome = done; place = length hex; room = hex ++ drop (length hex) room })
+    × (readImage fromBytes hex ≡ some i)
+    × (bytesOf i ≡ hex)
+    × (check i ≡ true)
 
 abbrev pub Claim : Case → Type 0
 Claim (splits fs line texts) = fieldTexts (bytes line) (splitOf 1 (bytes fs) (bytes line)) ≡ some (map bytes texts)
@@ -91,6 +99,10 @@ Claim (runs hex input budget outcome steps records output) =
     ranOf (readImage fromBytes hex) (bytes input) budget
     ≡ some (record { outcome = outcome; steps = steps; records = records; output = bytes output })
 Claim (both c d) = (Claim c) × (Claim d)
+
+-- "`{ print }`"
+abbrev pub printFilter : String
+printFilter = "{ print }"
 
 -- "01 00 01 00 00 00 01 00 00 04 01 00 00 04 01 1D 01 01 00 00 01 00 00"
 abbrev pub printImage : List ℕ
@@ -109,7 +121,7 @@ eightCases =
     ∷ both
     (adds "9007199254740992" 0 (gives (number (pos 9007199254740992))))
     (adds "9007199254740992" 1 (stops (stop numberOutOfRange)))
-    ∷ translates "{ print }" printImage
+    ∷ translates printFilter printImage
     (image 0 (whole 0 ∷ []) [] [] (constant 0 ∷ field ∷ print 1 ∷ []) [])
     ∷ both
     (runs printImage "a\nb\n" 10 done 10 2 "a\nb\n")
