@@ -59,7 +59,7 @@ EXPLAINED = {
     ('image_format', 'Numbers', 'takeNumber'): (('image_format', 'Numbers', ['Coded']), 'number-back number-only'),
 }
 
-# definitions of entries that are to come: what a reader has to believe of them is counted when the entries are there
+# crates of an entry that is to come, and of claims about it: what the claims reach is counted, but no file is asked for its mark yet
 TO_COME = {'program_tokens', 'program_tree', 'program_grammar', 'program_reader', 'program_code', 'program_numbering', 'translation', 'sound'}
 
 NAME = r"[^\s(){};,.λ\"⌜⌝⟦⟧]+"

@@ -60,16 +60,16 @@ Named outcome = (numberOutOfRange ≤ outcome) × (outcome ≤ badSeparator)
 
 -- how the definition's run ends with a budget, and at which configuration
 module _ (i : Image) (budget : ℕ) (start : Config) where
-  -- after as many steps as the budget it has neither finished nor stopped, and no other record is read: "Budget is
+  -- after as many steps as the budget, before another record is read, it has neither finished nor stopped: "Budget is
   -- tested before each instruction and each record read."
   abbrev pub Spends : Config → Type 0
   Spends c = (Comes i budget start (continues c)) × (c .control .steps ≡ budget)
 
-  -- it has finished
+  -- it has finished, with no such configuration before
   abbrev pub Finishes : Config → Type 0
   Finishes c = Comes i budget start (finishes c)
 
-  -- it has stopped
+  -- it has stopped, alike
   abbrev pub Stops : Stop → Config → Type 0
   Stops x c = Comes i budget start (stops-at x c)
 
@@ -124,8 +124,8 @@ pub record Writes (text room : List ℕ) (x : Translation) : Type 0 where
 pub record Demand3 : Type 0 where
   -- what the public checker answers for any bytes
   pub checker : (bytes : List ℕ) → Verdicts bytes
-  -- for any bytes that it passes, any lines, output room, budget and at least 49,152 bytes of working room: the
-  -- definition is never stuck, and the runner answers what it comes to
+  -- for any bytes that it passes, any lines (`oneFeed lines`, or what is left of them), output room, budget and at least
+  -- 49,152 bytes of working room: the definition is never stuck, and the runner answers what it comes to
   pub runner : (bytes : List ℕ) → checkOf bytes ≡ done → (feed : Feed) (room : List ℕ) (size budget : ℕ)
       → workingRoom ≤ size → WholeRun bytes feed room size budget
   -- every image that the translator writes, of any text of bytes, passes
