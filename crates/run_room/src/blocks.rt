@@ -17,8 +17,8 @@ fn move_16(s: &mut [u8], from: usize, to: usize)
     buffer::put_word(s, to + 8, b);
 }
 
-// Copies `n` bytes, and those after them up to a multiple of 16, to a lower index or to one after them.
-pub fn copy_blocks(s: &mut [u8], from: usize, to: usize, n: usize)
+// Copies `n` bytes, and those after them up to a multiple of 16, one block after the other.
+fn copy_long(s: &mut [u8], from: usize, to: usize, n: usize)
     requires { ⌜ (from + n + 15 ≤ length (now s)) × (to + n + 15 ≤ length (now s)) × ((to ≤ from) ⊎ (from + n + 15 ≤ to)) ⌝ }
     ensures { λ _. ⌜ now (s .exit) ≡ put (now (s .entry)) to (part from (blocks n) (now (s .entry))) ⌝ }
 {
@@ -26,5 +26,20 @@ pub fn copy_blocks(s: &mut [u8], from: usize, to: usize, n: usize)
     while k < n {
         move_16(s, from + k, to + k);
         k += 16;
+    }
+}
+
+// Copies `n` bytes, and those after them up to a multiple of 16, to a lower index or to one after them. Most texts fit
+// one block.
+pub fn copy_blocks(s: &mut [u8], from: usize, to: usize, n: usize)
+    requires { ⌜ (from + n + 15 ≤ length (now s)) × (to + n + 15 ≤ length (now s)) × ((to ≤ from) ⊎ (from + n + 15 ≤ to)) ⌝ }
+    ensures { λ _. ⌜ now (s .exit) ≡ put (now (s .entry)) to (part from (blocks n) (now (s .entry))) ⌝ }
+{
+    if 16 < n {
+        copy_long(s, from, to, n);
+        return;
+    }
+    if 0 < n {
+        move_16(s, from, to);
     }
 }
