@@ -4,3 +4,4 @@ pub mod Sets
 pub mod Layout
 pub mod Automaton
 pub mod Follows
+pub mod Scan

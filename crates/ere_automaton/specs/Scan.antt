@@ -1,0 +1,47 @@
+-- Internal: cited by private contracts only. What the parts of a search give: the state after some bytes, and the places
+-- at which no match starts, by the bytes there.
+use mathlib.Core.Path.{_≡_}
+use mathlib.Core.Bool.{Bool, false, _&&_, _||_}
+use mathlib.Core.List.{List}
+use Prim.Native.Nat.{ℕ, zero, suc, _+_, _-_, _%_, _≤_, _<_}
+use lib.ListN.{length, getD}
+use lib.Dec.{leb}
+use Rattle.ere_automaton.specs.Layout.{nextIn}
+
+-- the state after n bytes of x from index i on
+unfoldable pub runs : List ℕ → List ℕ → ℕ → ℕ → ℕ → ℕ
+runs d x i s zero = s
+runs d x i s (suc n) = nextIn d (runs d x i s n) (getD x (i + n) 0)
+
+-- a byte is among those from `low` on, `width` more than one; after 255 comes 0
+abbrev pub inRange : ℕ → ℕ → ℕ → Bool
+inRange low width b = leb ((b + 256 - low) % 256) width
+
+-- the ranges of a match's first two bytes
+pub record Ranges : Type 0 where
+  pub low : ℕ
+  pub width : ℕ
+  pub nextLow : ℕ
+  pub nextWidth : ℕ
+
+abbrev pub ranges : ℕ → ℕ → ℕ → ℕ → Ranges
+ranges low width nextLow nextWidth = record { low = low; width = width; nextLow = nextLow; nextWidth = nextWidth }
+
+-- the bytes b and c may be the first of a match
+abbrev pub begin : Ranges → ℕ → ℕ → Bool
+begin g b c = inRange (g .low) (g .width) b && inRange (g .nextLow) (g .nextWidth) c
+
+-- a match may start at one of n places of x from index i on
+unfoldable pub starts : Ranges → List ℕ → ℕ → ℕ → Bool
+starts g x i zero = false
+starts g x i (suc n) = starts g x i n || begin g (getD x (i + n) 0) (getD x (i + n + 1) 0)
+
+-- r is not before `from`, and no match starts between them; each place there has a byte after it
+pub record Skipped (g : Ranges) (x : List ℕ) (from r : ℕ) : Type 0 where
+  pub on : from ≤ r
+  pub short : from < r → r < length x
+  pub none : (j : ℕ) → from ≤ j → j < r → begin g (getD x j 0) (getD x (j + 1) 0) ≡ false
+
+-- the ranges that an automaton has; a byte of each word
+abbrev pub rangesOf : List ℕ → Ranges
+rangesOf d = ranges (getD d 6 0 % 256) (getD d 7 0 % 256) (getD d 8 0 % 256) (getD d 9 0 % 256)
