@@ -66,3 +66,14 @@ skipped-more g x from i n S h e =
 
 pub skipped-none : (g : Ranges) (x : List ℕ) (i : ℕ) → Skipped g x i i
 skipped-none g x i = record { on = le-refl i; short = λ l. absurd (omega arith); none = λ j a b. absurd (omega arith) }
+
+-- it is in the text
+pub skipped-inside : (g : Ranges) (x : List ℕ) (i r : ℕ) → Skipped g x i r → i ≤ length x → r ≤ length x
+skipped-inside g x i r S h =
+    elim (decLt i r) [ yes l ↦ let m = S .short l in omega arith | no l ↦ omega (arith, S .on) ]
+
+-- the places before the last, if they are among those passed
+pub skipped-last : (g : Ranges) (x : List ℕ) (from i r last : ℕ) → Skipped g x from r → from ≤ i → i ≤ last
+    → last ≤ r → last < length x → Skipped g x i last
+skipped-last g x from i r last S a b c h =
+    record { on = b; short = λ l. h; none = λ j k l. S .none j (omega arith) (omega arith) }

@@ -20,8 +20,12 @@ row-fits d q S =
     let e : suc n * w ≡ w * n + w = mul-comm (suc n) w ∙ mul-suc w n in
     omega (arith, S .is)
 
+-- the word of the text's end
+pub end-fits : (d : List ℕ) (q : ℕ) → State d q → q + classCount d < length d
+end-fits d q S = omega (arith, row-fits d q S)
+
 module _ (d : List ℕ) (R : Ranged d) where
-  -- the state after a byte, and the end's mark
+  -- the state after a byte
   pub next-fits : (q b : ℕ) → State d q → b < 256 → q + classIn d b < length d
   next-fits q b S h = omega (arith, row-fits d q S, R .classes b h)
 
