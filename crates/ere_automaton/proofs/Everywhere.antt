@@ -3,7 +3,7 @@
 use mathlib.Core.Path.{_≡_, refl, sym, ap, subst, _∙_}
 use mathlib.Core.Bool.{Bool, true, false, cond}
 use mathlib.Core.Logic.{_⊎_, inl, inr}
-use mathlib.Core.List.{List, [], _∷_}
+use mathlib.Core.List.{List, []}
 use Prim.Native.Nat.{ℕ, zero, suc, _+_, _<_}
 use native.Mathlib.Nat.{le-refl}
 use native.Mathlib.Omega.{arith}
@@ -11,7 +11,7 @@ use native.Mathlib.Decide.{ℕ-discrete}
 use lib.ListN.{length, getD, drop, drop-of-length-le}
 use lib.Seq.{drop-cons}
 use borrow.Author.Tests.{ne-eqb}
-use Rattle.ere_table.specs.Table.{row, join, noPlace}
+use Rattle.ere_table.specs.Table.{row, join}
 use Rattle.ere_table.specs.Wiring.{stopIn}
 use Rattle.ere_search.specs.Walk.{step}
 use Rattle.ere_search.specs.Any.{Exists}
@@ -38,7 +38,8 @@ module _ (t text : List ℕ) where
       ap (λ (x : Bool). join (step t (allAt t text i) (getD text i 0)) (row t (cond x 0 1)))
       (sym (ne-eqb (suc i) 0 (omega arith)))
 
-  met-next : (i : ℕ) (s : List ℕ) → ((k : ℕ) → k < i → stopIn (allAt t text k) false ≡ false) → s ≡ collapsed (allAt t text i)
+  met-next : (i : ℕ) (s : List ℕ) → ((k : ℕ) → k < i → stopIn (allAt t text k) false ≡ false)
+      → s ≡ collapsed (allAt t text i)
       → Met (suc i) (after t s (getD text i 0))
   met-next i s before e = by (stopIn (allAt t text i) false) refl
     where
@@ -49,7 +50,9 @@ module _ (t text : List ℕ) where
       stopped x h = ap (λ (u : List ℕ). stopIn u false) e ∙ collapsed-stops (allAt t text i) false ∙ h
 
       by : (x : Bool) → stopIn (allAt t text i) false ≡ x → Met (suc i) (after t s b)
-      by true h = inl (i, le-refl (suc i), h, ap (λ (u : List ℕ). stopIn u false) (after-ended t s (stopped true h) b) ∙ stopped true h)
+      by true h =
+          let same = after-ended t s (stopped true h) b in
+          inl (i, le-refl (suc i), h, ap (λ (u : List ℕ). stopIn u false) same ∙ stopped true h)
       by false h =
           inr (
             (λ k l. elim (ℕ-discrete k i) [
@@ -64,7 +67,8 @@ module _ (t text : List ℕ) where
   abbrev To : ℕ → List ℕ → Type 0
   To i s = Fair (walk t s (drop i text)) → Exists t text (answer t s (drop i text))
 
-  early : (i : ℕ) (s : List ℕ) (k : ℕ) → k < length text → stopIn (allAt t text k) false ≡ true → stopIn s false ≡ true → To i s
+  early : (i : ℕ) (s : List ℕ) (k : ℕ) → k < length text → stopIn (allAt t text k) false ≡ true
+      → stopIn s false ≡ true → To i s
   early i s k h m e fair =
       subst (Exists t text) (sym (fair (ap (λ (u : List ℕ). stopIn u false) (absorbing t s e (drop i text)) ∙ e)))
       (stops-early t text k h (λ S. m))

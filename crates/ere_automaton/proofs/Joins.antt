@@ -54,13 +54,19 @@ three : {a b c x y z : ℕ} → a ≡ x → b ≡ y → c ≡ z → _≡_ {A = L
 three p q r = cc
 
 join-left : (o p r : List ℕ) → join (join o r) p ≡ join (join o p) r
-join-left o p r = three (word-left (getD o 0 0) (getD p 0 0) _) (word-left (getD o 1 0) (getD p 1 0) _) (word-left (getD o 2 0) (getD p 2 0) _)
+join-left o p r =
+    three (word-left (getD o 0 0) (getD p 0 0) _) (word-left (getD o 1 0) (getD p 1 0) _)
+    (word-left (getD o 2 0) (getD p 2 0) _)
 
 join-right : (o p r : List ℕ) → join o (join p r) ≡ join (join o p) r
-join-right o p r = three (word-right (getD o 0 0) (getD p 0 0) _) (word-right (getD o 1 0) (getD p 1 0) _) (word-right (getD o 2 0) (getD p 2 0) _)
+join-right o p r =
+    three (word-right (getD o 0 0) (getD p 0 0) _) (word-right (getD o 1 0) (getD p 1 0) _)
+    (word-right (getD o 2 0) (getD p 2 0) _)
 
 join-both : (o p r : List ℕ) → join (join o r) (join p r) ≡ join (join o p) r
-join-both o p r = three (word-both (getD o 0 0) (getD p 0 0) _) (word-both (getD o 1 0) (getD p 1 0) _) (word-both (getD o 2 0) (getD p 2 0) _)
+join-both o p r =
+    three (word-both (getD o 0 0) (getD p 0 0) _) (word-both (getD o 1 0) (getD p 1 0) _)
+    (word-both (getD o 2 0) (getD p 2 0) _)
 
 -- nothing more
 pub join-none : (r : List ℕ) → join noPlace r ≡ getD r 0 0 ∷ getD r 1 0 ∷ getD r 2 0 ∷ []
@@ -89,7 +95,7 @@ word-join t b x y w o p zero = refl
 word-join t b x y w o p (suc n) =
     ap₂ (λ (c : Bool) (out : List ℕ). cond c (put t out b (64 * w + n)) out) (bit-or x y n) (word-join t b x y w o p n)
     ∙ one (bit x n) (bit y n) (acceptsAt t (64 * w + n) b) (stepWord t b x w o n) (stepWord t b y w p n)
-      (row t (64 * w + n + 2))
+    (row t (64 * w + n + 2))
 
 pub step-join : (t u v : List ℕ) (b : ℕ) → step t (join u v) b ≡ join (step t u b) (step t v b)
 step-join t u v b =
@@ -98,4 +104,4 @@ step-join t u v b =
     (ap (λ (o : List ℕ). stepWord t b (bitOr (getD u 0 0) (getD v 0 0)) 0 o 64) none
     ∙ word-join t b (getD u 0 0) (getD v 0 0) 0 noPlace noPlace 64)
     ∙ word-join t b (getD u 1 0) (getD v 1 0) 1 (stepWord t b (getD u 0 0) 0 noPlace 64)
-      (stepWord t b (getD v 0 0) 0 noPlace 64) 64
+    (stepWord t b (getD v 0 0) 0 noPlace 64) 64

@@ -1,6 +1,6 @@
 -- A range of bytes, as it is asked for and as it is meant.
-use mathlib.Core.Path.{_≡_, refl, sym, ap, ap₂, subst, _∙_}
-use mathlib.Core.Bool.{Bool, true, false, _&&_, _||_}
+use mathlib.Core.Path.{_≡_, sym, ap, ap₂, subst, _∙_}
+use mathlib.Core.Bool.{Bool, false, _&&_, _||_}
 use mathlib.Core.List.{List}
 use Prim.Native.Nat.{ℕ, zero, suc, _+_, _-_, _%_, _≤_, _<_}
 use native.Mathlib.Nat.{le-refl}
@@ -13,17 +13,18 @@ use Rattle.lists.proofs.Tests.{and-true, and-of, or-false, same-test}
 use Rattle.ere_automaton.specs.Automaton.{within, firstByte, secondByte, Hull}
 use Rattle.ere_automaton.specs.Scan.{Ranges, inRange, rangesOf, begin, starts, Skipped}
 
-pub range-within : (low width b : ℕ) → b < 256 → low + width < 256 → inRange (low % 256) (width % 256) b ≡ within low width b
+pub range-within : (low width b : ℕ) → b < 256 → low + width < 256
+    → inRange (low % 256) (width % 256) b ≡ within low width b
 range-within low width b h k =
     same-test (inRange (low % 256) (width % 256) b) (within low width b)
     (λ e.
-      let l = leb-true ((b + 256 - low % 256) % 256) (width % 256) e in
-      and-of (leb low b) (leb b (low + width)) (le-leb low b (omega arith)) (le-leb b (low + width) (omega arith)))
+    let l = leb-true ((b + 256 - low % 256) % 256) (width % 256) e in
+    and-of (leb low b) (leb b (low + width)) (le-leb low b (omega arith)) (le-leb b (low + width) (omega arith)))
     (λ e.
-      let m = and-true (leb low b) (leb b (low + width)) e in
-      let x = leb-true low b (m .0) in
-      let y = leb-true b (low + width) (m .1) in
-      le-leb ((b + 256 - low % 256) % 256) (width % 256) (omega arith))
+    let m = and-true (leb low b) (leb b (low + width)) e in
+    let x = leb-true low b (m .0) in
+    let y = leb-true b (low + width) (m .1) in
+    le-leb ((b + 256 - low % 256) % 256) (width % 256) (omega arith))
 
 pub begin-hull : (t d : List ℕ) → Hull t d → (b c : ℕ) → b < 256 → c < 256
     → begin (rangesOf d) b c ≡ (firstByte d b && secondByte d c)

@@ -1,14 +1,14 @@
 -- Where nothing is pending, a byte with which no match starts changes nothing.
 use mathlib.Core.Path.{_≡_, refl, sym, ap, ap₂, subst, _∙_}
-use mathlib.Core.Bool.{Bool, true, false, true≢false, _&&_, _||_}
-use mathlib.Core.List.{List, [], _∷_}
+use mathlib.Core.Bool.{Bool, true, false, _&&_, _||_}
+use mathlib.Core.List.{List, _∷_}
 use Prim.Native.Nat.{ℕ, zero, suc, _+_, _-_, _≤_, _<_}
 use native.Mathlib.Nat.{add-zero, le-refl}
 use native.Mathlib.Numerals.{add-one}
 use native.Mathlib.Omega.{arith}
 use lib.ListN.{length, getD, drop}
 use lib.Seq.{drop-cons}
-use Rattle.ere_table.specs.Table.{row, join, noPlace}
+use Rattle.ere_table.specs.Table.{row, join}
 use Rattle.ere_table.specs.Wiring.{stopIn}
 use Rattle.ere_table.proofs.Sets.{mem-join}
 use Rattle.ere_search.specs.Walk.{step}
@@ -43,7 +43,7 @@ module _ (t d : List ℕ) (H : Hull t d) where
         ap (λ (u : List ℕ). after t u c) one
         ∙ after-open t (join X R) still c
         ∙ ap (λ (u : List ℕ). collapsed (join u R))
-          (step-join t X R c ∙ ap (λ (u : List ℕ). join u (step t R c)) (H .second b c hb hc h))
+        (step-join t X R c ∙ ap (λ (u : List ℕ). join u (step t R c)) (H .second b c hb hc h))
         ∙ ap collapsed (join-nothing (step t R c) R)
         ∙ sym (after-open t R not-yet c)
 

@@ -1,8 +1,8 @@
 -- The rows of states lie inside the words; a run of states goes on in states.
-use mathlib.Core.Path.{_≡_, refl, sym, ap, ap₂, _∙_}
-use mathlib.Core.Bool.{Bool, true, false, cond}
+use mathlib.Core.Path.{_≡_, sym, ap, ap₂, _∙_}
+use mathlib.Core.Bool.{Bool, false, cond}
 use mathlib.Core.List.{List}
-use Prim.Native.Nat.{ℕ, zero, suc, _+_, _-_, _*_, _/_, _≤_, _<_}
+use Prim.Native.Nat.{ℕ, zero, suc, _+_, _-_, _*_, _≤_, _<_}
 use native.Mathlib.Nat.{le-div-iff-mul-le, mul-comm, mul-suc, mul-le-mul-left}
 use native.Mathlib.Omega.{arith}
 use lib.ListN.{length, getD}
@@ -16,7 +16,8 @@ pub row-fits : (d : List ℕ) (q : ℕ) → State d q → q + strideOf d ≤ len
 row-fits d q S =
     let n = S .number in
     let w = strideOf d in
-    let h : suc n * w ≤ length d - rowsAt = le-div-iff-mul-le {k = w} {x = suc n} {y = length d - rowsAt} (omega arith) .0 (S .low) in
+    let h : suc n * w ≤ length d - rowsAt =
+    le-div-iff-mul-le {k = w} {x = suc n} {y = length d - rowsAt} (omega arith) .0 (S .low) in
     let e : suc n * w ≡ w * n + w = mul-comm (suc n) w ∙ mul-suc w n in
     omega (arith, S .is)
 
@@ -35,7 +36,8 @@ module _ (d : List ℕ) (R : Ranged d) where
   pair-fits q k b c S ek hb hc h =
       let y = classIn d b in
       let w : strideOf d ≡ k + 1 + k * k =
-      ap (λ (x : Bool). classCount d + 1 + cond x 0 (classCount d * classCount d)) h ∙ ap (λ (n : ℕ). n + 1 + n * n) (sym ek) in
+      ap (λ (x : Bool). classCount d + 1 + cond x 0 (classCount d * classCount d)) h
+      ∙ ap (λ (n : ℕ). n + 1 + n * n) (sym ek) in
       let low : suc y ≤ k = omega (arith, R .classes b hb) in
       let m : k * suc y ≤ k * k = mul-le-mul-left k low in
       let e : k * suc y ≡ y * k + k = mul-suc k y ∙ ap (λ (x : ℕ). x + k) (mul-comm k y) in

@@ -9,7 +9,8 @@ use Rattle.ere_table.specs.Table.{row, noPlace}
 use Rattle.ere_table.specs.Wiring.{stopIn}
 use Rattle.ere_search.specs.Walk.{step}
 use Rattle.ere_automaton.specs.Sets.{collapsed, after}
-use Rattle.ere_automaton.specs.Layout.{classCount, firstState, laterState, acceptedState, pairsWord, skipsWord, classIn, strideOf, rowsAt, State, nextIn, pairIn, endWord}
+use Rattle.ere_automaton.specs.Layout.{classCount, firstState, laterState, acceptedState, pairsWord, skipsWord}
+use Rattle.ere_automaton.specs.Layout.{rowsAt, classIn, State, nextIn, pairIn, endWord}
 
 -- each word that is a state is one, each class has its words
 pub record Ranged (d : List ℕ) : Type 0 where

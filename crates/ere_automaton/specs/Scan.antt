@@ -1,12 +1,19 @@
--- Internal: cited by private contracts only. What the parts of a search give: the state after some bytes, and the places
--- at which no match starts, by the bytes there.
+-- Internal: cited by private contracts only. What the parts of a search ask and give: the state after some bytes, and
+-- the places at which no match starts, by the bytes there.
 use mathlib.Core.Path.{_≡_}
 use mathlib.Core.Bool.{Bool, false, _&&_, _||_}
 use mathlib.Core.List.{List}
-use Prim.Native.Nat.{ℕ, zero, suc, _+_, _-_, _%_, _≤_, _<_}
+use Prim.Native.Nat.{ℕ, zero, suc, _+_, _-_, _%_, _^_, _≤_, _<_}
 use lib.ListN.{length, getD}
 use lib.Dec.{leb}
-use Rattle.ere_automaton.specs.Layout.{nextIn}
+use Rattle.ere_automaton.specs.Layout.{classCount, State, nextIn}
+use Rattle.ere_automaton.specs.Automaton.{Ranged}
+
+-- s is a state, and there are k classes
+pub record Ready (d : List ℕ) (k s : ℕ) : Type 0 where
+  pub ranged : Ranged d
+  pub state : State d s
+  pub classes : k ≡ classCount d
 
 -- the state after n bytes of x from index i on
 unfoldable pub runs : List ℕ → List ℕ → ℕ → ℕ → ℕ → ℕ
@@ -41,6 +48,13 @@ pub record Skipped (g : Ranges) (x : List ℕ) (from r : ℕ) : Type 0 where
   pub on : from ≤ r
   pub short : from < r → r < length x
   pub none : (j : ℕ) → from ≤ j → j < r → begin g (getD x j 0) (getD x (j + 1) 0) ≡ false
+
+-- i is at most 16 before the end of a text of n bytes, and n is more than that
+pub record NearEnd (n i : ℕ) : Type 0 where
+  pub small : n < 2 ^ 63
+  pub long : 17 ≤ n
+  pub near : n < i + 17
+  pub inside : i ≤ n
 
 -- the ranges that an automaton has; a byte of each word
 abbrev pub rangesOf : List ℕ → Ranges

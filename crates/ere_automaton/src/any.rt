@@ -6,16 +6,16 @@ ghost use Prim.Native.Nat.{ℕ, _+_, _≤_, _<_, _^_};
 ghost use lib.ListN.{length};
 ghost use lib.Dec.{eqb};
 ghost use Rattle.ere_search.specs.Any.{Exists};
-ghost use Rattle.ere_automaton.specs.Layout.{State, classCount, pairsWord, rowsAt};
+ghost use Rattle.ere_automaton.specs.Layout.{pairsWord, rowsAt};
 ghost use Rattle.ere_automaton.specs.Automaton.{Ranged, Drives};
-ghost use Rattle.ere_automaton.specs.Scan.{runs, rangesOf, Skipped};
+ghost use Rattle.ere_automaton.specs.Scan.{Ready, runs, rangesOf, Skipped, NearEnd};
 use crate::blocks;
 use crate::layout;
 use crate::layout::BLOCK;
 
 // Returns the state after 16 bytes.
 fn block(d: &[u16], k: usize, pairs: bool, x: &[u8], i: usize, s: usize) -> usize
-    requires { ⌜ (Ranged (now d)) × (State (now d) s) × (k ≡ classCount (now d)) × («pairs» ≡ not (eqb (pairsWord (now d)) 0)) × (i + 16 ≤ length (now x)) ⌝ }
+    requires { ⌜ (Ready (now d) k s) × («pairs» ≡ not (eqb (pairsWord (now d)) 0)) × (i + 16 ≤ length (now x)) ⌝ }
     ensures { λ r. ⌜ r ≡ runs (now (d .entry)) (now (x .entry)) i s 16 ⌝ }
 {
     if pairs {
@@ -38,7 +38,7 @@ fn next_block(d: &[u16], x: &[u8], i: usize) -> usize
 
 // Returns the last place, if no match starts at the 16 before it, or i.
 fn near_end(d: &[u16], x: &[u8], i: usize) -> usize
-    requires { ⌜ (rowsAt ≤ length (now d)) × (length (now x) < 2 ^ 63) × (17 ≤ length (now x)) × (length (now x) < i + 17) × (i ≤ length (now x)) ⌝ }
+    requires { ⌜ (rowsAt ≤ length (now d)) × (NearEnd (length (now x)) i) ⌝ }
     ensures { λ r. ⌜ Skipped (rangesOf (now (d .entry))) (now (x .entry)) i r ⌝ }
 {
     let last = x.len() - 1;

@@ -4,9 +4,9 @@ ghost use mathlib.Core.Bool.{false, _||_};
 ghost use Prim.Native.Nat.{_+_, _-_, _≤_, _<_, _^_};
 ghost use lib.ListN.{length};
 ghost use lib.Dec.{eqb};
-ghost use Rattle.ere_automaton.specs.Layout.{State, classCount, pairsWord, pairIn};
+ghost use Rattle.ere_automaton.specs.Layout.{State, pairsWord, pairIn};
 ghost use Rattle.ere_automaton.specs.Automaton.{Ranged};
-ghost use Rattle.ere_automaton.specs.Scan.{runs, inRange, ranges, begin, starts, Skipped};
+ghost use Rattle.ere_automaton.specs.Scan.{Ready, runs, inRange, ranges, begin, starts, Skipped};
 use crate::layout::BLOCK;
 use crate::layout::CLASSES;
 
@@ -24,8 +24,8 @@ fn seen(hit: bool, b: u8, next: u8, low: u8, width: u8, next_low: u8, next_width
     hit | (inside(b, low, width) & inside(next, next_low, next_width))
 }
 
-// Tells whether a match may start at one of the 16 places from i on. A loop of a fixed length without an exit is compiled to comparisons of 16
-// bytes.
+// Tells whether a match may start at one of the 16 places from i on. A loop of a fixed length without an exit is
+// compiled to comparisons of 16 bytes.
 fn may_start(x: &[u8], i: usize, low: u8, width: u8, next_low: u8, next_width: u8) -> bool
     requires { ⌜ i + 17 ≤ length (now x) ⌝ }
     ensures { λ r. ⌜ r ≡ starts (ranges low width «next_low» «next_width») (now (x .entry)) i 16 ⌝ }
@@ -33,13 +33,22 @@ fn may_start(x: &[u8], i: usize, low: u8, width: u8, next_low: u8, next_width: u
     let mut hit = false;
     let mut j: usize = 0;
     while j < BLOCK {
-        hit = seen(hit, x[i + j], x[i + j + 1], low, width, next_low, next_width);
+        hit = seen(
+            hit,
+            x[i + j],
+            x[i + j + 1],
+            low,
+            width,
+            next_low,
+            next_width,
+        );
         j += 1;
     }
     hit
 }
 
-// Returns the first place from `from` on, by blocks, where one of 16 starts may be that of a match; or where fewer than 17 bytes are left.
+// Returns the first place from `from` on, by blocks, where one of 16 starts may be that of a match; or where fewer than
+// 17 bytes are left.
 pub fn skip(x: &[u8], from: usize, low: u8, width: u8, next_low: u8, next_width: u8) -> usize
     requires { ⌜ (length (now x) < 2 ^ 63) × (from ≤ length (now x)) ⌝ }
     ensures { λ r. ⌜ Skipped (ranges low width «next_low» «next_width») (now (x .entry)) from r ⌝ }
@@ -56,7 +65,7 @@ pub fn skip(x: &[u8], from: usize, low: u8, width: u8, next_low: u8, next_width:
 
 // Returns the state after two bytes.
 fn pair(d: &[u16], k: usize, s: usize, b: u8, c: u8) -> usize
-    requires { ⌜ (Ranged (now d)) × (State (now d) s) × (k ≡ classCount (now d)) × (eqb (pairsWord (now d)) 0 ≡ false) ⌝ }
+    requires { ⌜ (Ready (now d) k s) × (eqb (pairsWord (now d)) 0 ≡ false) ⌝ }
     ensures { λ r. ⌜ r ≡ pairIn (now (d .entry)) s b c ⌝ }
 {
     let y = d[CLASSES + b as usize] as usize * k + d[CLASSES + c as usize] as usize + k + 1;
@@ -65,7 +74,7 @@ fn pair(d: &[u16], k: usize, s: usize, b: u8, c: u8) -> usize
 
 // Returns the state after 16 bytes, two at a time.
 pub fn by_pairs(d: &[u16], k: usize, x: &[u8], i: usize, state: usize) -> usize
-    requires { ⌜ (Ranged (now d)) × (State (now d) state) × (k ≡ classCount (now d)) × (eqb (pairsWord (now d)) 0 ≡ false) × (i + 16 ≤ length (now x)) ⌝ }
+    requires { ⌜ (Ready (now d) k state) × (eqb (pairsWord (now d)) 0 ≡ false) × (i + 16 ≤ length (now x)) ⌝ }
     ensures { λ r. ⌜ r ≡ runs (now (d .entry)) (now (x .entry)) i state 16 ⌝ }
 {
     let mut s = state;

@@ -2,15 +2,25 @@
 // A row: the state after a byte of each class; 1 if a match ends where the text ends, else 0; and with pairs, the state
 // after two bytes, of each class and each class.
 pub const CLASS_COUNT: usize = 0;
+
 pub const FIRST: usize = 1;
+
 pub const LATER: usize = 2;
+
 pub const ACCEPTED: usize = 3;
+
 pub const PAIRS: usize = 4;
+
 pub const SKIPS: usize = 5;
+
 pub const LOW: usize = 6;
+
 pub const WIDTH: usize = 7;
+
 pub const NEXT_LOW: usize = 8;
+
 pub const NEXT_WIDTH: usize = 9;
+
 pub const CLASSES: usize = 16;
 // The bytes that a search takes at a time.
 pub const BLOCK: usize = 16;

@@ -1,6 +1,5 @@
 -- `near_end` meets its contract: the places from i on are among the 16 before the last.
-use mathlib.Core.Path.{_≡_}
-use Prim.Native.Nat.{_+_, _-_, _≤_, _<_}
+use Prim.Native.Nat.{_-_}
 use native.Mathlib.Omega.{arith}
 use lib.ListN.{length}
 use borrow.Author.Tests.{ltb-true, leb-true}
@@ -10,23 +9,16 @@ use Rattle.ere_automaton.proofs.Ranging.{skipped-last, skipped-none}
 use borrow.Author.Needs.{needs}
 use Rattle.ere_automaton.proofs.any.near_end.Statement.{statement}
 use Rattle.ere_automaton.proofs.any.near_end.Tie as tie
-use Rattle.ere_automaton.proofs.any.near_end.Reads as reads
-use Rattle.ere_automaton.proofs.any.near_end.Lts as lts
-use Rattle.ere_automaton.proofs.any.next_block.Reads as next-block-reads
 
--- src/any.rt:44:16
 sub-last : tie.Need-sub-last
 sub-last c = search needs
 
--- src/any.rt:45:47
 sub-next-block : tie.Need-sub-next-block
 sub-next-block c = search needs
 
--- src/any.rt:45:30
 next-block-requires : tie.Need-next-block-requires
 next-block-requires c κs = search needs
 
--- src/any.rt:46:9
 returns : tie.Need-returns
 returns c =
     let a = c .before .before .before .before .args in
@@ -35,10 +27,9 @@ returns c =
     let m = and-true _ _ (c .if1 .taken) in
     let low = ltb-true (a .i) (n - 1) (m .0) in
     let high = leb-true (n - 1) r (m .1) in
-    skipped-last (rangesOf (a .d .now)) (a .x .now) (n - 1 - 16) (a .i) r (n - 1) (c .before .next-block .ensures) (omega arith)
-    (omega arith) high (omega arith)
+    skipped-last (rangesOf (a .d .now)) (a .x .now) (n - 1 - 16) (a .i) r (n - 1) (c .before .next-block .ensures)
+    (omega arith) (omega arith) high (omega arith)
 
--- src/any.rt:40:1
 returns-2 : tie.Need-returns-2
 returns-2 c = skipped-none _ _ _
 

@@ -1,6 +1,6 @@
 -- `by_bytes` meets its contract: s is the state after the bytes up to i.
-use mathlib.Core.Path.{_≡_, refl, sym, ap, _∙_}
-use Prim.Native.Nat.{ℕ, _+_, _-_, _≤_}
+use mathlib.Core.Path.{_≡_, ap, _∙_}
+use Prim.Native.Nat.{ℕ, _+_, _-_, _≤_, _<_}
 use native.Mathlib.Omega.{arith}
 use lib.ListN.{length, getD}
 use Rattle.ere_automaton.specs.Layout.{State, classIn}
@@ -17,7 +17,6 @@ Inv-loop d x from end state s₀ i₀ s i = (from ≤ i) × (i ≤ end) × (Stat
 abbrev μ-loop : tie.MeasureT-loop
 μ-loop d x from end state s₀ i₀ s i = end - i
 
--- src/blocks.rt:87:5
 loop-holds : tie.Need-loop-holds Inv-loop μ-loop
 unfolding runs
 loop-holds c =
@@ -25,71 +24,73 @@ loop-holds c =
     let z : 0 ≡ a .from - a .from = omega arith in
     (omega arith, c .pre .2, c .pre .1, ap (runs (a .d .now) (a .x .now) (a .from) (a .state)) z)
 
--- src/blocks.rt:88:31
+-- where the state after the byte at i stands
+abbrev Byte : Type 0
+Byte = lts.After-shared-slice-known reads.Pre reads.Post Inv-loop μ-loop
+
+abbrev byte : Byte → ℕ
+byte c = getD (c .before .before .before .args .x .now) (c .before .before .loop .i) 0
+
+small : (c : Byte) → byte c < 256
+small c = c .shared-slice-known .given (c .before .before .loop .i) .fits
+
+abbrev index : Byte → ℕ
+index c = c .before .before .loop .s + classIn (c .before .before .before .args .d .now) (byte c)
+
+inside : (c : Byte) → index c < length (c .before .before .before .args .d .now)
+inside c =
+    let e = c .before .before .before in
+    let l = c .before .before .loop in
+    next-fits (e .args .d .now) (e .pre .0) (l .s) (byte c) (l .inv .2) (small c)
+
 shared-slice-read-s : tie.Need-shared-slice-read-s Inv-loop μ-loop
 shared-slice-read-s c = omega arith
 
--- src/blocks.rt:88:31
 cast-s : tie.Need-cast-s Inv-loop μ-loop
-cast-s c = omega (arith, c .shared-slice-known .given (c .before .before .loop .i))
+cast-s c = omega (arith, small c)
 
--- src/blocks.rt:88:21
 add-s : tie.Need-add-s Inv-loop μ-loop
-add-s c = omega (arith, c .shared-slice-known .given (c .before .before .loop .i))
+add-s c = omega (arith, small c)
 
--- src/blocks.rt:88:19
 mul-s : tie.Need-mul-s Inv-loop μ-loop
-mul-s c = omega (arith, c .shared-slice-known .given (c .before .before .loop .i))
+mul-s c = omega (arith, small c)
 
--- src/blocks.rt:88:19
 shared-slice-read-s-2 : tie.Need-shared-slice-read-s-2 Inv-loop μ-loop
-shared-slice-read-s-2 c = omega (arith, c .before .before .before .before .pre .0 .head, c .before .shared-slice-known .given (c .before .before .before .loop .i))
+shared-slice-read-s-2 c = omega (arith, c .before .before .before .before .pre .0 .head, small (c .before))
 
--- src/blocks.rt:88:19
 cast-s-2 : tie.Need-cast-s-2 Inv-loop μ-loop
-cast-s-2 c = omega (arith, c .shared-slice-known2 .given (16 + getD (c .before .before .before .before .args .x .now) (c .before .before .before .loop .i) 0))
+cast-s-2 c = omega (arith, c .shared-slice-known2 .given (16 + byte (c .before)))
 
--- src/blocks.rt:88:15
 add-s-2 : tie.Need-add-s-2 Inv-loop μ-loop
-add-s-2 c =
-    let a = c .before .before .before .before .args in omega (arith, next-fits (a .d .now) (c .before .before .before .before .pre .0) (c .before .before .before .loop .s) (getD (a .x .now) (c .before .before .before .loop .i) 0) (c .before .before .before .loop .inv .2) (c .before .shared-slice-known .given (c .before .before .before .loop .i) .fits))
+add-s-2 c = omega (arith, inside (c .before))
 
--- src/blocks.rt:88:13
 mul-s-2 : tie.Need-mul-s-2 Inv-loop μ-loop
-mul-s-2 c =
-    let a = c .before .before .before .before .args in omega (arith, next-fits (a .d .now) (c .before .before .before .before .pre .0) (c .before .before .before .loop .s) (getD (a .x .now) (c .before .before .before .loop .i) 0) (c .before .before .before .loop .inv .2) (c .before .shared-slice-known .given (c .before .before .before .loop .i) .fits))
+mul-s-2 c = omega (arith, inside (c .before))
 
--- src/blocks.rt:88:13
 shared-slice-read-s-3 : tie.Need-shared-slice-read-s-3 Inv-loop μ-loop
-shared-slice-read-s-3 c =
-    let a = c .before .before .before .before .before .args in omega (arith, next-fits (a .d .now) (c .before .before .before .before .before .pre .0) (c .before .before .before .before .loop .s) (getD (a .x .now) (c .before .before .before .before .loop .i) 0) (c .before .before .before .before .loop .inv .2) (c .before .before .shared-slice-known .given (c .before .before .before .before .loop .i) .fits))
+shared-slice-read-s-3 c = omega (arith, inside (c .before .before))
 
--- src/blocks.rt:88:13
 cast-s-3 : tie.Need-cast-s-3 Inv-loop μ-loop
-cast-s-3 c =
-    let a = c .before .before .before .before .before .args in omega (arith, c .shared-slice-known3 .given (c .before .before .before .before .loop .s + classIn (a .d .now) (getD (a .x .now) (c .before .before .before .before .loop .i) 0)))
+cast-s-3 c = omega (arith, c .shared-slice-known3 .given (index (c .before .before)))
 
--- src/blocks.rt:89:9
 add-i : tie.Need-add-i Inv-loop μ-loop
 add-i c = omega arith
 
--- src/blocks.rt:87:5
 loop-less : tie.Need-loop-less Inv-loop μ-loop
 loop-less c = omega arith
 
--- src/blocks.rt:87:5
 loop-again : tie.Need-loop-again Inv-loop μ-loop
 loop-again c =
-    let a = c .before .before .before .before .before .args in
+    let e = c .before .before .before .before .before in
+    let a = e .args in
     let l = c .before .before .before .before .loop in
-    (
+    let y = c .before .before in (
       omega arith,
       omega arith,
-      c .before .before .before .before .before .pre .0 .moves (l .s) (getD (a .x .now) (l .i) 0) (l .inv .2) (c .before .before .shared-slice-known .given (l .i) .fits),
+      e .pre .0 .moves (l .s) (byte y) (l .inv .2) (small y),
       runs-byte (a .d .now) (a .x .now) (a .from) (a .state) (l .i) (l .s) (l .inv .0) (l .inv .3),
     )
 
--- src/blocks.rt:81:1
 returns : tie.Need-returns Inv-loop μ-loop
 returns c =
     let a = c .before .before .args in

@@ -6,15 +6,10 @@ use lib.Dec.{leb}
 use borrow.Author.Needs.{needs}
 use Rattle.ere_automaton.proofs.blocks.inside.Statement.{statement}
 use Rattle.ere_automaton.proofs.blocks.inside.Tie as tie
-use Rattle.ere_automaton.proofs.blocks.inside.Reads as reads
-use Rattle.ere_automaton.proofs.blocks.inside.Lts as lts
-use Rattle.std.proofs.num.wrapping_sub_u8.Reads as wrapping-sub-u8-reads
 
--- src/blocks.rt:17:5
 wrapping-sub-u8-requires : tie.Need-wrapping-sub-u8-requires
 wrapping-sub-u8-requires c κs = search needs
 
--- src/blocks.rt:14:1
 returns : tie.Need-returns
 returns c =
     let a = c .before .args in

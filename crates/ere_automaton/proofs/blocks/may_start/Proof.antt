@@ -1,60 +1,47 @@
 -- `may_start` meets its contract: j places are looked at.
 use mathlib.Core.Path.{_≡_, refl, ap, _∙_}
-use Prim.Native.Nat.{ℕ, _+_, _-_, _≤_}
+use Prim.Native.Nat.{_-_, _≤_}
 use native.Mathlib.Omega.{arith}
-use lib.ListN.{length}
 use Rattle.ere_automaton.specs.Scan.{ranges, starts}
 use Rattle.ere_automaton.proofs.Ranging.{starts-more}
 use Rattle.ere_automaton.proofs.blocks.may_start.Statement.{statement}
 use Rattle.ere_automaton.proofs.blocks.may_start.Tie as tie
-use Rattle.ere_automaton.proofs.blocks.may_start.Reads as reads
-use Rattle.ere_automaton.proofs.blocks.may_start.Lts as lts
-use Rattle.ere_automaton.proofs.blocks.seen.Reads as seen-reads
 
 abbrev Inv-loop : tie.InvT-loop
-Inv-loop x i low width next-low next-width hit₀ j₀ hit j = (j ≤ 16) × (hit ≡ starts (ranges low width next-low next-width) x i j)
+Inv-loop x i low width next-low next-width hit₀ j₀ hit j =
+    (j ≤ 16) × (hit ≡ starts (ranges low width next-low next-width) x i j)
 
 abbrev μ-loop : tie.MeasureT-loop
 μ-loop x i low width next-low next-width hit₀ j₀ hit j = 16 - j
 
--- src/blocks.rt:35:5
 loop-holds : tie.Need-loop-holds Inv-loop μ-loop
 unfolding starts
 loop-holds c = (omega arith, refl)
 
--- src/blocks.rt:36:27
 add-seen : tie.Need-add-seen Inv-loop μ-loop
 add-seen c = omega arith
 
--- src/blocks.rt:36:25
 shared-slice-read-seen : tie.Need-shared-slice-read-seen Inv-loop μ-loop
 shared-slice-read-seen c = omega arith
 
--- src/blocks.rt:36:37
 add-seen-2 : tie.Need-add-seen-2 Inv-loop μ-loop
 add-seen-2 c = omega arith
 
--- src/blocks.rt:36:37
 add-seen-3 : tie.Need-add-seen-3 Inv-loop μ-loop
 add-seen-3 c = omega arith
 
--- src/blocks.rt:36:35
 shared-slice-read-seen-2 : tie.Need-shared-slice-read-seen-2 Inv-loop μ-loop
 shared-slice-read-seen-2 c = omega arith
 
--- src/blocks.rt:36:9
 seen-requires : tie.Need-seen-requires Inv-loop μ-loop
 seen-requires c κs = tt
 
--- src/blocks.rt:37:9
 add-j : tie.Need-add-j Inv-loop μ-loop
 add-j c = omega arith
 
--- src/blocks.rt:35:5
 loop-less : tie.Need-loop-less Inv-loop μ-loop
 loop-less c = omega arith
 
--- src/blocks.rt:35:5
 loop-again : tie.Need-loop-again Inv-loop μ-loop
 loop-again c =
     let a = c .before .before .before .before .before .before .args in
@@ -62,7 +49,6 @@ loop-again c =
     let g = ranges (a .low) (a .width) (a .next-low) (a .next-width) in
     (omega arith, c .seen .ensures ∙ starts-more g (a .x .now) (a .i) (l .j) (l .hit) (l .inv .1))
 
--- src/blocks.rt:29:1
 returns : tie.Need-returns Inv-loop μ-loop
 returns c =
     let a = c .before .before .before .args in

@@ -1,22 +1,16 @@
 -- `seen` meets its contract.
-use mathlib.Core.Path.{_≡_, ap₂}
+use mathlib.Core.Path.{ap₂}
 use mathlib.Core.Bool.{Bool, _&&_, _||_}
 use borrow.Author.Needs.{needs}
 use Rattle.ere_automaton.proofs.blocks.seen.Statement.{statement}
 use Rattle.ere_automaton.proofs.blocks.seen.Tie as tie
-use Rattle.ere_automaton.proofs.blocks.seen.Reads as reads
-use Rattle.ere_automaton.proofs.blocks.seen.Lts as lts
-use Rattle.ere_automaton.proofs.blocks.inside.Reads as inside-reads
 
--- src/blocks.rt:24:12
 inside-requires : tie.Need-inside-requires
 inside-requires c κs = search needs
 
--- src/blocks.rt:24:36
 inside-requires-2 : tie.Need-inside-requires-2
 inside-requires-2 c κs = search needs
 
--- src/blocks.rt:21:1
 returns : tie.Need-returns
 returns c =
     let hit = c .before .before .args .hit in
