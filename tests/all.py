@@ -15,7 +15,7 @@ import time
 
 import building
 
-RANDOM = ['match', 'split', 'images', 'run']
+RANDOM = ['match', 'split', 'images', 'translate', 'run', 'ways']
 # over other archives than capi's
 OTHER_ARCHIVES = ['exists', 'tokens']
 OTHERS = ['frames', 'believe']

@@ -1,4 +1,4 @@
-"""Compares C functions of an archive with a reference, on random cases: what tests/match.py, tests/split.py, tests/images.py and tests/exists.py share.
+"""Compares C functions of an archive with a reference, on random cases: what the scripts that call the archive share.
 
     tests/NAME.py [--reference DIR] [--cases N] [--seed S] [--archive FILE] [--sanitize]
 
@@ -37,6 +37,14 @@ def answers(program, cases, packed):
     if len(lines) != len(cases):
         sys.exit('%s: %d answers to %d cases' % (os.path.basename(program), len(lines), len(cases)))
     return [tuple(map(int, line.split())) for line in lines]
+
+
+def hashed(data):
+    """FNV-1a, 64 bits."""
+    h = 0xcbf29ce484222325
+    for b in data:
+        h = (h ^ b) * 0x100000001b3 % 2 ** 64
+    return h
 
 
 def compare(name, draw, packed, kinds_of, shown, crate='capi', first=None):

@@ -42,3 +42,21 @@ static uint8_t *bytes(size_t count)
         fail("the input ends within a case");
     return b;
 }
+
+/* Memory of just so many bytes. */
+static inline uint8_t *room(size_t count)
+{
+    uint8_t *b = malloc(count ? count : 1);
+    if (b == NULL)
+        fail("no memory");
+    return b;
+}
+
+/* FNV-1a, 64 bits. */
+static inline uint64_t hashed(const uint8_t *b, size_t count)
+{
+    uint64_t h = 0xcbf29ce484222325u;
+    for (size_t i = 0; i < count; i++)
+        h = (h ^ b[i]) * 0x100000001b3u;
+    return h;
+}

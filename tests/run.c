@@ -10,22 +10,6 @@
 
 #include <string.h>
 
-static uint64_t hashed(const uint8_t *b, size_t n)
-{
-    uint64_t h = 0xcbf29ce484222325u;
-    for (size_t i = 0; i < n; i++)
-        h = (h ^ b[i]) * 0x100000001b3u;
-    return h;
-}
-
-static uint8_t *room(size_t n)
-{
-    uint8_t *b = malloc(n ? n : 1);
-    if (b == NULL)
-        fail("no memory");
-    return b;
-}
-
 int main(void)
 {
     static uint64_t seed = 1;

@@ -10,19 +10,11 @@ import archive
 import whole_runs
 
 
-def hashed(data):
-    """FNV-1a, 64 bits."""
-    h = 0xcbf29ce484222325
-    for b in data:
-        h = (h ^ b) * 0x100000001b3 % 2 ** 64
-    return h
-
-
 def draw(r, gen, reference):
     case = whole_runs.draw(r, gen, reference)
     image, lines, room, work, budget = case
     outcome, steps, records, out = reference.run(image, lines, room, min(budget, 10 ** 6), work)
-    return case, (outcome, steps, records, len(out), hashed(out + b'\xa5' * (room - len(out))), 1)
+    return case, (outcome, steps, records, len(out), archive.hashed(out + b'\xa5' * (room - len(out))), 1)
 
 
 def packed(case):
