@@ -1,15 +1,15 @@
 -- What a table holds: the special variables, and one name more.
-use mathlib.Core.Path.{_≡_, refl, sym, ap, subst, _∙_}
+use mathlib.Core.Path.{_≡_, refl, sym, ap, _∙_}
 use mathlib.Core.Bool.{Bool, true, false, not, cond, _||_}
 use mathlib.Core.Logic.{_⊎_, ⊎-elim}
 use mathlib.Core.List.{List, [], _∷_, _++_}
 use Prim.Native.Nat.{ℕ, zero, suc, _+_, _-_, _*_, _/_, _≤_, _<_}
 use native.Mathlib.Numerals.{add-one}
 use native.Mathlib.Omega.{arith}
-use lib.ListN.{length, getD, set, length-set, length-append}
+use lib.ListN.{length, set, length-set, length-append}
 use lib.Dec.{eqb, ltb}
 use borrow.Author.Tests.{eq-eqb, ne-eqb, eqb-true, ltb-true, ltb-false, not-true, not-false}
-use Rattle.lists.proofs.Tests.{clash, or-cases, or-false}
+use Rattle.lists.proofs.Tests.{or-cases, or-false}
 use Rattle.image_format.specs.Image.{Constant, number, text}
 use Rattle.program_tokens.specs.Kinds.{user-name, among, rank}
 use Rattle.program_tokens.specs.Tokens.{Token, is, isOneOf, spelling}
@@ -21,8 +21,8 @@ use Rattle.program_numbering.specs.Numbering.{sameConstant}
 use Rattle.program_numbering.proofs.Numbers.{number-below}
 use Rattle.program_parser.proofs.Tokens.{choose}
 use Rattle.program_tables.specs.declared.tables.Entry.{Entry}
-use Rattle.program_tables.specs.Tables.{entryIn, meant, InsideText, AllInside, entriesFrom, withEntry}
-use Rattle.program_tables.proofs.Entries.{stored, no-room, entries-added, inside-added}
+use Rattle.program_tables.specs.Tables.{meant, InsideText, AllInside, entriesFrom, withEntry}
+use Rattle.program_tables.proofs.Entries.{stored, entries-added, inside-added}
 use Rattle.program_entries.specs.Named.{variableOf, Stands, specialKinds, WordToken}
 use Rattle.program_entries.specs.Variables.{specialCount, specials, numbersIn, specialsIn, Held, withName, Enters}
 

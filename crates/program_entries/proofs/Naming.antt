@@ -1,10 +1,10 @@
 -- The entry of a name: a special variable's number, or the text of a user's name.
-use mathlib.Core.Path.{_≡_, refl, sym, ap, subst, _∙_}
-use mathlib.Core.Bool.{Bool, true, false, cond, _||_}
-use mathlib.Core.List.{List, [], _∷_}
-use Prim.Native.Nat.{ℕ, _+_, _-_, _≤_, _<_}
+use mathlib.Core.Path.{_≡_, sym, ap, _∙_}
+use mathlib.Core.Bool.{Bool, true, false, _||_}
+use mathlib.Core.List.{List}
+use Prim.Native.Nat.{ℕ, _+_, _-_, _≤_}
 use native.Mathlib.Omega.{arith}
-use lib.ListN.{length, take, drop}
+use lib.ListN.{length}
 use lib.Dec.{eqb}
 use borrow.Author.Tests.{ne-eqb}
 use Rattle.lists.proofs.Tests.{or-none}
@@ -12,7 +12,7 @@ use Rattle.edition.specs.Limits.{filterText}
 use Rattle.image_format.specs.Image.{number, text}
 use Rattle.program_tokens.specs.Kinds.{among, rank}
 use Rattle.program_tokens.specs.Words.{sameBytes}
-use Rattle.program_tokens.specs.Tokens.{isOneOf, spelling}
+use Rattle.program_tokens.specs.Tokens.{spelling}
 use Rattle.program_lexer.specs.Coded.{decoded}
 use Rattle.program_lexer.specs.declared.tokens.Token.{Token as Coded}
 use Rattle.program_lexer.proofs.Coding.{kind-test}
@@ -21,7 +21,7 @@ use Rattle.program_numbering.specs.Numbering.{specialNames}
 use Rattle.program_numbering.proofs.Numbers.{number-below}
 use Rattle.program_tables.specs.Texts.{between, valueOf}
 use Rattle.program_tables.specs.Tables.{meant}
-use Rattle.program_entries.specs.Named.{variableOf, Stands, specialKinds, WordToken, IsSpecial, specialNumber}
+use Rattle.program_entries.specs.Named.{variableOf, Stands, WordToken, IsSpecial, specialNumber}
 use Rattle.program_entries.proofs.Strings.{between-taken}
 
 module _ (s : List ℕ) (t : Coded) (w : WordToken s (decoded t)) where

@@ -1,19 +1,19 @@
 -- The token at a place: what it may be, and the constants and names that stand there.
 use mathlib.Core.Path.{_≡_, refl, sym, ap, subst, _∙_}
-use mathlib.Core.Bool.{Bool, true, false, not, cond, _&&_, _||_}
+use mathlib.Core.Bool.{Bool, true, false, not, _||_}
 use mathlib.Core.List.{List, [], _∷_}
 use mathlib.Core.Option.{Option, some, none}
-use Prim.Native.Nat.{ℕ, zero, suc, _+_, _-_, _≤_, _<_, min}
+use Prim.Native.Nat.{ℕ, suc, _+_, _-_, _≤_, _<_, min}
 use native.Mathlib.Numerals.{add-one}
 use native.Mathlib.Omega.{arith}
 use lib.ListN.{length, getD, take, drop, length-drop, drop-of-length-le}
-use lib.Seq.{drop-cons, take-nil}
-use lib.Dec.{eqb, leb, ltb}
-use borrow.Author.Tests.{eqb-true, le-leb, lt-leb, ltb-true, ltb-false, ne-eqb, not-true}
+use lib.Seq.{drop-cons}
+use lib.Dec.{eqb, ltb}
+use borrow.Author.Tests.{eqb-true, le-leb, lt-leb, ltb-false, ne-eqb, not-true}
 use borrow.Rule.Slice.PartMut.{midOf}
-use Rattle.lists.specs.Elements.{all, leading}
+use Rattle.lists.specs.Elements.{leading}
 use Rattle.lists.specs.Parsing.{Parsed}
-use Rattle.lists.proofs.Tests.{clash, or-false, and-true}
+use Rattle.lists.proofs.Tests.{clash, or-false}
 use Rattle.edition.specs.Limits.{filterText, numberBound}
 use Rattle.buffer.proofs.Lent.{tail-lent}
 use Rattle.numeral.specs.Form.{isDigit}
@@ -28,7 +28,6 @@ use Rattle.program_reader.proofs.Tokens.{kind-has}
 use Rattle.program_numbering.specs.Names.{has}
 use Rattle.program_numbering.specs.Numbering.{specialNames}
 use Rattle.program_parser.specs.Meaning.{tokenFrom, constantAt, nameAt}
-use Rattle.program_parser.specs.Reading.{Good}
 use Rattle.program_parser.proofs.Tokens.{choose, good-from}
 use Rattle.program_tables.specs.declared.tables.Entry.{Entry}
 use Rattle.program_tables.specs.Tables.{meant}
@@ -166,7 +165,8 @@ module _ (edition a : ℕ) where
   abbrev NumberThere : List ℕ → Token → Type 0
   NumberThere m t =
       is NUMBER t ≡ true
-      → (t ≡ token a NUMBER (leading isDigit m)) × ((digitsValue (take (leading isDigit m) m) ≤ numberBound) × (0 < length m))
+      → (t ≡ token a NUMBER (leading isDigit m))
+      × ((digitsValue (take (leading isDigit m) m) ≤ numberBound) × (0 < length m))
 
   number-there : (l : List ℕ) → NumberThere l (tokenOf edition a l)
   unfolding tokenOf rank
@@ -265,7 +265,8 @@ module _ (edition : ℕ) (s : List ℕ) (x : ℕ) where
         let v : ℕ = digitsValue (take n (drop x s)) in
         let kept : min v (numberBound + 1) ≡ v = omega (arith, q .1 .0) in
         let read : r .value ≡ v =
-        reads .valued ∙ (ap (λ (u : List ℕ). capped (digitsValue (take (leading isDigit u) u))) (tail-lent s x) ∙ kept) in
+        reads .valued
+        ∙ (ap (λ (u : List ℕ). capped (digitsValue (take (leading isDigit u) u))) (tail-lent s x) ∙ kept) in
         let counted : x + n - x ≡ n = omega arith in
         let said : numberIn s (tokenFrom edition s x) ≡ v = ap (numberIn s) (q .0) ∙ rw counted in
         record {

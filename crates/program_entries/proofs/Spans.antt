@@ -1,7 +1,7 @@
 -- EREs up to the slash that closes them, without judging them.
-use mathlib.Core.Path.{_≡_, refl, sym, ap, subst, _∙_}
+use mathlib.Core.Path.{_≡_, refl, sym, ap, _∙_}
 use mathlib.Core.Bool.{Bool, true, false, not, cond, _&&_, _||_}
-use mathlib.Core.List.{List, [], _∷_}
+use mathlib.Core.List.{List}
 use mathlib.Core.Option.{Option, some, none}
 use Prim.Native.Nat.{ℕ, suc, _+_, _-_, _≤_, _<_}
 use native.Mathlib.Numerals.{add-one}
@@ -10,13 +10,12 @@ use lib.ListN.{length, take, drop}
 use lib.Dec.{eqb, ltb}
 use borrow.Author.Tests.{not-true, ne-eqb, ltb-true, ltb-false}
 use Rattle.lists.proofs.Tests.{clash, and-true}
-use Rattle.edition.specs.Limits.{filterText}
 use Rattle.ere_meaning.specs.Tree.{Class, Ere}
 use Rattle.ere_grammar.specs.Read.{readEre}
 use Rattle.image_format.specs.Image.{text}
-use Rattle.program_tokens.specs.Kinds.{Kind, ERE, slash, div-assign, text-end, among, rank}
+use Rattle.program_tokens.specs.Kinds.{ERE, slash, text-end, among, rank}
 use Rattle.program_tokens.specs.Tokens.{Token, token, isOneOf, ereLength, ereRead, ereToken, asOperand, ereIn}
-use Rattle.program_lexer.specs.Coded.{coded, decoded, kindOf, kindCount}
+use Rattle.program_lexer.specs.Coded.{coded, decoded, kindCount}
 use Rattle.program_lexer.specs.Closings.{ereClose}
 use Rattle.program_lexer.specs.declared.closings.Close.the-variants.{At, Nothing}
 use Rattle.program_lexer.specs.declared.tokens.Token.{Token as Coded}

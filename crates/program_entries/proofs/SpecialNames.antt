@@ -1,11 +1,11 @@
 -- The names of the special variables: told by their length and their first two bytes, and by the kinds of words.
-use mathlib.Core.Path.{_≡_, refl, sym, ap, subst, _∙_}
+use mathlib.Core.Path.{_≡_, refl, sym, subst, _∙_}
 use mathlib.Core.Bool.{Bool, true, false, not, cond, _&&_, _||_}
 use mathlib.Core.List.{List, [], _∷_}
-use mathlib.Core.Logic.{_⊎_, inl, inr, ⊎-elim}
+use mathlib.Core.Logic.{_⊎_, ⊎-elim}
 use Prim.Native.Nat.{ℕ, zero, suc, _+_, _-_, _≤_, _<_}
 use native.Mathlib.Omega.{arith}
-use lib.ListN.{length, getD, take, drop, length-drop}
+use lib.ListN.{length, getD, take, length-drop}
 use lib.Seq.{getD-drop, getD-take, length-take-le}
 use lib.Dec.{eqb, leb}
 use borrow.Author.Tests.{le-leb, not-true}
@@ -59,7 +59,8 @@ each-told = (
 
 between-length : (s : List ℕ) (a n : ℕ) → a + n ≤ length s → length (between s a (a + n)) ≡ n
 between-length s a n h =
-    length-drop a (take (a + n) s) ∙ (let same : length (take (a + n) s) - a ≡ n = omega (arith, length-take-le (a + n) s h) in same)
+    let left : length (take (a + n) s) - a ≡ n = omega (arith, length-take-le (a + n) s h) in
+    length-drop a (take (a + n) s) ∙ left
 
 between-at : (s : List ℕ) (a n i : ℕ) → i < n → getD (between s a (a + n)) i 0 ≡ getD s (a + i) 0
 between-at s a n i h = getD-drop a (take (a + n) s) i 0 ∙ getD-take (a + n) s (a + i) 0 (omega arith)
@@ -78,7 +79,12 @@ module _ (s : List ℕ) (a n : ℕ) (p : IsSpecial s a n) where
   special-by =
       let none : a + 0 ≡ a = omega arith in
       told .0
-      ∙ rw (sized, between-at s a n 0 (omega (arith, special-long)), between-at s a n 1 (omega (arith, special-long)), none)
+      ∙ rw (
+        sized,
+        between-at s a n 0 (omega (arith, special-long)),
+        between-at s a n 1 (omega (arith, special-long)),
+        none,
+      )
 
 -- ---- by the kinds of words
 
@@ -100,7 +106,8 @@ kind-plain edition w (x ∷ l) h each =
     (kindIn edition user-name w l)
     (λ e.
     let same = same-equal w (x .spelling) (and-true (leb (x .since) edition) (sameBytes w (x .spelling)) e .1) in
-    let other : has sameBytes specialNames (x .spelling) ≡ false = subst (λ (v : List ℕ). has sameBytes specialNames v ≡ false) same h in
+    let other : has sameBytes specialNames (x .spelling) ≡ false =
+    subst (λ (v : List ℕ). has sameBytes specialNames v ≡ false) same h in
     ⊎-elim (λ g. not-true (among specialKinds (x .kind)) g) (λ g. absurd (clash (sym g ∙ other)))
     (or-cases (not (among specialKinds (x .kind))) (has sameBytes specialNames (x .spelling)) (both .0)))
     (λ e. kind-plain edition w l h (both .1))

@@ -106,7 +106,8 @@ module _ (edition : ℕ) (s : List ℕ) where
     unfolding rank
     turn-word first e =
         let seven : rank (kindOf (t .kind)) ≡ 7 = eqb-true (rank (kindOf (t .kind))) 7 e in
-        let begun : is text-end (decoded t) ≡ false = ne-eqb (rank (kindOf (t .kind))) 0 (λ z. omega (arith, z, seven)) in
+        let begun : is text-end (decoded t) ≡ false =
+        ne-eqb (rank (kindOf (t .kind))) 0 (λ z. omega (arith, z, seven)) in
         subst (WordToken s) (sym (p .walked .own e))
         (word-at edition s (t .start) first (omega (arith, p .walked .longer begun, p .walked .within)))
 

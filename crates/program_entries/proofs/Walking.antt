@@ -1,34 +1,28 @@
 -- The walk over a text's tokens, a token a turn.
 use mathlib.Core.Path.{_≡_, refl, sym, ap, subst, _∙_}
-use mathlib.Core.Bool.{Bool, true, false, not, cond, Bool·beq, _&&_, _||_}
-use mathlib.Core.List.{List, [], _∷_, map}
-use Prim.Native.Nat.{ℕ, zero, suc, _+_, _-_, _≤_, _<_}
+use mathlib.Core.Bool.{Bool, true, false, cond, Bool·beq, _||_}
+use mathlib.Core.List.{List, [], _∷_}
+use Prim.Native.Nat.{ℕ, _+_, _-_, _≤_, _<_}
 use native.Mathlib.Omega.{arith}
-use lib.ListN.{length, drop}
+use lib.ListN.{length}
 use lib.Dec.{eqb, leb}
-use borrow.Author.Tests.{eq-eqb, ne-eqb, eqb-true, eqb-false, le-leb, lt-leb}
 use Rattle.lists.specs.Elements.{allBelow}
 use Rattle.lists.proofs.Elements.{below-at}
 use Rattle.lists.proofs.Tests.{clash, beq-same, or-left, or-right}
 use Rattle.edition.specs.Limits.{filterText}
-use Rattle.image_format.specs.Image.{Constant, text}
-use Rattle.program_tokens.specs.Kinds.{Kind, text-end, NUMBER, STRING, ERE, user-name, IF, WHILE, open-paren, close-paren, same, among, rank}
-use Rattle.program_tokens.specs.Tokens.{Token, token, is, isOneOf, beginsWith, tokenAt, tokenAfter, spelling}
-use Rattle.program_grammar.specs.Sets.{names}
+use Rattle.image_format.specs.Image.{text}
+use Rattle.program_tokens.specs.Kinds.{Kind, NUMBER, STRING, ERE, user-name, IF, WHILE, open-paren, close-paren, same, among, rank}
+use Rattle.program_tokens.specs.Tokens.{Token, token, is, tokenAt, tokenAfter}
 use Rattle.program_lexer.specs.Coded.{coded, decoded, kindOf, kindCount}
 use Rattle.program_lexer.specs.declared.tokens.Token.{Token as Coded}
-use Rattle.program_lexer.proofs.Coding.{rank-of, kind-test}
-use Rattle.program_parser.specs.Meaning.{tokenFrom}
 use Rattle.program_parser.specs.Reading.{Good}
 use Rattle.program_parser.proofs.Tokens.{choose, good-from, good-at, good-after}
 use Rattle.program_parser.proofs.Codes.{kind-below, decoded-back}
 use Rattle.program_parser.proofs.Places.{value-own}
-use Rattle.program_numbering.specs.Names.{has, withNew}
-use Rattle.program_numbering.specs.Numbering.{sameConstant}
-use Rattle.program_names.specs.Walk.{spanned, openAfter, operandEnds, ereFollows, nextIn, namesFrom, namesInText}
-use Rattle.program_entries.specs.Named.{operandBound, WordToken}
-use Rattle.program_entries.specs.Variables.{Held, Enters, withName, specials, variablesOf, Walked}
-use Rattle.program_entries.proofs.Placing.{slashes, word-at}
+use Rattle.program_numbering.specs.Names.{has}
+use Rattle.program_names.specs.Walk.{spanned, openAfter, operandEnds, ereFollows, nextIn}
+use Rattle.program_entries.specs.Named.{operandBound}
+use Rattle.program_entries.specs.Variables.{Walked}
 use Rattle.program_entries.proofs.Spans.{span-cases, span-start, span-inside}
 
 -- ---- kinds by their numbers
@@ -61,7 +55,8 @@ module _ (n : ℕ) (known : n < kindCount) where
   abbrev pub Opens : ℕ → ℕ
   Opens parens =
       cond (eqb n 13 || eqb n 15) 1
-      (cond (eqb n 38) (cond (eqb parens 0) 0 (parens + 1)) (cond (eqb n 39) (cond (leb parens 2) 0 (parens - 1)) parens))
+      (cond (eqb n 38) (cond (eqb parens 0) 0 (parens + 1))
+      (cond (eqb n 39) (cond (leb parens 2) 0 (parens - 1)) parens))
 
   pub opens : (parens : ℕ) → openAfter (kindOf n) parens ≡ Opens parens
   unfolding openAfter

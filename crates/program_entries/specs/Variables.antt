@@ -1,4 +1,5 @@
--- Internal: cited by private contracts only. The variables of a text by first appearance, and the table that holds them.
+-- Internal: cited by private contracts only. The variables of a text by first appearance, and the table that holds
+-- them.
 use mathlib.Core.Path.{_≡_}
 use mathlib.Core.Bool.{Bool, true, false, cond}
 use mathlib.Core.List.{List, [], _∷_, map}
@@ -11,7 +12,6 @@ use Rattle.program_numbering.specs.Names.{withNew}
 use Rattle.program_numbering.specs.Numbering.{sameConstant}
 use Rattle.program_parser.specs.Meaning.{tokenFrom}
 use Rattle.program_names.specs.Walk.{namesInText}
-use Rattle.program_tables.specs.declared.tables.Entry.{Entry}
 use Rattle.program_tables.specs.Tables.{AllInside, entriesFrom, withEntry}
 
 -- "Variables 0 to 6"

@@ -1,7 +1,7 @@
 // What an operand of a word names: a constant, a variable or an ERE, as an entry of a table.
 ghost use mathlib.Core.Path.{_≡_};
 ghost use mathlib.Core.Bool.{true, false};
-ghost use Prim.Native.Nat.{_+_, _≤_, _<_};
+ghost use Prim.Native.Nat.{_≤_, _<_};
 ghost use lib.ListN.{length};
 ghost use lib.Dec.{eqb};
 ghost use Rattle.edition.specs.Limits.{filterText, firstEdition};

@@ -1,7 +1,7 @@
 // The variables by first appearance in the text: a walk over the tokens of a text that is a program.
 ghost use mathlib.Core.Path.{_≡_};
 ghost use mathlib.Core.Bool.{true, false};
-ghost use Prim.Native.Nat.{_+_, _*_, _≤_, _<_};
+ghost use Prim.Native.Nat.{_*_, _≤_, _<_};
 ghost use lib.ListN.{length};
 ghost use Rattle.edition.specs.Limits.{filterText, firstEdition};
 ghost use Rattle.program_lexer.specs.Coded.{coded, decoded, kindOf, kindCount};
@@ -107,7 +107,8 @@ fn enter_name(s: &[u8], table: &mut [u64], n: usize, t: Token) -> usize
 // Stores the variables, the special ones first; gives how many there are, or 1 more than there is room for.
 pub fn enter_variables(s: &[u8], table: &mut [u64], edition: Edition) -> usize
     requires { ⌜ (length (now s) ≤ filterText) × (14 ≤ length (now table)) × (firstEdition ≤ edition .number) ⌝ }
-    ensures { λ r. ⌜ Held (now (s .entry)) false (now (table .exit)) r (variablesOf (edition .number) (now (s .entry))) ⌝ }
+    ensures { λ r. ⌜ Held (now (s .entry)) false (now (table .exit)) r
+        (variablesOf (edition .number) (now (s .entry))) ⌝ }
 {
     enter_specials(table);
     let mut t = entries::as_ere(s, program_lexer::token_at(s, 0, edition));

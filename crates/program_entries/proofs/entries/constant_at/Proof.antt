@@ -1,5 +1,5 @@
 -- `constant_at`: a number that the text doesn't have, a NUMBER, or a STRING.
-use mathlib.Core.Path.{_≡_, sym, ap, _∙_}
+use mathlib.Core.Path.{sym, ap, _∙_}
 use native.Mathlib.Omega.{arith}
 use borrow.Author.Tests.{eq-eqb, ne-eqb}
 use Rattle.program_lexer.specs.declared.tokens.Token.{Token as Coded}
@@ -40,10 +40,12 @@ read-digits-requires c κs = search needs
 returns-2 : tie.Need-returns-2
 unfolding rank
 returns-2 c =
+    let token-of = c .before .before .before .before .token-of in
+    let if1 = c .before .before .before .before .before .if1 in
     let a = c .before .before .before .before .before .before .before .args in
-    let kind = sym (ap (λ (t : Coded). t .kind) (c .before .before .before .before .token-of .ensures)) ∙ c .before .before .if2 .taken in
+    let kind = sym (ap (λ (t : Coded). t .kind) (token-of .ensures)) ∙ c .before .before .if2 .taken in
     let d = c .read-digits in
-    number-stands (a .edition .number) (a .s .now) (a .x) (omega (arith, c .before .before .before .before .before .if1 .left)) (eq-eqb _ 4 kind) (d .result)
+    number-stands (a .edition .number) (a .s .now) (a .x) (omega (arith, if1 .left)) (eq-eqb _ 4 kind) (d .result)
     (d .ensures)
 
 add-string-entry : tie.Need-add-string-entry
@@ -55,10 +57,11 @@ string-entry-requires c κs = search needs
 returns-3 : tie.Need-returns-3
 unfolding rank
 returns-3 c =
+    let if1 = c .before .before .before .before .if1 in
     let a = c .before .before .before .before .before .before .args in
     let same = sym (ap (λ (t : Coded). t .kind) (c .before .before .before .token-of .ensures)) in
     let e = c .string-entry in
-    text-stands (a .edition .number) (a .s .now) (a .x) (omega (arith, c .before .before .before .before .if1 .left)) (e .result)
+    text-stands (a .edition .number) (a .s .now) (a .x) (omega (arith, if1 .left)) (e .result)
     (ne-eqb _ 4 (λ z. c .before .if2 .left (sym same ∙ z))) (e .ensures)
 
 pub constant-at-spec : {M : Type 1} → statement M

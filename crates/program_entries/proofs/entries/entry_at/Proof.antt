@@ -1,5 +1,4 @@
 -- `entry_at`: by the table.
-use mathlib.Core.Path.{_≡_}
 use borrow.Author.Tests.{eq-eqb, ne-eqb}
 use Rattle.program_entries.specs.Named.{named}
 use borrow.Author.Needs.{needs}
@@ -18,7 +17,8 @@ variable-at-requires c κs = search needs
 
 returns-2 : tie.Need-returns-2
 unfolding named
-returns-2 c = rw (ne-eqb _ 0 (c .before .before .if1 .left), eq-eqb _ 1 (c .before .if2 .taken)) (c .variable-at .ensures)
+returns-2 c =
+    rw (ne-eqb _ 0 (c .before .before .if1 .left), eq-eqb _ 1 (c .before .if2 .taken)) (c .variable-at .ensures)
 
 ere-at-requires : tie.Need-ere-at-requires
 ere-at-requires c κs = search needs

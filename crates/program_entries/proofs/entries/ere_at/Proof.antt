@@ -1,5 +1,5 @@
 -- `ere_at`: what stands between the slashes, or nothing.
-use mathlib.Core.Path.{_≡_, sym, ap, subst, _∙_}
+use mathlib.Core.Path.{sym, ap, subst, _∙_}
 use mathlib.Core.Bool.{false}
 use Prim.Native.Nat.{_+_, _-_, _<_, _≤_}
 use native.Mathlib.Omega.{arith}
@@ -17,16 +17,19 @@ token-of-requires c κs = search needs
 
 as-ere-requires : tie.Need-as-ere-requires
 as-ere-requires c κs =
-    let a = c .before .before .args in
-    span-ready (a .edition .number) (a .s .now) (a .x) (c .token-of .result) (c .token-of .ensures) (c .before .before .pre)
+    let start = c .before .before in
+    let a = start .args in
+    span-ready (a .edition .number) (a .s .now) (a .x) (c .token-of .result) (c .token-of .ensures) (start .pre)
 
 add-if1 : tie.Need-add-if1
 add-if1 c =
-    let a = c .before .before .before .before .args in
-    let q = span-coded (a .edition .number) (a .s .now) (a .x) (c .before .before .token-of .result) (c .before .as-ere .result) (c .before .before .token-of .ensures)
-    (c .before .as-ere .ensures) in
+    let start = c .before .before .before .before in
+    let a = start .args in
+    let t = c .before .before .token-of in
+    let u = c .before .as-ere in
+    let q = span-coded (a .edition .number) (a .s .now) (a .x) (t .result) (u .result) (t .ensures) (u .ensures) in
     let at = ap (λ (u : Coded). u .start) q ∙ starts (a .edition .number) (a .s .now) (a .x) in
-    record { fits = omega (arith, at, c .before .before .before .before .pre) }
+    record { fits = omega (arith, at, start .pre) }
 
 add-t8 : tie.Need-add-t8
 add-t8 c = search needs
@@ -36,10 +39,12 @@ add-t9 c = search needs
 
 returns : tie.Need-returns
 returns c =
-    let a = c .before .before .before .before .before .before .args in
-    let q = span-coded (a .edition .number) (a .s .now) (a .x) (c .before .before .before .before .token-of .result) (c .before .before .before .as-ere .result) (c .before .before .before .before .token-of .ensures)
-    (c .before .before .before .as-ere .ensures) in
-    ere-none (a .edition .number) (a .s .now) (a .x) (c .before .before .before .before .before .before .pre)
+    let start = c .before .before .before .before .before .before in
+    let a = start .args in
+    let t = c .before .before .before .before .token-of in
+    let u = c .before .before .before .as-ere in
+    let q = span-coded (a .edition .number) (a .s .now) (a .x) (t .result) (u .result) (t .ensures) (u .ensures) in
+    ere-none (a .edition .number) (a .s .now) (a .x) (start .pre)
     (subst (λ (u : Coded). u .stop < u .start + 2) q (c .if1 .taken))
 
 add-t6 : tie.Need-add-t6
@@ -50,13 +55,15 @@ sub-t10 c = search needs
 
 returns-2 : tie.Need-returns-2
 returns-2 c =
-    let a = c .before .before .before .before .before .before .before .args in
-    let q = span-coded (a .edition .number) (a .s .now) (a .x) (c .before .before .before .before .before .token-of .result) (c .before .before .before .before .as-ere .result) (c .before .before .before .before .before .token-of .ensures)
-    (c .before .before .before .before .as-ere .ensures) in
+    let start = c .before .before .before .before .before .before .before in
+    let a = start .args in
+    let t = c .before .before .before .before .before .token-of in
+    let u = c .before .before .before .before .as-ere in
+    let q = span-coded (a .edition .number) (a .s .now) (a .x) (t .result) (u .result) (t .ensures) (u .ensures) in
     subst (λ (u : Coded).
     Stands (a .s .now) false (text (ereAt (a .edition .number) (a .s .now) (a .x)))
     (record { value = a .x + 1; stop = u .stop - 1 })) (sym q)
-    (ere-stands (a .edition .number) (a .s .now) (a .x) (c .before .before .before .before .before .before .before .pre)
+    (ere-stands (a .edition .number) (a .s .now) (a .x) (start .pre)
     (subst (λ (u : Coded). u .start + 2 ≤ u .stop) q (c .before .if1 .left)))
 
 pub ere-at-spec : {M : Type 1} → statement M

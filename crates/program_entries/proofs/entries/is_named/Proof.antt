@@ -1,5 +1,4 @@
 -- `is_named`: each code by its case.
-use mathlib.Core.Path.{_≡_}
 use borrow.Author.Tests.{ne-eqb}
 use Rattle.program_entries.specs.Named.{isNamed}
 use Rattle.program_entries.proofs.entries.is_named.Statement.{statement}

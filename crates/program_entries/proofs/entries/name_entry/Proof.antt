@@ -14,13 +14,16 @@ special-requires c κs =
 
 returns : tie.Need-returns
 returns c =
-    let a = c .before .before .before .before .before .before .args in
-    special-stands (a .s .now) (a .t) (c .before .before .before .before .before .before .pre .0) (c .before .before .if1 .taken) (c .special .result) (c .special .ensures)
+    let start = c .before .before .before .before .before .before in
+    let a = start .args in
+    special-stands (a .s .now) (a .t) (start .pre .0) (c .before .before .if1 .taken) (c .special .result)
+    (c .special .ensures)
 
 returns-2 : tie.Need-returns-2
 returns-2 c =
-    let a = c .before .before .before .before .args in
-    user-stands (a .s .now) (a .t) (c .before .before .before .before .pre .0) (c .before .before .before .before .pre .1) (c .if1 .left)
+    let start = c .before .before .before .before in
+    let a = start .args in
+    user-stands (a .s .now) (a .t) (start .pre .0) (start .pre .1) (c .if1 .left)
 
 pub name-entry-spec : {M : Type 1} → statement M
 name-entry-spec = tie.close (tie.spec sub-special special-requires returns returns-2)

@@ -1,5 +1,5 @@
 -- `special`: by the length, and the first two bytes.
-use mathlib.Core.Path.{_≡_, sym, _∙_}
+use mathlib.Core.Path.{sym, _∙_}
 use native.Mathlib.Omega.{arith}
 use borrow.Author.Tests.{eq-eqb, ne-eqb}
 use Rattle.program_entries.proofs.SpecialNames.{special-long, special-by}
@@ -20,28 +20,40 @@ shared-slice-read-if1 c = search needs
 
 returns : tie.Need-returns
 returns c =
-    let a = c .before .before .before .before .args in
-    sym (special-by (a .s .now) (a .a) (a .n) (c .before .before .before .before .pre) ∙ rw (c .before .before .match .keys1, eq-eqb _ 70 (c .if1 .taken)))
+    let start = c .before .before .before .before in
+    let a = start .args in
+    sym (special-by (a .s .now) (a .a) (a .n) (start .pre)
+    ∙ rw (c .before .before .match .keys1, eq-eqb _ 70 (c .if1 .taken)))
 
 returns-2 : tie.Need-returns-2
 returns-2 c =
-    let a = c .before .before .before .before .before .args in
-    sym (special-by (a .s .now) (a .a) (a .n) (c .before .before .before .before .before .pre) ∙ rw (c .before .before .before .match .keys1, ne-eqb _ 70 (c .before .if1 .left), eq-eqb _ 70 (c .if2 .taken)))
+    let start = c .before .before .before .before .before in
+    let matched = c .before .before .before .match in
+    let a = start .args in
+    sym (special-by (a .s .now) (a .a) (a .n) (start .pre)
+    ∙ rw (matched .keys1, ne-eqb _ 70 (c .before .if1 .left), eq-eqb _ 70 (c .if2 .taken)))
 
 returns-3 : tie.Need-returns-3
 returns-3 c =
-    let a = c .before .before .before .args in
-    sym (special-by (a .s .now) (a .a) (a .n) (c .before .before .before .pre) ∙ rw (c .before .match .keys2, eq-eqb _ 70 (c .if3 .taken)))
+    let start = c .before .before .before in
+    let a = start .args in
+    sym (special-by (a .s .now) (a .a) (a .n) (start .pre)
+    ∙ rw (c .before .match .keys2, eq-eqb _ 70 (c .if3 .taken)))
 
 returns-4 : tie.Need-returns-4
 returns-4 c =
-    let a = c .before .before .before .before .before .args in
-    sym (special-by (a .s .now) (a .a) (a .n) (c .before .before .before .before .before .pre) ∙ rw (c .before .before .before .match .keys1, ne-eqb _ 70 (c .before .if1 .left), ne-eqb _ 70 (c .if2 .left)))
+    let start = c .before .before .before .before .before in
+    let matched = c .before .before .before .match in
+    let a = start .args in
+    sym (special-by (a .s .now) (a .a) (a .n) (start .pre)
+    ∙ rw (matched .keys1, ne-eqb _ 70 (c .before .if1 .left), ne-eqb _ 70 (c .if2 .left)))
 
 returns-5 : tie.Need-returns-5
 returns-5 c =
-    let a = c .before .before .before .args in
-    sym (special-by (a .s .now) (a .a) (a .n) (c .before .before .before .pre) ∙ rw (c .before .match .keys2, ne-eqb _ 70 (c .if3 .left)))
+    let start = c .before .before .before in
+    let a = start .args in
+    sym (special-by (a .s .now) (a .a) (a .n) (start .pre)
+    ∙ rw (c .before .match .keys2, ne-eqb _ 70 (c .if3 .left)))
 
 returns-6 : tie.Need-returns-6
 returns-6 c =

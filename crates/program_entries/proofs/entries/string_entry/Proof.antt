@@ -1,5 +1,5 @@
 -- `string_entry`: by the place after the closing quote.
-use mathlib.Core.Path.{_≡_, sym, _∙_}
+use mathlib.Core.Path.{sym, _∙_}
 use native.Mathlib.Omega.{arith}
 use Rattle.program_entries.proofs.Strings.{string-closed, string-stands, string-open}
 use borrow.Author.Needs.{needs}
@@ -17,21 +17,25 @@ enum-told c = search needs
 
 returns : tie.Need-returns
 returns c =
-    let a = c .before .before .before .before .args in
-    string-open (a .s .now) (a .at) (c .before .before .before .before .pre .0) (c .before .before .before .before .pre .1) (sym (c .before .before .string-close .ensures) ∙ c .enum-told .given .1)
+    let start = c .before .before .before .before in
+    let a = start .args in
+    string-open (a .s .now) (a .at) (start .pre .0) (start .pre .1)
+    (sym (c .before .before .string-close .ensures) ∙ c .enum-told .given .1)
 
 sub-t5 : tie.Need-sub-t5
 sub-t5 c =
+    let string-close = c .before .before .before .string-close in
     let a = c .before .before .before .before .before .args in
     let end = c .before .end in
-    let q = string-closed (a .s .now) (a .at) (end .given .0 .0) (sym (c .before .before .before .string-close .ensures) ∙ end .given .1) in
+    let q = string-closed (a .s .now) (a .at) (end .given .0 .0) (sym (string-close .ensures) ∙ end .given .1) in
     omega (arith, q .0)
 
 returns-2 : tie.Need-returns-2
 returns-2 c =
-    let a = c .before .before .before .before .before .args in
+    let start = c .before .before .before .before .before in
+    let a = start .args in
     let end = c .before .end in
-    string-stands (a .s .now) (a .at) (c .before .before .before .before .before .pre .0) (c .before .before .before .before .before .pre .1) (end .given .0 .0)
+    string-stands (a .s .now) (a .at) (start .pre .0) (start .pre .1) (end .given .0 .0)
     (sym (c .before .before .before .string-close .ensures) ∙ end .given .1)
 
 pub string-entry-spec : {M : Type 1} → statement M

@@ -1,8 +1,7 @@
 -- `variable_at`: past the text's end, or the token at a place.
-use mathlib.Core.Path.{_≡_, sym, subst}
+use mathlib.Core.Path.{sym, subst}
 use mathlib.Core.Bool.{false}
 use Rattle.program_tokens.specs.Tokens.{Token, spelling}
-use Rattle.program_lexer.specs.Coded.{decoded}
 use Rattle.program_parser.specs.Meaning.{tokenFrom}
 use Rattle.program_parser.proofs.Codes.{decoded-back}
 use Rattle.program_entries.specs.Named.{variableOf, Stands, WordToken}
@@ -27,10 +26,12 @@ token-of-requires c κs = search needs
 
 name-entry-requires : tie.Need-name-entry-requires
 name-entry-requires c κs =
-    let a = c .before .before .before .args in
+    let start = c .before .before .before in
+    let a = start .args in
     let t = c .token-of in
     let back = decoded-back (t .result) (tokenFrom (a .edition .number) (a .s .now) (a .x)) (t .ensures) in
-    (subst (WordToken (a .s .now)) (sym back) (word-at (a .edition .number) (a .s .now) (a .x) (c .before .before .before .pre .2) (c .before .if1 .left)), c .before .before .before .pre .0)
+    let w = word-at (a .edition .number) (a .s .now) (a .x) (start .pre .2) (c .before .if1 .left) in
+    (subst (WordToken (a .s .now)) (sym back) w, start .pre .0)
 
 returns-2 : tie.Need-returns-2
 returns-2 c =

@@ -22,9 +22,10 @@ token-at-requires c κs = search needs
 
 as-ere-requires : tie.Need-as-ere-requires Inv-loop μ-loop
 as-ere-requires c κs =
-    let a = c .before .before .before .before .before .before .before .args in
+    let start = c .before .before .before .before .before .before .before in
+    let a = start .args in
     let u = c .token-at in
-    first-ready (a .edition .number) (a .s .now) (u .result) (u .ensures) (c .before .before .before .before .before .before .before .pre .0)
+    first-ready (a .edition .number) (a .s .now) (u .result) (u .ensures) (start .pre .0)
 
 loop-holds : tie.Need-loop-holds Inv-loop μ-loop
 loop-holds c =
@@ -39,43 +40,55 @@ loop-holds c =
 
 enter-name-requires : tie.Need-enter-name-requires Inv-loop μ-loop
 enter-name-requires c κs =
-    let a = c .before .before .before .before .before .before .before .before .before .before .before .before .args in
-    let l = c .before .before .before .loop in (
+    let turn = c .before .before .before in
+    let start = turn .before .before .before .before .before .before .before .before .before in
+    let a = start .args in
+    let l = turn .loop in (
       turn-inside (a .edition .number) (a .s .now) (l .table) (l .t) (l .parens) (l .n) (l .inv .0),
-      turn-word (a .edition .number) (a .s .now) (l .table) (l .t) (l .parens) (l .n) (l .inv .0) (c .before .before .before .before .before .before .before .before .before .before .before .before .pre .2),
-      c .before .before .before .before .before .before .before .before .before .before .before .before .pre .0,
+      turn-word (a .edition .number) (a .s .now) (l .table) (l .t) (l .parens) (l .n) (l .inv .0) (start .pre .2),
+      start .pre .0,
     )
 
 next-token-requires : tie.Need-next-token-requires Inv-loop μ-loop
 next-token-requires c κs =
-    let a = c .before .before .before .before .before .before .before .before .before .before .before .before .before .before .before .args in
-    let l = c .before .before .before .before .before .before .loop in
-    (l .inv .0 .known, l .inv .0 .walked, c .before .before .before .before .before .before .before .before .before .before .before .before .before .before .before .pre .0)
+    let turn = c .before .before .before .before .before .before in
+    let start = turn .before .before .before .before .before .before .before .before .before in
+    let l = turn .loop in
+    (l .inv .0 .known, l .inv .0 .walked, start .pre .0)
 
 open-after-requires : tie.Need-open-after-requires Inv-loop μ-loop
 open-after-requires c κs =
-    let a = c .before .before .before .before .before .before .before .before .before .before .before .before .before .before .before .before .args in
-    let l = c .before .before .before .before .before .before .before .loop in
-    (l .inv .0 .known, turn-few (a .edition .number) (a .s .now) (l .table) (l .t) (l .parens) (l .n) (l .inv .0) (c .before .before .before .before .before .before .before .before .before .before .before .before .before .before .before .before .pre .0))
+    let turn = c .before .before .before .before .before .before .before in
+    let start = turn .before .before .before .before .before .before .before .before .before in
+    let a = start .args in
+    let l = turn .loop in
+    let small = start .pre .0 in
+    (l .inv .0 .known, turn-few (a .edition .number) (a .s .now) (l .table) (l .t) (l .parens) (l .n) (l .inv .0) small)
 
 loop-less : tie.Need-loop-less Inv-loop μ-loop
 loop-less c =
-    let a = c .before .before .before .before .before .before .before .before .before .before .before .before .before .before .before .before .before .args in
-    let l = c .before .before .before .before .before .before .before .before .loop in
+    let turn = c .before .before .before .before .before .before .before .before in
+    let start = turn .before .before .before .before .before .before .before .before .before in
+    let if1 = c .before .before .before .before .before .before .if1 in
+    let a = start .args in
+    let l = turn .loop in
     let n = c .before .before .before .before .enter-name in
     let u = c .before .next-token in
     let p = c .open-after in
-    turn-less (a .edition .number) (a .s .now) (l .table) (l .t) (l .parens) (l .n) (l .inv .0) (c .before .before .before .before .before .before .if1 .taken)
+    turn-less (a .edition .number) (a .s .now) (l .table) (l .t) (l .parens) (l .n) (l .inv .0) (if1 .taken)
     (n .last .1 .0) (n .result) (n .ensures) (u .result) (u .ensures) (p .result) (p .ensures)
 
 loop-again : tie.Need-loop-again Inv-loop μ-loop
 loop-again c =
-    let a = c .before .before .before .before .before .before .before .before .before .before .before .before .before .before .before .before .before .args in
-    let l = c .before .before .before .before .before .before .before .before .loop in
+    let turn = c .before .before .before .before .before .before .before .before in
+    let start = turn .before .before .before .before .before .before .before .before .before in
+    let if1 = c .before .before .before .before .before .before .if1 in
+    let a = start .args in
+    let l = turn .loop in
     let n = c .before .before .before .before .enter-name in
     let u = c .before .next-token in
     let p = c .open-after in (
-      turn-more (a .edition .number) (a .s .now) (l .table) (l .t) (l .parens) (l .n) (l .inv .0) (c .before .before .before .before .before .before .if1 .taken)
+      turn-more (a .edition .number) (a .s .now) (l .table) (l .t) (l .parens) (l .n) (l .inv .0) (if1 .taken)
           (n .last .1 .0) (n .result) (n .ensures) (u .result) (u .ensures) (p .result) (p .ensures),
       search needs,
     )

@@ -1,5 +1,5 @@
 -- `ere_follows`: each kind by its case.
-use mathlib.Core.Path.{_≡_, sym, _∙_}
+use mathlib.Core.Path.{sym, _∙_}
 use borrow.Author.Tests.{ne-eqb}
 use Rattle.program_entries.proofs.Walking.{follows}
 use Rattle.program_entries.proofs.variables.ere_follows.Statement.{statement}

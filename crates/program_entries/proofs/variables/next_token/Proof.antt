@@ -1,5 +1,5 @@
 -- `next_token`: the token after, up to its closing slash where an ERE follows.
-use mathlib.Core.Path.{_≡_, sym, _∙_}
+use mathlib.Core.Path.{sym, _∙_}
 use Rattle.program_entries.proofs.Walking.{next-ready, next-ere, next-plain}
 use borrow.Author.Needs.{needs}
 use Rattle.program_entries.proofs.variables.next_token.Statement.{statement}
@@ -13,9 +13,11 @@ ere-follows-requires c κs = search needs
 
 as-ere-requires : tie.Need-as-ere-requires
 as-ere-requires c κs =
-    let a = c .before .before .before .before .args in
+    let start = c .before .before .before .before in
+    let a = start .args in
     let u = c .before .before .token-after in
-    next-ready (a .edition .number) (a .s .now) (a .t) (u .result) (a .parens) (u .ensures) (c .before .before .before .before .pre .1) (c .before .before .before .before .pre .2)
+    next-ready (a .edition .number) (a .s .now) (a .t) (u .result) (a .parens) (u .ensures) (start .pre .1)
+    (start .pre .2)
 
 returns : tie.Need-returns
 returns c =

@@ -1,5 +1,5 @@
 -- `open_after`: each kind by its case.
-use mathlib.Core.Path.{_≡_, sym, _∙_}
+use mathlib.Core.Path.{sym, _∙_}
 use borrow.Author.Tests.{eq-eqb, ne-eqb, le-leb, lt-leb}
 use Rattle.program_entries.proofs.Walking.{opens}
 use borrow.Author.Needs.{needs}
@@ -8,16 +8,18 @@ use Rattle.program_entries.proofs.variables.open_after.Tie as tie
 
 returns : tie.Need-returns
 returns c =
-    let a = c .before .before .args in
-    sym (opens (a .kind) (c .before .before .pre .0) (a .parens) ∙ rw (c .before .match .keys3, eq-eqb _ 0 (c .if1 .taken)))
+    let start = c .before .before in
+    let a = start .args in
+    sym (opens (a .kind) (start .pre .0) (a .parens) ∙ rw (c .before .match .keys3, eq-eqb _ 0 (c .if1 .taken)))
 
 add-result : tie.Need-add-result
 add-result c = search needs
 
 returns-2 : tie.Need-returns-2
 returns-2 c =
-    let a = c .before .before .args in
-    sym (opens (a .kind) (c .before .before .pre .0) (a .parens) ∙ rw (c .before .match .keys4, le-leb _ 2 (c .if2 .taken)))
+    let start = c .before .before in
+    let a = start .args in
+    sym (opens (a .kind) (start .pre .0) (a .parens) ∙ rw (c .before .match .keys4, le-leb _ 2 (c .if2 .taken)))
 
 sub-result : tie.Need-sub-result
 sub-result c = search needs
@@ -34,13 +36,15 @@ returns-4 c =
 
 returns-5 : tie.Need-returns-5
 returns-5 c =
-    let a = c .before .before .args in
-    sym (opens (a .kind) (c .before .before .pre .0) (a .parens) ∙ rw (c .before .match .keys3, ne-eqb _ 0 (c .if1 .left)))
+    let start = c .before .before in
+    let a = start .args in
+    sym (opens (a .kind) (start .pre .0) (a .parens) ∙ rw (c .before .match .keys3, ne-eqb _ 0 (c .if1 .left)))
 
 returns-6 : tie.Need-returns-6
 returns-6 c =
-    let a = c .before .before .args in
-    sym (opens (a .kind) (c .before .before .pre .0) (a .parens) ∙ rw (c .before .match .keys4, lt-leb _ 2 (c .if2 .left)))
+    let start = c .before .before in
+    let a = start .args in
+    sym (opens (a .kind) (start .pre .0) (a .parens) ∙ rw (c .before .match .keys4, lt-leb _ 2 (c .if2 .left)))
 
 returns-7 : tie.Need-returns-7
 returns-7 c =
