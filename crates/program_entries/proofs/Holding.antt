@@ -39,6 +39,12 @@ unfolding entriesFrom
 entries-length s escapes t k zero = refl
 entries-length s escapes t k (suc n) = ap suc (entries-length s escapes t (suc k) n)
 
+-- a table that has room holds so many
+pub held-count : (s : List ℕ) (escapes : Bool) (table : List ℕ) (n : ℕ) (l : List Constant) → Held s escapes table n l
+    → 2 * n ≤ length table → length l ≡ n
+held-count s escapes table n l held fits =
+    ap length (sym (held .few fits .0)) ∙ entries-length s escapes table 0 n
+
 -- ---- the special variables
 
 numbers-length : (n : ℕ) (t : List ℕ) → length (numbersIn n t) ≡ length t
@@ -129,7 +135,7 @@ module _ (s : List ℕ) (t : Token) where
       named-by = rw user
 
       size : length l ≡ n
-      size = ap length (sym (held .few fits .0)) ∙ entries-length s false table 0 n
+      size = held-count s false table n l held fits
 
       module _ (e : Entry) (k : ℕ) (means : meant s false e ≡ Name)
           (which : k ≡ numberOf sameConstant (entriesFrom s false table 0 n) (meant s false e)) where

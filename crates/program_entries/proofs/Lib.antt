@@ -7,3 +7,4 @@ pub mod Naming
 pub mod Walking
 pub mod Holding
 pub mod Turns
+pub mod Users
