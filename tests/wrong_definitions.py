@@ -4,9 +4,7 @@
     tests/wrong_definitions.py [--tables] [WORD..]
 
 The script copies crates.txt, crates/ and what is proved of them in target/ to a temporary folder, applies one wrong
-definition there and runs `rt check sound`: that proves the definition's crate, those above it, and the tables of `sound`.
-The claim of `sound` about whole runs is left out there: it needs the crates of the checker and the runner, of which each
-would take its time for each wrong definition.
+definition there and runs `rt check sound_cases`: that proves the definition's crate, those above it, and the tables of `sound_cases`.
 It prints which crate refuses the definition, and where first. Exit status: 0 if each is refused; 1 if one is accepted, or
 is no definition at all (the checker refuses it in specs/, not in a proof); 2 if a text to be replaced is not there, or the
 crates don't pass as they are.
@@ -24,10 +22,6 @@ import tempfile
 
 ROOT = os.path.dirname(os.path.dirname(os.path.abspath(__file__)))
 LIBRARIES = ('rlib', 'stamp', 'obj', 'bin')
-
-# the claim about whole runs: its files in `sound`, and the crates that only it uses
-CLAIM = (('specs', 'Demand'), ('proofs', 'Whole'))
-CLAIM_CRATES = ('image_check', 'runner')
 
 # the crates whose theorems --tables leaves out
 THEOREMS = ('values', 'semantics', 'program_reader', 'program_code', 'program_numbering', 'translation')
@@ -236,25 +230,11 @@ def copied(tables):
         source = os.path.join(ROOT, 'target', name)
         if os.path.isdir(source):
             shutil.copytree(source, os.path.join(scratch, 'target', name), symlinks=True)
-    leave_claim(scratch)
     if tables:
         for crate in THEOREMS:
             for part in ('proofs', 'must-fail'):
                 shutil.rmtree(os.path.join(scratch, 'crates', crate, part), ignore_errors=True)
     return scratch
-
-
-def leave_claim(scratch):
-    """Leaves the claim about whole runs out of the copy's `sound`."""
-    for part, name in CLAIM:
-        folder = os.path.join(scratch, 'crates', 'sound', part)
-        os.remove(os.path.join(folder, name + '.antt'))
-        lib = os.path.join(folder, 'Lib.antt')
-        write(lib, read(lib).replace('pub mod %s\n' % name, ''))
-    path = os.path.join(scratch, 'crates.txt')
-    lines = [line if not line.startswith('sound:') else ' '.join(w for w in line.split(' ') if w not in CLAIM_CRATES)
-             for line in read(path).split('\n')]
-    write(path, '\n'.join(lines))
 
 
 def specs(folder, crate, name):
@@ -281,8 +261,8 @@ def edited(text, edits):
 
 
 def checked(scratch):
-    """What `rt check sound` says: None if all is proved, else the crate that refuses and its first error."""
-    done = subprocess.run(['rt', 'check', 'sound'], cwd=scratch, stdout=subprocess.PIPE, stderr=subprocess.STDOUT)
+    """What `rt check sound_cases` says: None if all is proved, else the crate that refuses and its first error."""
+    done = subprocess.run(['rt', 'check', 'sound_cases'], cwd=scratch, stdout=subprocess.PIPE, stderr=subprocess.STDOUT)
     answer = done.stdout.decode('utf-8', 'replace')
     if done.returncode == 0:
         return None

@@ -1,4 +1,2 @@
--- The claim and the tables hold.
+-- The claim holds.
 pub mod Whole
-pub mod Filter
-pub mod Tables

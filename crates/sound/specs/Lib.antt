@@ -1,7 +1,2 @@
--- Demand 3 as one claim; document 01's cases and rules as tables.
+-- Demand 3 as one claim.
 pub mod Demand
-pub mod Text
-pub mod Assembler
-pub mod EightCases
-pub mod ValueRows
-pub mod RunRows

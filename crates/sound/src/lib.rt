@@ -1,1 +1,1 @@
-// Document 01's eight cases, and tables of values, comparisons and runs that are computed. Definitions and theorems, no code.
+// Demand 3 as one claim about whole runs. Definitions and theorems, no code.

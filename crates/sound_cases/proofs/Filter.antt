@@ -26,8 +26,8 @@ use Rattle.program_numbering.specs.Names.{has, withNew, numberOf, usersAmong, u
 use Rattle.program_numbering.specs.Numbering.{sameConstant, operandsBy, tablesOf, numbersOf, instructions, imageBy}
 use Rattle.program_numbering.specs.Sizes.{fits}
 use Rattle.translation.specs.Translation.{Translation, refused, stored, sized, ofProgram, translateOf}
-use Rattle.sound.specs.Text.{bytes}
-use Rattle.sound.specs.EightCases.{printFilter, printImage}
+use Rattle.sound_cases.specs.Text.{bytes}
+use Rattle.sound_cases.specs.EightCases.{printFilter, printImage}
 
 -- in any room that has as many bytes
 pub print-translates : (room : List ℕ) → length printImage ≤ length room

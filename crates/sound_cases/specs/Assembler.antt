@@ -3,7 +3,7 @@ use mathlib.Core.List.{List, [], _∷_}
 use Prim.Native.Nat.{ℕ, _+_, _-_}
 use Prim.Native.String.{String}
 use Rattle.image_format.specs.Image.{Constant, number, text, Instruction, Image}
-use Rattle.sound.specs.Text.{bytes}
+use Rattle.sound_cases.specs.Text.{bytes}
 
 -- an instruction but for its depth: its code, how many operands it takes and leaves, and the operand that it names
 pub record Step : Type 0 where

@@ -11,7 +11,7 @@ use Rattle.image_format.specs.Codes.{add, subtract, multiply, divide, remainder
 use Rattle.values.specs.Value.{Value, unset, number, text, field-text, stop, Result, gives, stops, truthOf}
 use Rattle.values.specs.Operations.{arithmeticOf, negateOf, toNumberOf, notOf, compareOf, joinOf, lengthOf, indexOf}
 use Rattle.values.specs.Operations.{substrOf, fieldNumber}
-use Rattle.sound.specs.Text.{bytes, minus}
+use Rattle.sound_cases.specs.Text.{bytes, minus}
 
 -- ---- values, and what operations give
 

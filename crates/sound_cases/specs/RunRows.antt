@@ -12,13 +12,13 @@ use Rattle.image_format.specs.Image.{Image}
 use Rattle.semantics.specs.Feed.{feed}
 use Rattle.semantics.specs.Check.{check}
 use Rattle.semantics.specs.Run.{Answer, answerOf, run}
-use Rattle.sound.specs.Text.{bytes}
-use Rattle.sound.specs.Assembler.{whole, quoted, image}
-use Rattle.sound.specs.Assembler.{constant, get, set, field, set-field, drop, plus, minus, times, divide}
-use Rattle.sound.specs.Assembler.{remainder, negate, to-number, not}
-use Rattle.sound.specs.Assembler.{less, at-most, equal, different, greater, at-least, join, matches, match}
-use Rattle.sound.specs.Assembler.{length, index, substr}
-use Rattle.sound.specs.Assembler.{jump, jump-if-false, print, next, exit, NF, NR, FS, OFS, ORS, RSTART, RLENGTH}
+use Rattle.sound_cases.specs.Text.{bytes}
+use Rattle.sound_cases.specs.Assembler.{whole, quoted, image}
+use Rattle.sound_cases.specs.Assembler.{constant, get, set, field, set-field, drop, plus, minus, times, divide}
+use Rattle.sound_cases.specs.Assembler.{remainder, negate, to-number, not}
+use Rattle.sound_cases.specs.Assembler.{less, at-most, equal, different, greater, at-least, join, matches, match}
+use Rattle.sound_cases.specs.Assembler.{length, index, substr}
+use Rattle.sound_cases.specs.Assembler.{jump, jump-if-false, print, next, exit, NF, NR, FS, OFS, ORS, RSTART, RLENGTH}
 
 -- ---- rows
 

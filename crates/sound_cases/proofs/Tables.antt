@@ -64,20 +64,20 @@ use Rattle.semantics.specs.Variables.{specials as semantics-specials, specialCo
 use Rattle.semantics.specs.Variables.{specialOf as semantics-specialOf, assignable as semantics-assignable}
 use Rattle.semantics.specs.World.{valueAt as semantics-valueAt, splitBy as semantics-splitBy}
 use Rattle.semantics.specs.World.{readRecord as semantics-readRecord}
-use Rattle.sound.specs.Text.{Each}
-use Rattle.sound.specs.EightCases.{Claim as OfCase, eightCases}
-use Rattle.sound.specs.ValueRows.{Claim as OfValues}
-use Rattle.sound.specs.ValueRows.{looks, text-numbers, number-stops, number-orders, byte-orders, comparison-stops}
-use Rattle.sound.specs.ValueRows.{nonzero-truths, nonempty-truths, truth-stops, negations, plain-decimals}
-use Rattle.sound.specs.ValueRows.{operand-numbers, quotients, remainders, ranges, substrings, places}
-use Rattle.sound.specs.RunRows.{Claim as OfRun}
-use Rattle.sound.specs.RunRows.{record-kinds, assigned-kinds, unset-fields, field-numbers, match-marks}
-use Rattle.sound.specs.RunRows.{joined-records, separators-in-force, first-and-last-records, first-values}
-use Rattle.sound.specs.RunRows.{unset-users, record-ends, read-stops, stopped-steps, section-order, exits}
-use Rattle.sound.specs.RunRows.{budgets}
-use Rattle.sound.specs.RunRows.{prints, arithmetic-codes, comparison-codes, text-codes, jumps, kept-operands}
-use Rattle.sound.specs.RunRows.{missing-things, no-rules}
-use Rattle.sound.proofs.Filter.{print-translates as translates}
+use Rattle.sound_cases.specs.Text.{Each}
+use Rattle.sound_cases.specs.EightCases.{Claim as OfCase, eightCases}
+use Rattle.sound_cases.specs.ValueRows.{Claim as OfValues}
+use Rattle.sound_cases.specs.ValueRows.{looks, text-numbers, number-stops, number-orders, byte-orders, comparison-stops}
+use Rattle.sound_cases.specs.ValueRows.{nonzero-truths, nonempty-truths, truth-stops, negations, plain-decimals}
+use Rattle.sound_cases.specs.ValueRows.{operand-numbers, quotients, remainders, ranges, substrings, places}
+use Rattle.sound_cases.specs.RunRows.{Claim as OfRun}
+use Rattle.sound_cases.specs.RunRows.{record-kinds, assigned-kinds, unset-fields, field-numbers, match-marks}
+use Rattle.sound_cases.specs.RunRows.{joined-records, separators-in-force, first-and-last-records, first-values}
+use Rattle.sound_cases.specs.RunRows.{unset-users, record-ends, read-stops, stopped-steps, section-order, exits}
+use Rattle.sound_cases.specs.RunRows.{budgets}
+use Rattle.sound_cases.specs.RunRows.{prints, arithmetic-codes, comparison-codes, text-codes, jumps, kept-operands}
+use Rattle.sound_cases.specs.RunRows.{missing-things, no-rules}
+use Rattle.sound_cases.proofs.Filter.{print-translates as translates}
 
 -- document 01's eight cases; the tables of values; the tables of runs
 pub computed : (Each OfCase eightCases)

@@ -26,8 +26,8 @@ use Rattle.semantics.specs.Operations.{Effect, byEre, matchMarked}
 use Rattle.semantics.specs.Check.{check}
 use Rattle.semantics.specs.Run.{Answer, answerOf, run}
 use Rattle.translation.specs.Translation.{translateOf}
-use Rattle.sound.specs.Text.{bytes, minus}
-use Rattle.sound.specs.Assembler.{constant, field, print, whole, image}
+use Rattle.sound_cases.specs.Text.{bytes, minus}
+use Rattle.sound_cases.specs.Assembler.{constant, field, print, whole, image}
 
 -- ---- what the rows speak of
 

@@ -1,0 +1,3 @@
+-- The tables hold.
+pub mod Filter
+pub mod Tables
