@@ -8,3 +8,4 @@ mod words;
 pub use any::exists;
 pub use search::Found;
 pub use search::find_from;
+pub use words::step;

@@ -1,0 +1,2 @@
+-- The laws of an automaton that is made from a table.
+pub mod Columns

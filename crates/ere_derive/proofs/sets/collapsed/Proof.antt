@@ -1,0 +1,25 @@
+use borrow.Author.Needs.{needs}
+use Rattle.ere_derive.proofs.sets.collapsed.Statement.{statement}
+use Rattle.ere_derive.proofs.sets.collapsed.Tie as tie
+use Rattle.ere_derive.proofs.sets.collapsed.Reads as reads
+use Rattle.ere_derive.proofs.sets.collapsed.Lts as lts
+use Rattle.ere_table.proofs.has.Reads as has-reads
+
+-- src/sets.rt:23:8
+has-requires : tie.Need-has-requires
+has-requires c κs = search needs
+
+-- src/sets.rt:24:23
+array-read-t7 : tie.Need-array-read-t7
+array-read-t7 c = search needs
+
+-- src/sets.rt:24:9
+returns : tie.Need-returns
+returns c = ?
+
+-- src/sets.rt:20:1
+returns-2 : tie.Need-returns-2
+returns-2 c = ?
+
+pub collapsed-spec : {M : Type 1} → statement M
+collapsed-spec = tie.close (tie.spec has-requires array-read-t7 returns returns-2)

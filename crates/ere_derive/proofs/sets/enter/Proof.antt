@@ -1,0 +1,68 @@
+use borrow.Author.Needs.{needs}
+use Rattle.ere_derive.proofs.sets.enter.Statement.{statement}
+use Rattle.ere_derive.proofs.sets.enter.Tie as tie
+use Rattle.ere_derive.proofs.sets.enter.Reads as reads
+use Rattle.ere_derive.proofs.sets.enter.Lts as lts
+use Rattle.ere_derive.proofs.sets.find.Reads as find-reads
+use Rattle.ere_derive.proofs.sets.is_fair.Reads as is-fair-reads
+use Rattle.ere_derive.proofs.sets.put.Reads as put-reads
+
+-- src/sets.rt:94:9
+find-requires : tie.Need-find-requires
+find-requires c κs = search needs
+
+-- src/sets.rt:96:9
+same-length : tie.Need-same-length
+same-length c = search needs
+
+-- src/sets.rt:96:9
+returns : tie.Need-returns
+returns c = ?
+
+-- src/sets.rt:99:12
+is-fair-requires : tie.Need-is-fair-requires
+is-fair-requires c κs = search needs
+
+-- src/sets.rt:100:13
+put-requires : tie.Need-put-requires
+put-requires c κs = search needs
+
+-- src/sets.rt:101:37
+add-t13 : tie.Need-add-t13
+add-t13 c = search needs
+
+-- src/sets.rt:101:13
+same-length-2 : tie.Need-same-length-2
+same-length-2 c = search needs
+
+-- src/sets.rt:101:13
+returns-2 : tie.Need-returns-2
+returns-2 c = ?
+
+-- src/sets.rt:104:22
+add-t14 : tie.Need-add-t14
+add-t14 c = search needs
+
+-- src/sets.rt:90:1
+same-length-3 : tie.Need-same-length-3
+same-length-3 c = search needs
+
+-- src/sets.rt:90:1
+returns-3 : tie.Need-returns-3
+returns-3 c = ?
+
+pub enter-spec : {M : Type 1} → statement M
+enter-spec =
+    tie.close
+    (tie.spec
+    find-requires
+    same-length
+    returns
+    is-fair-requires
+    put-requires
+    add-t13
+    same-length-2
+    returns-2
+    add-t14
+    same-length-3
+    returns-3)

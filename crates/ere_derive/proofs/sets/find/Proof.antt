@@ -1,0 +1,53 @@
+use Rattle.ere_derive.proofs.sets.find.Statement.{statement}
+use Rattle.ere_derive.proofs.sets.find.Tie as tie
+use Rattle.ere_derive.proofs.sets.find.Reads as reads
+use Rattle.ere_derive.proofs.sets.find.Lts as lts
+use Rattle.ere_derive.proofs.sets.is_at.Reads as is-at-reads
+
+abbrev Inv-loop : tie.InvT-loop
+Inv-loop sets n s i₀ i = ?
+
+abbrev μ-loop : tie.MeasureT-loop
+μ-loop sets n s i₀ i = ?
+
+-- src/sets.rt:65:5
+loop-holds : tie.Need-loop-holds Inv-loop μ-loop
+loop-holds c = ?
+
+-- src/sets.rt:66:12
+is-at-requires : tie.Need-is-at-requires Inv-loop μ-loop
+is-at-requires c κs = ?
+
+-- src/sets.rt:67:13
+returns : tie.Need-returns Inv-loop μ-loop
+returns c = ?
+
+-- src/sets.rt:69:9
+add-i : tie.Need-add-i Inv-loop μ-loop
+add-i c = ?
+
+-- src/sets.rt:65:5
+loop-less : tie.Need-loop-less Inv-loop μ-loop
+loop-less c = ?
+
+-- src/sets.rt:65:5
+loop-again : tie.Need-loop-again Inv-loop μ-loop
+loop-again c = ?
+
+-- src/sets.rt:60:1
+returns-2 : tie.Need-returns-2 Inv-loop μ-loop
+returns-2 c = ?
+
+pub find-spec : {M : Type 1} → statement M
+find-spec =
+    tie.close
+    (tie.spec
+    Inv-loop
+    μ-loop
+    loop-holds
+    is-at-requires
+    returns
+    add-i
+    loop-less
+    loop-again
+    returns-2)

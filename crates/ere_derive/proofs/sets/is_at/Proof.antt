@@ -1,0 +1,85 @@
+use borrow.Author.Needs.{needs}
+use Rattle.ere_derive.proofs.sets.is_at.Statement.{statement}
+use Rattle.ere_derive.proofs.sets.is_at.Tie as tie
+use Rattle.ere_derive.proofs.sets.is_at.Reads as reads
+use Rattle.ere_derive.proofs.sets.is_at.Lts as lts
+
+-- src/sets.rt:56:11
+mul-result : tie.Need-mul-result
+mul-result c = search needs
+
+-- src/sets.rt:56:6
+mul-result-2 : tie.Need-mul-result-2
+mul-result-2 c = search needs
+
+-- src/sets.rt:56:6
+shared-slice-read-result : tie.Need-shared-slice-read-result
+shared-slice-read-result c = search needs
+
+-- src/sets.rt:56:21
+array-read-result : tie.Need-array-read-result
+array-read-result c = search needs
+
+-- src/sets.rt:56:36
+mul-result-3 : tie.Need-mul-result-3
+mul-result-3 c = search needs
+
+-- src/sets.rt:56:36
+add-result : tie.Need-add-result
+add-result c = search needs
+
+-- src/sets.rt:56:31
+mul-result-4 : tie.Need-mul-result-4
+mul-result-4 c = search needs
+
+-- src/sets.rt:56:31
+shared-slice-read-result-2 : tie.Need-shared-slice-read-result-2
+shared-slice-read-result-2 c = search needs
+
+-- src/sets.rt:56:50
+array-read-result-2 : tie.Need-array-read-result-2
+array-read-result-2 c = search needs
+
+-- src/sets.rt:56:64
+mul-result-5 : tie.Need-mul-result-5
+mul-result-5 c = search needs
+
+-- src/sets.rt:56:64
+add-result-2 : tie.Need-add-result-2
+add-result-2 c = search needs
+
+-- src/sets.rt:56:59
+mul-result-6 : tie.Need-mul-result-6
+mul-result-6 c = search needs
+
+-- src/sets.rt:56:59
+shared-slice-read-result-3 : tie.Need-shared-slice-read-result-3
+shared-slice-read-result-3 c = search needs
+
+-- src/sets.rt:56:78
+array-read-result-3 : tie.Need-array-read-result-3
+array-read-result-3 c = search needs
+
+-- src/sets.rt:52:1
+returns : tie.Need-returns
+returns c = let g = c .before .before .before .good in let a = c .before .before .before .args in let f = c .before .before .before .fits in ?
+
+pub is-at-spec : {M : Type 1} → statement M
+is-at-spec =
+    tie.close
+    (tie.spec
+    mul-result
+    mul-result-2
+    shared-slice-read-result
+    array-read-result
+    mul-result-3
+    add-result
+    mul-result-4
+    shared-slice-read-result-2
+    array-read-result-2
+    mul-result-5
+    add-result-2
+    mul-result-6
+    shared-slice-read-result-3
+    array-read-result-3
+    returns)

@@ -1,0 +1,29 @@
+use borrow.Author.Needs.{needs}
+use Rattle.ere_derive.proofs.sets.is_fair.Statement.{statement}
+use Rattle.ere_derive.proofs.sets.is_fair.Tie as tie
+use Rattle.ere_derive.proofs.sets.is_fair.Reads as reads
+use Rattle.ere_derive.proofs.sets.is_fair.Lts as lts
+use Rattle.ere_table.proofs.has.Reads as has-reads
+
+-- src/sets.rt:46:8
+has-requires : tie.Need-has-requires
+has-requires c κs = search needs
+
+-- src/sets.rt:47:34
+add-has : tie.Need-add-has
+add-has c = search needs
+
+-- src/sets.rt:47:9
+has-requires-2 : tie.Need-has-requires-2
+has-requires-2 c κs = search needs
+
+-- src/sets.rt:47:9
+returns : tie.Need-returns
+returns c = ?
+
+-- src/sets.rt:43:1
+returns-2 : tie.Need-returns-2
+returns-2 c = ?
+
+pub is-fair-spec : {M : Type 1} → statement M
+is-fair-spec = tie.close (tie.spec has-requires add-has has-requires-2 returns returns-2)

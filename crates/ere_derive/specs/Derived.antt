@@ -1,0 +1,18 @@
+-- Internal: cited by private contracts only. An automaton that was made from a table.
+use mathlib.Core.Path.{_≡_}
+use mathlib.Core.List.{List}
+use Prim.Native.Nat.{ℕ, _≤_, _<_}
+use lib.ListN.{length, take, getD}
+use Rattle.ere_automaton.specs.Automaton.{Drives}
+use Rattle.ere_automaton.specs.Layout.{rowsAt}
+
+-- r is 0, or the first r words are an automaton of the table
+pub record Derived (t d : List ℕ) (r : ℕ) (d' : List ℕ) : Type 0 where
+  pub size : length d' ≡ length d
+  pub inside : r ≤ length d
+  pub drives : 0 < r → Drives t (take r d')
+
+-- the same, of an attempt that leaves classes and ranges as they are
+pub record Attempted (t d : List ℕ) (r : ℕ) (d' : List ℕ) : Type 0 where
+  pub derived : Derived t d r d'
+  pub kept : (i : ℕ) → 5 ≤ i → i < rowsAt → getD d' i 0 ≡ getD d i 0

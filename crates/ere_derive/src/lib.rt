@@ -1,0 +1,6 @@
+// A finite automaton from the table of an ERE, for the existence of a match: the classes of the bytes, the sets of
+// places that can be reached, a row for each, and the ranges of a match's first two bytes.
+pub mod classes;
+mod layout;
+pub mod pairs;
+pub mod sets;
