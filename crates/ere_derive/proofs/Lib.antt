@@ -1,2 +1,4 @@
 -- The laws of an automaton that is made from a table.
 pub mod Columns
+pub mod Grown
+pub mod Composed

@@ -64,11 +64,12 @@ Closed k n stride d p = (c : ℕ) → c < k → RowOf n stride (getD d (p + c) 0
 abbrev pub Paired : ℕ → List ℕ → List ℕ → ℕ → ℕ → Type 0
 Paired k d d' p m = (c e : ℕ) → c < m → e < k → getD d' (p + (k + 1 + (c * k + e))) 0 ≡ getD d (getD d (p + c) 0 + e) 0
 
-pub record PutPairs (k n stride : ℕ) (d d' : List ℕ) : Type 0 where
+-- the pairs of the first m of n rows were stored
+pub record PutPairs (k n stride m : ℕ) (d d' : List ℕ) : Type 0 where
   pub size : length d' ≡ length d
   pub below : (i : ℕ) → i < rowsAt → getD d' i 0 ≡ getD d i 0
   pub kept : (i c : ℕ) → i < n → c < k + 1 → getD d' (rowsAt + stride * i + c) 0 ≡ getD d (rowsAt + stride * i + c) 0
-  pub paired : (i : ℕ) → i < n → Paired k d d' (rowsAt + stride * i) k
+  pub paired : (i : ℕ) → i < m → Paired k d d' (rowsAt + stride * i) k
 
 -- the sets that an automaton begins with
 pub record Begins (t a : List ℕ) (most count accepted later first : ℕ) (a' : List ℕ) : Type 0 where

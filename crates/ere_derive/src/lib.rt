@@ -3,4 +3,5 @@
 pub mod classes;
 mod layout;
 pub mod pairs;
+pub mod rows;
 pub mod sets;

@@ -39,7 +39,7 @@ fn put_pairs_in(d: &mut [u16], k: usize, p: usize)
 pub fn put_pairs(d: &mut [u16], k: usize, stride: usize, n: usize)
     requires { ⌜ (stride ≡ k + 1 + k * k) × (rowsAt + stride * n ≤ length (now d)) × (length (now d) < 65536)
         × ((i : ℕ) → i < n → Closed k n stride (now d) (rowsAt + stride * i)) ⌝ }
-    ensures { λ _. ⌜ PutPairs k n stride (now (d .entry)) (now (d .exit)) ⌝ }
+    ensures { λ _. ⌜ PutPairs k n stride n (now (d .entry)) (now (d .exit)) ⌝ }
 {
     let mut i: usize = 0;
     while i < n {

@@ -1,3 +1,9 @@
+use Prim.Native.Nat.{ℕ, _+_, _-_, _*_, _≤_, _<_}
+use mathlib.Core.Path.{_≡_, refl, sym, ap, ap₂, subst, _∙_}
+use native.Mathlib.Omega.{arith}
+use lib.ListN.{length, length-set, getD}
+use Rattle.ere_automaton.specs.Sets.{collapsed, after}
+use Rattle.ere_table.specs.Table.{join}
 use borrow.Author.Needs.{needs}
 use Rattle.ere_derive.proofs.sets.after.Statement.{statement}
 use Rattle.ere_derive.proofs.sets.after.Tie as tie
@@ -15,7 +21,8 @@ has-requires c κs = search needs
 
 -- src/sets.rt:35:9
 returns : tie.Need-returns
-returns c = ?
+unfolding after
+returns c = rw (← c .before .has .ensures, c .if1 .taken)
 
 -- src/sets.rt:37:9
 step-requires : tie.Need-step-requires
@@ -35,7 +42,8 @@ collapsed-requires c κs = search needs
 
 -- src/sets.rt:30:1
 returns-2 : tie.Need-returns-2
-returns-2 c = ?
+unfolding after
+returns-2 c = rw (← c .before .before .before .before .before .has .ensures, c .before .before .before .before .if1 .left) (c .collapsed .ensures ∙ ap collapsed (c .before .union .ensures ∙ ap₂ join (c .before .before .before .step .ensures) (c .before .before .set-at .ensures)))
 
 pub after-spec : {M : Type 1} → statement M
 after-spec =

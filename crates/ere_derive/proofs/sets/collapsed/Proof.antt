@@ -1,3 +1,8 @@
+use Prim.Native.Nat.{ℕ, _+_, _-_, _*_, _≤_, _<_}
+use mathlib.Core.Path.{_≡_, refl, sym, ap, ap₂, subst, _∙_}
+use native.Mathlib.Omega.{arith}
+use lib.ListN.{length, length-set, getD}
+use Rattle.ere_automaton.specs.Sets.{collapsed}
 use borrow.Author.Needs.{needs}
 use Rattle.ere_derive.proofs.sets.collapsed.Statement.{statement}
 use Rattle.ere_derive.proofs.sets.collapsed.Tie as tie
@@ -15,11 +20,13 @@ array-read-t7 c = search needs
 
 -- src/sets.rt:24:9
 returns : tie.Need-returns
-returns c = ?
+unfolding collapsed
+returns c = rw (← c .before .has .ensures, c .if1 .taken)
 
 -- src/sets.rt:20:1
 returns-2 : tie.Need-returns-2
-returns-2 c = ?
+unfolding collapsed
+returns-2 c = rw (← c .before .has .ensures, c .if1 .left)
 
 pub collapsed-spec : {M : Type 1} → statement M
 collapsed-spec = tie.close (tie.spec has-requires array-read-t7 returns returns-2)

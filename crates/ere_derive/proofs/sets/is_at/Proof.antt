@@ -1,3 +1,8 @@
+use Prim.Native.Nat.{ℕ, _+_, _-_, _*_, _≤_, _<_}
+use mathlib.Core.Path.{_≡_, refl, sym, ap, ap₂, subst, _∙_}
+use native.Mathlib.Omega.{arith}
+use lib.ListN.{length, length-set, getD}
+use Rattle.ere_derive.proofs.Grown.{row-is}
 use borrow.Author.Needs.{needs}
 use Rattle.ere_derive.proofs.sets.is_at.Statement.{statement}
 use Rattle.ere_derive.proofs.sets.is_at.Tie as tie
@@ -62,7 +67,7 @@ array-read-result-3 c = search needs
 
 -- src/sets.rt:52:1
 returns : tie.Need-returns
-returns c = let g = c .before .before .before .good in let a = c .before .before .before .args in let f = c .before .before .before .fits in ?
+returns c = row-is (c .before .before .before .args .sets .now) (c .before .before .before .args .i) (c .before .before .before .args .t3) (c .before .before .before .good .1 .1 .0 .1 .0 .1)
 
 pub is-at-spec : {M : Type 1} → statement M
 is-at-spec =

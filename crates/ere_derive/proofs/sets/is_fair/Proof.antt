@@ -1,3 +1,8 @@
+use Prim.Native.Nat.{ℕ, _+_, _-_, _*_, _≤_, _<_}
+use mathlib.Core.Path.{_≡_, refl, sym, ap, ap₂, subst, _∙_}
+use native.Mathlib.Omega.{arith}
+use lib.ListN.{length, length-set, getD}
+use Rattle.lists.proofs.Tests.{clash}
 use borrow.Author.Needs.{needs}
 use Rattle.ere_derive.proofs.sets.is_fair.Statement.{statement}
 use Rattle.ere_derive.proofs.sets.is_fair.Tie as tie
@@ -19,11 +24,11 @@ has-requires-2 c κs = search needs
 
 -- src/sets.rt:47:9
 returns : tie.Need-returns
-returns c = ?
+returns c = λ e. record { fair = λ h. sym (c .has2 .ensures) ∙ e }
 
 -- src/sets.rt:43:1
 returns-2 : tie.Need-returns-2
-returns-2 c = ?
+returns-2 c = λ e. record { fair = λ h. absurd (clash (sym h ∙ sym (c .before .has .ensures) ∙ c .if1 .left)) }
 
 pub is-fair-spec : {M : Type 1} → statement M
 is-fair-spec = tie.close (tie.spec has-requires add-has has-requires-2 returns returns-2)

@@ -1,3 +1,8 @@
+use Prim.Native.Nat.{ℕ, _+_, _-_, _*_, _≤_, _<_}
+use mathlib.Core.Path.{_≡_, refl, sym, ap, ap₂, subst, _∙_}
+use native.Mathlib.Omega.{arith}
+use lib.ListN.{length, length-set, getD}
+use Rattle.ere_derive.proofs.Grown.{put-is}
 use borrow.Author.Needs.{needs}
 use Rattle.ere_derive.proofs.sets.put.Statement.{statement}
 use Rattle.ere_derive.proofs.sets.put.Tie as tie
@@ -38,7 +43,7 @@ mul-sets-4 c = search needs
 
 -- src/sets.rt:79:5
 slice-write-sets-2 : tie.Need-slice-write-sets-2
-slice-write-sets-2 c = ?
+slice-write-sets-2 c = simp length-set (omega arith)
 
 -- src/sets.rt:80:23
 array-read-sets-3 : tie.Need-array-read-sets-3
@@ -58,7 +63,7 @@ mul-sets-6 c = search needs
 
 -- src/sets.rt:80:5
 slice-write-sets-3 : tie.Need-slice-write-sets-3
-slice-write-sets-3 c = ?
+slice-write-sets-3 c = simp length-set (omega arith)
 
 -- src/sets.rt:74:1
 same-length : tie.Need-same-length
@@ -66,7 +71,7 @@ same-length c = search needs
 
 -- src/sets.rt:74:1
 returns : tie.Need-returns
-returns c = ?
+returns c = put-is (c .args .sets .now) (c .args .i) (c .args .t3) (c .pre) (c .good .1 .1 .0 .1 .0 .1)
 
 pub put-spec : {M : Type 1} → statement M
 put-spec =

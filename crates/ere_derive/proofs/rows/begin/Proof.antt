@@ -1,0 +1,103 @@
+use borrow.Author.Needs.{needs}
+use Rattle.ere_derive.proofs.rows.begin.Statement.{statement}
+use Rattle.ere_derive.proofs.rows.begin.Tie as tie
+use Rattle.ere_derive.proofs.rows.begin.Reads as reads
+use Rattle.ere_derive.proofs.rows.begin.Lts as lts
+use Rattle.ere_derive.proofs.sets.collapsed.Reads as collapsed-reads
+use Rattle.ere_derive.proofs.sets.enter.Reads as enter-reads
+use Rattle.ere_derive.proofs.sets.set_at.Reads as set-at-reads
+
+-- src/rows.rt:96:9
+enter-requires : tie.Need-enter-requires
+enter-requires c κs = search needs
+
+-- src/rows.rt:98:31
+add-t11 : tie.Need-add-t11
+add-t11 c = search needs
+
+-- src/rows.rt:98:9
+same-length : tie.Need-same-length
+same-length c = search needs
+
+-- src/rows.rt:98:9
+returns : tie.Need-returns
+returns c = ?
+
+-- src/rows.rt:100:62
+set-at-requires : tie.Need-set-at-requires
+set-at-requires c κs = search needs
+
+-- src/rows.rt:100:46
+collapsed-requires : tie.Need-collapsed-requires
+collapsed-requires c κs = search needs
+
+-- src/rows.rt:100:9
+enter-requires-2 : tie.Need-enter-requires-2
+enter-requires-2 c κs = search needs
+
+-- src/rows.rt:102:31
+add-t15 : tie.Need-add-t15
+add-t15 c = search needs
+
+-- src/rows.rt:102:9
+same-length-2 : tie.Need-same-length-2
+same-length-2 c = search needs
+
+-- src/rows.rt:102:9
+returns-2 : tie.Need-returns-2
+returns-2 c = ?
+
+-- src/rows.rt:104:62
+set-at-requires-2 : tie.Need-set-at-requires-2
+set-at-requires-2 c κs = search needs
+
+-- src/rows.rt:104:46
+collapsed-requires-2 : tie.Need-collapsed-requires-2
+collapsed-requires-2 c κs = search needs
+
+-- src/rows.rt:104:9
+enter-requires-3 : tie.Need-enter-requires-3
+enter-requires-3 c κs = search needs
+
+-- src/rows.rt:106:31
+add-t18 : tie.Need-add-t18
+add-t18 c = search needs
+
+-- src/rows.rt:106:9
+same-length-3 : tie.Need-same-length-3
+same-length-3 c = search needs
+
+-- src/rows.rt:106:9
+returns-3 : tie.Need-returns-3
+returns-3 c = ?
+
+-- src/rows.rt:91:1
+same-length-4 : tie.Need-same-length-4
+same-length-4 c = search needs
+
+-- src/rows.rt:91:1
+returns-4 : tie.Need-returns-4
+returns-4 c = ?
+
+pub begin-spec : {M : Type 1} → statement M
+begin-spec =
+    tie.close
+    (tie.spec
+    enter-requires
+    add-t11
+    same-length
+    returns
+    set-at-requires
+    collapsed-requires
+    enter-requires-2
+    add-t15
+    same-length-2
+    returns-2
+    set-at-requires-2
+    collapsed-requires-2
+    enter-requires-3
+    add-t18
+    same-length-3
+    returns-3
+    same-length-4
+    returns-4)
