@@ -10,6 +10,7 @@ use lib.ListN.{length, getD, set, length-set}
 use lib.Dec.{eqb}
 use lib.Seq.{getD-set-same, getD-set-other}
 use Rattle.ere_table.specs.Table.{row}
+use Rattle.ere_table.specs.Wiring.{stopIn}
 use Rattle.ere_automaton.specs.Layout.{rowsAt}
 use Rattle.ere_derive.specs.Growth.{Grows, Leads}
 use Rattle.ere_derive.specs.Layout.{Frame, Apart, RowAt, Rows, RowOf, Closed, Paired, PutPairs}
@@ -78,8 +79,8 @@ module _ (t bytes : List ℕ) (k : ℕ) (a : List ℕ) (n stride : ℕ) (d : Lis
 pub square-below : (k x c : ℕ) → x < c → x * k + k ≤ c * k
 square-below k x c h = let m = mul-le-mul-right k h in let e = suc-mul x k in omega arith
 
-pub apart-in : {p k low high : ℕ} (low' high' : ℕ) → low ≤ low' → high' ≤ high → Apart p k low high → Apart p k low' high'
-apart-in low' high' l h = ⊎-elim (λ g. inl (omega arith)) (λ g. inr (omega arith))
+pub apart-in : (p k low high low' high' : ℕ) → low ≤ low' → high' ≤ high → Apart p k low high → Apart p k low' high'
+apart-in p k low high low' high' l h = ⊎-elim (λ g. inl (omega arith)) (λ g. inr (omega arith))
 
 module _ (d s s' : List ℕ) (k p c : ℕ) (h : c < k) (apart : Apart (getD d (p + c) 0) k (p + (k + 1)) (p + (k + 1 + k * k)))
     (f : Frame (p + (k + 1)) (p + (k + 1 + k * k)) d s) where
@@ -147,3 +148,11 @@ module _ (k n stride : ℕ) (st : stride ≡ k + 1 + k * k) where
             let x = P .kept i c h (omega arith) in
             let y = r .is in
             new c e l m ∙ ap (λ (z : ℕ). getD s (z + e) 0) (x ∙ y) ∙ P .kept (r .number) e (r .low) (omega arith) ∙ ap (λ (z : ℕ). getD d (z + e) 0) (sym y)
+
+-- a row, once its end mark is stored
+pub row-ended : (t bytes : List ℕ) (k : ℕ) (a : List ℕ) (n stride : ℕ) (s d : List ℕ) (p m : ℕ) → p + k < length d → not (eqb m 0) ≡ stopIn s true
+    → ((c : ℕ) → c < k → Leads t a n stride s (getD bytes c 0) (getD d (p + c) 0)) → RowAt t bytes k a n stride s (set d (p + k) m) p
+row-ended t bytes k a n stride s d p m room e l = record {
+  leads = λ c h. subst (λ (q : ℕ). Leads t a n stride s (getD bytes c 0) q) (sym (getD-set-other d (p + k) (p + c) m 0 (omega arith))) (l c h);
+  ends = ap (λ (q : ℕ). not (eqb q 0)) (getD-set-same d (p + k) m 0 room) ∙ e;
+}

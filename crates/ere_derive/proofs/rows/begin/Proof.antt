@@ -1,3 +1,11 @@
+use Prim.Native.Nat.{ℕ, _+_, _-_, _*_, _≤_, _<_}
+use mathlib.Core.Path.{_≡_, refl, sym, ap, ap₂, subst, _∙_}
+use native.Mathlib.Omega.{arith}
+use lib.ListN.{length, length-set, getD}
+use mathlib.Core.List.{List}
+use Rattle.ere_automaton.specs.Sets.{collapsed}
+use Rattle.ere_derive.specs.Growth.{Has}
+use Rattle.ere_derive.proofs.Grown.{has-on}
 use borrow.Author.Needs.{needs}
 use Rattle.ere_derive.proofs.rows.begin.Statement.{statement}
 use Rattle.ere_derive.proofs.rows.begin.Tie as tie
@@ -17,11 +25,11 @@ add-t11 c = search needs
 
 -- src/rows.rt:98:9
 same-length : tie.Need-same-length
-same-length c = search needs
+same-length c = c .before .before .before .before .enter .ensures .size
 
 -- src/rows.rt:98:9
 returns : tie.Need-returns
-returns c = ?
+returns c = record { size = c .before .before .before .before .enter .ensures .size; fair = λ h. absurd (omega arith); is-accepted = λ h. absurd (omega arith); is-later = λ h. absurd (omega arith); is-first = λ h. absurd (omega arith) }
 
 -- src/rows.rt:100:62
 set-at-requires : tie.Need-set-at-requires
@@ -33,7 +41,7 @@ collapsed-requires c κs = search needs
 
 -- src/rows.rt:100:9
 enter-requires-2 : tie.Need-enter-requires-2
-enter-requires-2 c κs = search needs
+enter-requires-2 c κs = let z = c .before .before .before .before .before .before .before .enter .ensures .size in let p = c .before .before .before .before .before .before .before .before .before .before .before .pre in omega (arith, c .before .before .before .if1 .left)
 
 -- src/rows.rt:102:31
 add-t15 : tie.Need-add-t15
@@ -41,11 +49,11 @@ add-t15 c = search needs
 
 -- src/rows.rt:102:9
 same-length-2 : tie.Need-same-length-2
-same-length-2 c = search needs
+same-length-2 c = c .before .before .before .before .enter2 .ensures .size ∙ c .before .before .before .before .before .before .before .before .before .before .before .before .enter .ensures .size
 
 -- src/rows.rt:102:9
 returns-2 : tie.Need-returns-2
-returns-2 c = ?
+returns-2 c = record { size = c .before .before .before .before .enter2 .ensures .size ∙ c .before .before .before .before .before .before .before .before .before .before .before .before .enter .ensures .size; fair = λ h. absurd (omega arith); is-accepted = λ h. absurd (omega arith); is-later = λ h. absurd (omega arith); is-first = λ h. absurd (omega arith) }
 
 -- src/rows.rt:104:62
 set-at-requires-2 : tie.Need-set-at-requires-2
@@ -57,7 +65,7 @@ collapsed-requires-2 c κs = search needs
 
 -- src/rows.rt:104:9
 enter-requires-3 : tie.Need-enter-requires-3
-enter-requires-3 c κs = search needs
+enter-requires-3 c κs = let z = c .before .before .before .before .before .before .before .before .before .before .before .before .before .before .before .enter .ensures .size in let y = c .before .before .before .before .before .before .before .enter2 .ensures .size in let p = c .before .before .before .before .before .before .before .before .before .before .before .before .before .before .before .before .before .before .before .pre in omega (arith, c .before .before .before .if2 .left)
 
 -- src/rows.rt:106:31
 add-t18 : tie.Need-add-t18
@@ -65,19 +73,31 @@ add-t18 c = search needs
 
 -- src/rows.rt:106:9
 same-length-3 : tie.Need-same-length-3
-same-length-3 c = search needs
+same-length-3 c = c .before .before .before .before .enter3 .ensures .size ∙ c .before .before .before .before .before .before .before .before .before .before .before .before .enter2 .ensures .size ∙ c .before .before .before .before .before .before .before .before .before .before .before .before .before .before .before .before .before .before .before .before .enter .ensures .size
 
 -- src/rows.rt:106:9
 returns-3 : tie.Need-returns-3
-returns-3 c = ?
+returns-3 c = record { size = c .before .before .before .before .enter3 .ensures .size ∙ c .before .before .before .before .before .before .before .before .before .before .before .before .enter2 .ensures .size ∙ c .before .before .before .before .before .before .before .before .before .before .before .before .before .before .before .before .before .before .before .before .enter .ensures .size; fair = λ h. absurd (omega arith); is-accepted = λ h. absurd (omega arith); is-later = λ h. absurd (omega arith); is-first = λ h. absurd (omega arith) }
 
 -- src/rows.rt:91:1
 same-length-4 : tie.Need-same-length-4
-same-length-4 c = search needs
+same-length-4 c = c .before .before .before .before .enter3 .ensures .size ∙ c .before .before .before .before .before .before .before .before .before .before .before .before .enter2 .ensures .size ∙ c .before .before .before .before .before .before .before .before .before .before .before .before .before .before .before .before .before .before .before .before .enter .ensures .size
 
 -- src/rows.rt:91:1
 returns-4 : tie.Need-returns-4
-returns-4 c = ?
+returns-4 c =
+    let g = c .before .before .before .before .before .before .before .before .before .before .before .before .before .before .before .before .before .before .before .before .enter .ensures .grows (c .before .before .before .before .before .before .before .before .before .before .before .before .before .before .before .before .if1 .left) in
+    let h = c .before .before .before .before .before .before .before .before .before .before .before .before .enter2 .ensures .grows (c .before .before .before .before .before .before .before .before .if2 .left) in
+    let i = c .before .before .before .before .enter3 .ensures .grows (c .if3 .left) in
+    record {
+      size = c .before .before .before .before .enter3 .ensures .size ∙ c .before .before .before .before .before .before .before .before .before .before .before .before .enter2 .ensures .size ∙ c .before .before .before .before .before .before .before .before .before .before .before .before .before .before .before .before .before .before .before .before .enter .ensures .size;
+      fair = λ l. i .fair (h .fair (g .fair (λ j m. absurd (omega arith))));
+      is-accepted = λ l. has-on (has-on (c .before .before .before .before .before .before .before .before .before .before .before .before .before .before .before .before .before .before .before .before .enter .ensures .has (c .before .before .before .before .before .before .before .before .before .before .before .before .before .before .before .before .if1 .left)) h) i;
+      is-later = λ l. has-on (subst (λ (s : List ℕ). Has (c .before .before .before .before .before .before .before .before .before .before .before .before .enter2 .last .0) (c .before .before .before .before .before .before .before .before .before .before .before .before .enter2 .result .count) (c .before .before .before .before .before .before .before .before .before .before .before .before .enter2 .result .number) s)
+          (c .before .before .before .before .before .before .before .before .before .before .before .before .before .collapsed .ensures ∙ ap collapsed (c .before .before .before .before .before .before .before .before .before .before .before .before .before .before .set-at .ensures)) (c .before .before .before .before .before .before .before .before .before .before .before .before .enter2 .ensures .has (c .before .before .before .before .before .before .before .before .if2 .left))) i;
+      is-first = λ l. subst (λ (s : List ℕ). Has (c .before .before .before .before .enter3 .last .0) (c .before .before .before .before .enter3 .result .count) (c .before .before .before .before .enter3 .result .number) s)
+          (c .before .before .before .before .before .collapsed2 .ensures ∙ ap collapsed (c .before .before .before .before .before .before .set-at2 .ensures)) (c .before .before .before .before .enter3 .ensures .has (c .if3 .left));
+    }
 
 pub begin-spec : {M : Type 1} → statement M
 begin-spec =

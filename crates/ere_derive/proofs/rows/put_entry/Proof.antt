@@ -1,3 +1,11 @@
+use Prim.Native.Nat.{ℕ, _+_, _-_, _*_, _≤_, _<_}
+use mathlib.Core.Path.{_≡_, refl, sym, ap, ap₂, subst, _∙_}
+use native.Mathlib.Omega.{arith}
+use lib.ListN.{length, length-set, getD}
+use mathlib.Core.List.{List}
+use lib.Seq.{getD-set-same}
+use Rattle.ere_derive.specs.Growth.{Has}
+use Rattle.ere_derive.proofs.Composed.{rows-below, frame-none, frame-set}
 use borrow.Author.Needs.{needs}
 use Rattle.ere_derive.proofs.rows.put_entry.Statement.{statement}
 use Rattle.ere_derive.proofs.rows.put_entry.Tie as tie
@@ -24,19 +32,19 @@ same-length c = search needs
 
 -- src/rows.rt:24:9
 returns : tie.Need-returns
-returns c = ?
+returns c = record { size = c .before .before .before .before .enter .ensures .size; frame = frame-none _ _ _; grows = λ h. absurd (omega arith); leads = λ h. absurd (omega arith) }
 
 -- src/rows.rt:26:20
 mul-d : tie.Need-mul-d
-mul-d c = ?
+mul-d c = let h = c .before .before .before .before .before .enter .ensures .has (c .before .if1 .left) in let z = rows-below (c .before .before .before .before .before .before .before .before .before .before .before .args .stride) (c .before .before .before .before .before .enter .result .number) (c .before .before .before .before .before .before .before .before .before .before .before .args .most) (omega (arith, h .low, c .before .if1 .left)) in omega arith
 
 -- src/rows.rt:26:13
 add-d : tie.Need-add-d
-add-d c = ?
+add-d c = let h = c .before .before .before .before .before .enter .ensures .has (c .before .if1 .left) in let z = rows-below (c .before .before .before .before .before .before .before .before .before .before .before .args .stride) (c .before .before .before .before .before .enter .result .number) (c .before .before .before .before .before .before .before .before .before .before .before .args .most) (omega (arith, h .low, c .before .if1 .left)) in omega arith
 
 -- src/rows.rt:26:12
 cast-d : tie.Need-cast-d
-cast-d c = ?
+cast-d c = let h = c .before .before .before .before .before .enter .ensures .has (c .before .if1 .left) in let z = rows-below (c .before .before .before .before .before .before .before .before .before .before .before .args .stride) (c .before .before .before .before .before .enter .result .number) (c .before .before .before .before .before .before .before .before .before .before .before .args .most) (omega (arith, h .low, c .before .if1 .left)) in omega arith
 
 -- src/rows.rt:26:5
 mul-d-2 : tie.Need-mul-d-2
@@ -56,7 +64,18 @@ same-length-3 c = search needs
 
 -- src/rows.rt:16:1
 returns-2 : tie.Need-returns-2
-returns-2 c = ?
+returns-2 c =
+    let h = c .before .before .before .before .before .enter .ensures .has (c .before .if1 .left) in
+    record {
+      size = c .before .before .before .before .before .enter .ensures .size;
+      frame = frame-set (c .before .before .before .before .before .before .before .before .before .before .before .args .d .now) (c .before .before .before .before .before .before .before .before .before .before .before .args .p) _;
+      grows = λ g. c .before .before .before .before .before .enter .ensures .grows (c .before .if1 .left);
+      leads = λ g. record {
+        number = c .before .before .before .before .before .enter .result .number;
+        is = getD-set-same (c .before .before .before .before .before .before .before .before .before .before .before .args .d .now) (c .before .before .before .before .before .before .before .before .before .before .before .args .p) _ 0 (omega arith);
+        has = subst (λ (s : List ℕ). Has (c .before .before .before .before .before .enter .last .0) (c .before .before .before .before .before .enter .result .count) (c .before .before .before .before .before .enter .result .number) s) (c .before .before .before .before .before .before .after .ensures) h;
+      };
+    }
 
 pub put-entry-spec : {M : Type 1} → statement M
 put-entry-spec =
