@@ -55,7 +55,7 @@ copied-more d s p q k e apart l room f h =
 -- ---- rows
 
 -- a row that is kept, while sets become more
-row-on : {t bytes : List ℕ} {k : ℕ} {a : List ℕ} {n stride : ℕ} {s d : List ℕ} {p : ℕ} {a' : List ℕ} {n' : ℕ} (d' : List ℕ) → RowAt t bytes k a n stride s d p → Grows a n a' n'
+pub row-on : {t bytes : List ℕ} {k : ℕ} {a : List ℕ} {n stride : ℕ} {s d : List ℕ} {p : ℕ} {a' : List ℕ} {n' : ℕ} (d' : List ℕ) → RowAt t bytes k a n stride s d p → Grows a n a' n'
     → ((x : ℕ) → x < k + 1 → getD d' (p + x) 0 ≡ getD d (p + x) 0) → RowAt t bytes k a' n' stride s d' p
 row-on {t} {bytes} {k} {a} {n} {stride} {s} {d} {p} {a'} {n'} d' r g e = record {
   leads = λ c h. subst (λ (q : ℕ). Leads t a' n' stride s (getD bytes c 0) q) (sym (e c (omega arith))) (leads-on (r .leads c h) g);
@@ -120,6 +120,17 @@ module _ (k n stride : ℕ) (st : stride ≡ k + 1 + k * k) where
   row-room q r = let m = rows-below stride (r .number) n (r .low) in let f = r .is in omega arith
 
   module _ (d s s' : List ℕ) (i : ℕ) (h : i < n) (closed : (j : ℕ) → j < n → Closed k n stride d (rowsAt + stride * j)) (P : PutPairs k n stride i d s) where
+    -- what the pairs of row i ask
+    pub pairs-ask : rowsAt + stride * n ≤ length d → (c : ℕ) → c < k
+        → (getD s (rowsAt + stride * i + c) 0 + k ≤ length s)
+        × Apart (getD s (rowsAt + stride * i + c) 0) k (rowsAt + stride * i + (k + 1)) (rowsAt + stride * i + (k + 1 + k * k))
+    pairs-ask room c l =
+        let r = closed i h c l in
+        let e = P .kept i c h (omega arith) in
+        let z = row-room (getD d (rowsAt + stride * i + c) 0) r in
+        let y = P .size in
+        (omega arith, subst (λ (q : ℕ). Apart q k (rowsAt + stride * i + (k + 1)) (rowsAt + stride * i + (k + 1 + k * k))) (sym e) (apart-rows i _ r))
+
     pub put-pairs-more : Frame (rowsAt + stride * i + (k + 1)) (rowsAt + stride * i + (k + 1 + k * k)) s s' → Paired k s s' (rowsAt + stride * i) k
         → PutPairs k n stride (i + 1) d s'
     put-pairs-more f new = record {
@@ -156,3 +167,6 @@ row-ended t bytes k a n stride s d p m room e l = record {
   leads = λ c h. subst (λ (q : ℕ). Leads t a n stride s (getD bytes c 0) q) (sym (getD-set-other d (p + k) (p + c) m 0 (omega arith))) (l c h);
   ends = ap (λ (q : ℕ). not (eqb q 0)) (getD-set-same d (p + k) m 0 room) ∙ e;
 }
+
+pub put-pairs-none : (k n stride : ℕ) (d : List ℕ) → PutPairs k n stride 0 d d
+put-pairs-none k n stride d = record { size = refl; below = λ i h. refl; kept = λ i c h l. refl; paired = λ i h. absurd (omega arith) }

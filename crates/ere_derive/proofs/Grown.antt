@@ -14,7 +14,7 @@ use Rattle.ere_table.specs.Table.{row}
 use Rattle.ere_derive.specs.Growth.{Fair, Grows, Has, Put, Leads}
 use Rattle.ere_derive.proofs.Columns.{upTo}
 
-three : (x y z x' y' z' : ℕ) → x ≡ x' → y ≡ y' → z ≡ z' → x ∷ y ∷ z ∷ [] ≡ x' ∷ y' ∷ z' ∷ []
+pub three : (x y z x' y' z' : ℕ) → x ≡ x' → y ≡ y' → z ≡ z' → x ∷ y ∷ z ∷ [] ≡ x' ∷ y' ∷ z' ∷ []
 three x y z x' y' z' e f g = cc
 
 -- a list of three

@@ -2,3 +2,5 @@
 pub mod Columns
 pub mod Grown
 pub mod Composed
+pub mod Bounded
+pub mod Driving

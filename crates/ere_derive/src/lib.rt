@@ -1,7 +1,11 @@
 // A finite automaton from the table of an ERE, for the existence of a match: the classes of the bytes, the sets of
 // places that can be reached, a row for each, and the ranges of a match's first two bytes.
-pub mod classes;
+mod build;
+mod classes;
+mod hull;
 mod layout;
-pub mod pairs;
-pub mod rows;
-pub mod sets;
+mod pairs;
+mod rows;
+mod sets;
+
+pub use build::derive;

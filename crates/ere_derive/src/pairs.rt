@@ -1,8 +1,10 @@
 // The states after two bytes.
 ghost use mathlib.Core.Path.{_≡_};
+ghost use mathlib.Core.Bool.{cond};
 ghost use Prim.Native.Nat.{ℕ, _+_, _*_, _≤_, _<_};
 ghost use lib.ListN.{length, getD};
-ghost use Rattle.ere_automaton.specs.Layout.{rowsAt};
+ghost use lib.Dec.{eqb};
+ghost use Rattle.ere_automaton.specs.Layout.{rowsAt, strideBy};
 ghost use Rattle.ere_derive.specs.Layout.{Apart, Frame, Closed, Paired, PutPairs};
 use crate::layout::ROWS;
 
@@ -36,7 +38,7 @@ fn put_pairs_in(d: &mut [u16], k: usize, p: usize)
 }
 
 // Stores the pairs of n rows.
-pub fn put_pairs(d: &mut [u16], k: usize, stride: usize, n: usize)
+fn put_pairs(d: &mut [u16], k: usize, stride: usize, n: usize)
     requires { ⌜ (stride ≡ k + 1 + k * k) × (rowsAt + stride * n ≤ length (now d)) × (length (now d) < 65536)
         × ((i : ℕ) → i < n → Closed k n stride (now d) (rowsAt + stride * i)) ⌝ }
     ensures { λ _. ⌜ PutPairs k n stride n (now (d .entry)) (now (d .exit)) ⌝ }
@@ -45,5 +47,16 @@ pub fn put_pairs(d: &mut [u16], k: usize, stride: usize, n: usize)
     while i < n {
         put_pairs_in(d, k, ROWS + stride * i);
         i += 1;
+    }
+}
+
+// Stores the pairs of n rows, if rows have pairs (`paired` is not 0).
+pub fn compose(d: &mut [u16], k: usize, stride: usize, n: usize, paired: u16)
+    requires { ⌜ (stride ≡ strideBy k paired) × (rowsAt + stride * n ≤ length (now d)) × (length (now d) < 65536)
+        × ((i : ℕ) → i < n → Closed k n stride (now d) (rowsAt + stride * i)) ⌝ }
+    ensures { λ _. ⌜ PutPairs k n stride (cond (eqb paired 0) 0 n) (now (d .entry)) (now (d .exit)) ⌝ }
+{
+    if paired != 0 {
+        put_pairs(d, k, stride, n);
     }
 }

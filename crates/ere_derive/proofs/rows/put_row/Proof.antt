@@ -108,7 +108,7 @@ same-length-3 c = c .before .before .loop .inv .2
 
 -- src/rows.rt:41:1
 same-length-4 : tie.Need-same-length-4 Inv-loop μ-loop
-same-length-4 c = length-set _ _ _ ∙ c .before .before .loop .inv .4 .size
+same-length-4 c = length-set (c .before .before .loop .d) (c .before .before .before .before .before .before .before .args .p + c .before .before .before .before .before .before .before .args .k) (c .end-mark .result) ∙ c .before .before .loop .inv .4 .size
 
 -- src/rows.rt:41:1
 returns-2 : tie.Need-returns-2 Inv-loop μ-loop

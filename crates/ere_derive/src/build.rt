@@ -1,0 +1,95 @@
+// An automaton from a table.
+ghost use mathlib.Core.Path.{_≡_};
+ghost use Prim.Native.Nat.{ℕ, _+_, _*_, _≤_, _<_};
+ghost use lib.ListN.{length};
+ghost use Rattle.ere_table.specs.Table.{tableWords};
+ghost use Rattle.ere_automaton.specs.Layout.{rowsAt, strideBy};
+ghost use Rattle.ere_automaton.specs.Automaton.{Hull};
+ghost use Rattle.ere_derive.specs.Column.{Classified};
+ghost use Rattle.ere_derive.specs.Layout.{Headed};
+ghost use Rattle.ere_derive.specs.Derived.{Derived, Attempted};
+use crate::classes;
+use crate::hull;
+use crate::layout;
+use crate::layout::ROWS;
+use crate::pairs;
+use crate::rows;
+
+// How many states there is room for.
+fn states_in(length: usize, stride: usize) -> usize
+    requires { ⌜ (rowsAt ≤ «length») × (0 < stride) ⌝ }
+    ensures { λ r. ⌜ (r ≤ 96) × (rowsAt + stride * r ≤ «length») ⌝ }
+{
+    let n = (length - ROWS) / stride;
+    if n < layout::MOST_STATES { n } else { layout::MOST_STATES }
+}
+
+// Stores the first words of an automaton of k classes.
+fn put_head(d: &mut [u16], k: usize, first: usize, later: usize, accepted: usize, pairs: u16)
+    requires { ⌜ (rowsAt ≤ length (now d)) × (k < 65536) × (first < 65536) × (later < 65536) × (accepted < 65536) ⌝ }
+    ensures { λ _. ⌜ Headed (now (d .entry)) k first later accepted pairs (now (d .exit)) ⌝ }
+{
+    d[layout::CLASS_COUNT] = k as u16;
+    d[layout::FIRST] = first as u16;
+    d[layout::LATER] = later as u16;
+    d[layout::ACCEPTED] = accepted as u16;
+    d[layout::PAIRS] = pairs;
+}
+
+// The words of a row, with pairs (1) or without (0).
+fn stride_of(k: usize, paired: u16) -> usize
+    requires { ⌜ k ≤ 64 ⌝ }
+    ensures { λ r. ⌜ r ≡ strideBy k paired ⌝ }
+{
+    if paired == 0 {
+        return k + 1;
+    }
+    k + 1 + k * k
+}
+
+// Makes the rows and the head of an automaton whose classes and ranges are stored, and gives how many words it has; 0 if
+// there is no room.
+fn attempt(t: &[u64], bytes: &[u8], k: usize, d: &mut [u16], paired: u16) -> usize
+    requires { ⌜ (length (now t) ≡ tableWords) × (k ≤ length (now bytes)) × (rowsAt ≤ length (now d))
+        × (length (now d) < 65536) × (Classified (now t) (now bytes) k (now d)) × (Hull (now t) (now d)) ⌝ }
+    ensures { λ r. ⌜ Attempted (now (t .entry)) (now (d .entry)) r (now (d .exit)) ⌝ }
+{
+    let stride = stride_of(k, paired);
+    let most = states_in(d.len(), stride);
+    let mut all = [0u64; 3 * layout::MOST_STATES];
+    let s = rows::begin(t, &mut all, most);
+    if most < s.count {
+        return 0;
+    }
+    let n = rows::put_rows(t, bytes, k, &mut all, s.count, most, stride, d);
+    if most < n {
+        return 0;
+    }
+    pairs::compose(d, k, stride, n, paired);
+    put_head(d, k, ROWS + stride * s.first, ROWS + stride * s.later, ROWS + stride * s.accepted, paired);
+    ROWS + stride * n
+}
+
+// Makes the automaton of a table, with pairs if they fit below `pairs` words, and gives how many words it has; 0 if
+// there is no room.
+pub fn derive(t: &[u64], d: &mut [u16], pairs: usize) -> usize
+    requires { ⌜ (length (now t) ≡ tableWords) × (length (now d) < 65536) ⌝ }
+    ensures { λ r. ⌜ Derived (now (t .entry)) (now (d .entry)) r (now (d .exit)) ⌝ }
+{
+    if d.len() < ROWS {
+        return 0;
+    }
+    let mut bytes = [0u8; layout::MOST_CLASSES];
+    let k = classes::classes(t, &mut bytes, d);
+    if k == 0 {
+        return 0;
+    }
+    hull::put_hull(t, &bytes, k, d);
+    if (ROWS <= pairs) & (pairs <= d.len()) {
+        let r = attempt(t, &bytes, k, &mut d[0..pairs], 1);
+        if 0 < r {
+            return r;
+        }
+    }
+    attempt(t, &bytes, k, d, 0)
+}
