@@ -1,13 +1,13 @@
 -- What was stored is an automaton of the table.
 use mathlib.Core.Path.{_≡_, refl, sym, ap, ap₂, subst, _∙_}
 use mathlib.Core.Bool.{Bool, true, false, not, cond}
-use mathlib.Core.List.{List, [], _∷_}
+use mathlib.Core.List.{List, [], _∷_, _++_}
 use mathlib.Core.Logic.{_⊎_, ⊎-elim}
 use Prim.Native.Nat.{ℕ, zero, suc, _+_, _-_, _*_, _/_, _≤_, _<_}
 use native.Mathlib.Nat.{div-eq-of-eq-mul-left, mul-comm, mul-le-mul, mul-le-mul-left, mul-div-le}
 use native.Mathlib.Omega.{arith}
-use lib.ListN.{length, take, getD, set, length-set}
-use lib.Seq.{getD-take, length-take-le, getD-set-same, getD-set-other}
+use lib.ListN.{length, take, drop, getD, set, length-set, length-append, length-drop, List·getD-append}
+use lib.Seq.{getD-take, length-take-le, length-front, take-append-le, getD-set-same, getD-set-other}
 use lib.Dec.{eqb}
 use borrow.Author.Tests.{eq-eqb, ne-eqb}
 use Rattle.ere_table.specs.Table.{row, join}
@@ -141,7 +141,7 @@ module _ (t bytes : List ℕ) (k : ℕ) (a : List ℕ) (n stride pairs : ℕ) (d
   state-in : (q : ℕ) → RowOf n stride q → State D q
   state-in q s = record { number = s .number; low = subst (λ (x : ℕ). s .number < x) (sym states) (s .low); is = s .is ∙ ap (λ (x : ℕ). rowsAt + x * s .number) (sym stride-is) }
 
-  sets : ℕ → List ℕ
+  abbrev sets : ℕ → List ℕ
   sets q = row a ((q - rowsAt) / stride)
 
   sets-at : (q i : ℕ) → q ≡ rowsAt + stride * i → sets q ≡ row a i
@@ -281,3 +281,40 @@ module _ (t bytes : List ℕ) (k : ℕ) (a₀ a : List ℕ) (most n₀ n stride 
 -- no room
 pub unattempted : (t d d' : List ℕ) → length d' ≡ length d → ((i : ℕ) → 5 ≤ i → i < rowsAt → getD d' i 0 ≡ getD d i 0) → Attempted t d 0 d'
 unattempted t d d' e k = record { derived = record { size = e; inside = omega arith; drives = λ h. absurd (omega arith) }; kept = k }
+
+-- an attempt on the first m words
+module _ (t bytes : List ℕ) (k m : ℕ) (d : List ℕ) (h : rowsAt ≤ m) (l : m ≤ length d) where
+  pub front-size : length (take m d) ≡ m
+  front-size = length-take-le m d l
+
+  pub front-classified : Classified t bytes k d → Classified t bytes k (take m d)
+  front-classified = classified-on (take m d) (λ b g. getD-take m d (16 + b) 0 (omega arith))
+
+  pub front-hull : Hull t d → Hull t (take m d)
+  front-hull = hull-on (take m d) (λ i g o. getD-take m d i 0 (omega arith))
+
+  pub front-attempted : (r : ℕ) (f : List ℕ) → Attempted t (take m d) r f → Attempted t d r (f ++ drop m d)
+  front-attempted r f A = record {
+      derived = record {
+        size = length-front d f m (A .derived .size);
+        inside = let x = A .derived .inside in let y = front-size in omega arith;
+        drives = λ g. subst (Drives t) (sym (take-append-le r f (drop m d) r-in)) (A .derived .drives g);
+      };
+      kept = λ i g o. List·getD-append f (drop m d) 0 i (f-has i o) ∙ A .kept i g o ∙ getD-take m d i 0 (omega arith);
+    }
+    where
+      f-size : length f ≡ m
+      f-size = A .derived .size ∙ front-size
+
+      r-in : r ≤ length f
+      r-in = let x = A .derived .inside in let y = front-size in let z = f-size in omega arith
+
+      f-has : (i : ℕ) → i < rowsAt → i < length f
+      f-has i o = let z = f-size in omega arith
+
+-- words of the same length
+pub derived-on : {t d d' : List ℕ} {r : ℕ} (e : List ℕ) → length d ≡ length e → Derived t d r d' → Derived t e r d'
+derived-on {r = m} e l D = record { size = D .size ∙ l; inside = subst (λ (n : ℕ). m ≤ n) l (D .inside); drives = D .drives }
+
+pub underived : (t d d' : List ℕ) → length d' ≡ length d → Derived t d 0 d'
+underived t d d' l = record { size = l; inside = omega arith; drives = λ h. absurd (omega arith) }

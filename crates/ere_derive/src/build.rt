@@ -70,6 +70,22 @@ fn attempt(t: &[u64], bytes: &[u8], k: usize, d: &mut [u16], paired: u16) -> usi
     ROWS + stride * n
 }
 
+// Makes rows with pairs, if they fit below `pairs` words, and gives how many words the automaton has; 0 if there is no
+// room.
+fn with_pairs(t: &[u64], bytes: &[u8], k: usize, d: &mut [u16], pairs: usize) -> usize
+    requires { ⌜ (length (now t) ≡ tableWords) × (k ≤ length (now bytes)) × (rowsAt ≤ length (now d))
+        × (length (now d) < 65536) × (Classified (now t) (now bytes) k (now d)) × (Hull (now t) (now d)) ⌝ }
+    ensures { λ r. ⌜ Attempted (now (t .entry)) (now (d .entry)) r (now (d .exit)) ⌝ }
+{
+    if pairs < ROWS {
+        return 0;
+    }
+    if d.len() < pairs {
+        return 0;
+    }
+    attempt(t, bytes, k, &mut d[..pairs], 1)
+}
+
 // Makes the automaton of a table, with pairs if they fit below `pairs` words, and gives how many words it has; 0 if
 // there is no room.
 pub fn derive(t: &[u64], d: &mut [u16], pairs: usize) -> usize
@@ -85,11 +101,9 @@ pub fn derive(t: &[u64], d: &mut [u16], pairs: usize) -> usize
         return 0;
     }
     hull::put_hull(t, &bytes, k, d);
-    if (ROWS <= pairs) & (pairs <= d.len()) {
-        let r = attempt(t, &bytes, k, &mut d[0..pairs], 1);
-        if 0 < r {
-            return r;
-        }
+    let r = with_pairs(t, &bytes, k, d, pairs);
+    if 0 < r {
+        return r;
     }
     attempt(t, &bytes, k, d, 0)
 }

@@ -1,3 +1,4 @@
+use native.Mathlib.Nat.{mul-le-mul-left}
 use borrow.Author.Needs.{needs}
 use Prim.Native.Nat.{ℕ, _+_, _-_, _*_, _≤_, _<_}
 use mathlib.Core.Path.{_≡_, refl, sym, ap, ap₂, subst, _∙_}
@@ -57,51 +58,63 @@ returns-2 c = unattempted _ _ _ (c .before .before .before .before .put-rows .en
 
 -- src/build.rt:68:5
 compose-requires : tie.Need-compose-requires
-compose-requires c κs = search needs
+compose-requires c κs =
+    let p = c .before .before .before .before .before .before .before .before .before .before .before .before .before .before .before .before .before .before .pre in
+    let z = mul-le-mul-left (c .before .before .before .before .before .before .before .before .before .before .before .before .before .before .stride-of .result) (c .before .if2 .left) in
+    let y = c .before .before .before .before .before .put-rows .ensures .frame .size in
+    (c .before .before .before .before .before .before .before .before .before .before .before .before .before .before .stride-of .ensures, omega (arith, c .before .before .before .before .before .before .before .before .before .before .before .before .before .states-in .ensures .1), omega arith, rows-closed (c .before .before .before .before .before .put-rows .ensures .rows (c .before .if2 .left)))
 
 -- src/build.rt:69:27
 mul-put-head : tie.Need-mul-put-head
-mul-put-head c = search needs
+mul-put-head c = let p = c .before .before .before .before .before .before .before .before .before .before .before .before .before .before .before .before .before .before .before .before .before .before .before .pre in let z = rows-below (c .before .before .before .before .before .before .before .before .before .before .before .before .before .before .before .before .before .before .before .stride-of .result) (c .before .before .before .before .before .before .before .before .before .before .before .before .before .before .before .before .begin .result .first) (c .before .before .before .before .before .before .before .before .before .before .before .before .before .before .before .before .before .before .states-in .result) (omega (arith, c .before .before .before .before .before .before .before .before .before .before .before .before .before .before .before .before .begin .ensures .is-first (c .before .before .before .before .before .before .before .before .before .before .before .before .before .if1 .left) .low, c .before .before .before .before .before .before .before .before .before .before .before .before .before .if1 .left)) in omega (arith, c .before .before .before .before .before .before .before .before .before .before .before .before .before .before .before .before .before .before .states-in .ensures .1)
 
 -- src/build.rt:69:20
 add-put-head : tie.Need-add-put-head
-add-put-head c = search needs
+add-put-head c = let p = c .before .before .before .before .before .before .before .before .before .before .before .before .before .before .before .before .before .before .before .before .before .before .before .pre in let z = rows-below (c .before .before .before .before .before .before .before .before .before .before .before .before .before .before .before .before .before .before .before .stride-of .result) (c .before .before .before .before .before .before .before .before .before .before .before .before .before .before .before .before .begin .result .first) (c .before .before .before .before .before .before .before .before .before .before .before .before .before .before .before .before .before .before .states-in .result) (omega (arith, c .before .before .before .before .before .before .before .before .before .before .before .before .before .before .before .before .begin .ensures .is-first (c .before .before .before .before .before .before .before .before .before .before .before .before .before .if1 .left) .low, c .before .before .before .before .before .before .before .before .before .before .before .before .before .if1 .left)) in omega (arith, c .before .before .before .before .before .before .before .before .before .before .before .before .before .before .before .before .before .before .states-in .ensures .1)
 
 -- src/build.rt:69:52
 mul-put-head-2 : tie.Need-mul-put-head-2
-mul-put-head-2 c = search needs
+mul-put-head-2 c = let p = c .before .before .before .before .before .before .before .before .before .before .before .before .before .before .before .before .before .before .before .before .before .before .before .before .pre in let z = rows-below (c .before .before .before .before .before .before .before .before .before .before .before .before .before .before .before .before .before .before .before .before .stride-of .result) (c .before .before .before .before .before .before .before .before .before .before .before .before .before .before .before .before .before .begin .result .later) (c .before .before .before .before .before .before .before .before .before .before .before .before .before .before .before .before .before .before .before .states-in .result) (omega (arith, c .before .before .before .before .before .before .before .before .before .before .before .before .before .before .before .before .before .begin .ensures .is-later (c .before .before .before .before .before .before .before .before .before .before .before .before .before .before .if1 .left) .low, c .before .before .before .before .before .before .before .before .before .before .before .before .before .before .if1 .left)) in omega (arith, c .before .before .before .before .before .before .before .before .before .before .before .before .before .before .before .before .before .before .before .states-in .ensures .1)
 
 -- src/build.rt:69:45
 add-put-head-2 : tie.Need-add-put-head-2
-add-put-head-2 c = search needs
+add-put-head-2 c = let p = c .before .before .before .before .before .before .before .before .before .before .before .before .before .before .before .before .before .before .before .before .before .before .before .before .pre in let z = rows-below (c .before .before .before .before .before .before .before .before .before .before .before .before .before .before .before .before .before .before .before .before .stride-of .result) (c .before .before .before .before .before .before .before .before .before .before .before .before .before .before .before .before .before .begin .result .later) (c .before .before .before .before .before .before .before .before .before .before .before .before .before .before .before .before .before .before .before .states-in .result) (omega (arith, c .before .before .before .before .before .before .before .before .before .before .before .before .before .before .before .before .before .begin .ensures .is-later (c .before .before .before .before .before .before .before .before .before .before .before .before .before .before .if1 .left) .low, c .before .before .before .before .before .before .before .before .before .before .before .before .before .before .if1 .left)) in omega (arith, c .before .before .before .before .before .before .before .before .before .before .before .before .before .before .before .before .before .before .before .states-in .ensures .1)
 
 -- src/build.rt:69:77
 mul-put-head-3 : tie.Need-mul-put-head-3
-mul-put-head-3 c = search needs
+mul-put-head-3 c = let p = c .before .before .before .before .before .before .before .before .before .before .before .before .before .before .before .before .before .before .before .before .before .before .before .before .before .pre in let z = rows-below (c .before .before .before .before .before .before .before .before .before .before .before .before .before .before .before .before .before .before .before .before .before .stride-of .result) (c .before .before .before .before .before .before .before .before .before .before .before .before .before .before .before .before .before .before .begin .result .accepted) (c .before .before .before .before .before .before .before .before .before .before .before .before .before .before .before .before .before .before .before .before .states-in .result) (omega (arith, c .before .before .before .before .before .before .before .before .before .before .before .before .before .before .before .before .before .before .begin .ensures .is-accepted (c .before .before .before .before .before .before .before .before .before .before .before .before .before .before .before .if1 .left) .low, c .before .before .before .before .before .before .before .before .before .before .before .before .before .before .before .if1 .left)) in omega (arith, c .before .before .before .before .before .before .before .before .before .before .before .before .before .before .before .before .before .before .before .before .states-in .ensures .1)
 
 -- src/build.rt:69:70
 add-put-head-3 : tie.Need-add-put-head-3
-add-put-head-3 c = search needs
+add-put-head-3 c = let p = c .before .before .before .before .before .before .before .before .before .before .before .before .before .before .before .before .before .before .before .before .before .before .before .before .before .pre in let z = rows-below (c .before .before .before .before .before .before .before .before .before .before .before .before .before .before .before .before .before .before .before .before .before .stride-of .result) (c .before .before .before .before .before .before .before .before .before .before .before .before .before .before .before .before .before .before .begin .result .accepted) (c .before .before .before .before .before .before .before .before .before .before .before .before .before .before .before .before .before .before .before .before .states-in .result) (omega (arith, c .before .before .before .before .before .before .before .before .before .before .before .before .before .before .before .before .before .before .begin .ensures .is-accepted (c .before .before .before .before .before .before .before .before .before .before .before .before .before .before .before .if1 .left) .low, c .before .before .before .before .before .before .before .before .before .before .before .before .before .before .before .if1 .left)) in omega (arith, c .before .before .before .before .before .before .before .before .before .before .before .before .before .before .before .before .before .before .before .before .states-in .ensures .1)
 
 -- src/build.rt:69:5
 put-head-requires : tie.Need-put-head-requires
-put-head-requires c κs = search needs
+put-head-requires c κs =
+    let p = c .before .before .before .before .before .before .before .before .before .before .before .before .before .before .before .before .before .before .before .before .before .before .before .before .before .pre in
+    let y = c .before .before .before .before .before .before .before .before .before .before .before .before .put-rows .ensures .frame .size in
+    let x = c .before .before .before .before .before .before .compose .ensures .size in
+    (omega arith, omega (arith, p .4 .few), omega (arith, rows-below (c .before .before .before .before .before .before .before .before .before .before .before .before .before .before .before .before .before .before .before .before .before .stride-of .result) (c .before .before .before .before .before .before .before .before .before .before .before .before .before .before .before .before .before .before .begin .result .first) (c .before .before .before .before .before .before .before .before .before .before .before .before .before .before .before .before .before .before .before .before .states-in .result) (omega (arith, c .before .before .before .before .before .before .before .before .before .before .before .before .before .before .before .before .before .before .begin .ensures .is-first (c .before .before .before .before .before .before .before .before .before .before .before .before .before .before .before .if1 .left) .low, c .before .before .before .before .before .before .before .before .before .before .before .before .before .before .before .if1 .left)), c .before .before .before .before .before .before .before .before .before .before .before .before .before .before .before .before .before .before .before .before .states-in .ensures .1), omega (arith, rows-below (c .before .before .before .before .before .before .before .before .before .before .before .before .before .before .before .before .before .before .before .before .before .stride-of .result) (c .before .before .before .before .before .before .before .before .before .before .before .before .before .before .before .before .before .before .begin .result .later) (c .before .before .before .before .before .before .before .before .before .before .before .before .before .before .before .before .before .before .before .before .states-in .result) (omega (arith, c .before .before .before .before .before .before .before .before .before .before .before .before .before .before .before .before .before .before .begin .ensures .is-later (c .before .before .before .before .before .before .before .before .before .before .before .before .before .before .before .if1 .left) .low, c .before .before .before .before .before .before .before .before .before .before .before .before .before .before .before .if1 .left)), c .before .before .before .before .before .before .before .before .before .before .before .before .before .before .before .before .before .before .before .before .states-in .ensures .1), omega (arith, rows-below (c .before .before .before .before .before .before .before .before .before .before .before .before .before .before .before .before .before .before .before .before .before .stride-of .result) (c .before .before .before .before .before .before .before .before .before .before .before .before .before .before .before .before .before .before .begin .result .accepted) (c .before .before .before .before .before .before .before .before .before .before .before .before .before .before .before .before .before .before .before .before .states-in .result) (omega (arith, c .before .before .before .before .before .before .before .before .before .before .before .before .before .before .before .before .before .before .begin .ensures .is-accepted (c .before .before .before .before .before .before .before .before .before .before .before .before .before .before .before .if1 .left) .low, c .before .before .before .before .before .before .before .before .before .before .before .before .before .before .before .if1 .left)), c .before .before .before .before .before .before .before .before .before .before .before .before .before .before .before .before .before .before .before .before .states-in .ensures .1))
 
 -- src/build.rt:70:12
 mul-result : tie.Need-mul-result
-mul-result c = search needs
+mul-result c = let p = c .before .before .before .before .before .before .before .before .before .before .before .before .before .before .before .before .before .before .before .before .before .before .before .before .before .before .before .before .pre in let z = mul-le-mul-left (c .before .before .before .before .before .before .before .before .before .before .before .before .before .before .before .before .before .before .before .before .before .before .before .before .stride-of .result) (c .before .before .before .before .before .before .before .before .before .before .before .if2 .left) in omega (arith, c .before .before .before .before .before .before .before .before .before .before .before .before .before .before .before .before .before .before .before .before .before .before .before .states-in .ensures .1)
 
 -- src/build.rt:70:5
 add-result : tie.Need-add-result
-add-result c = search needs
+add-result c = let p = c .before .before .before .before .before .before .before .before .before .before .before .before .before .before .before .before .before .before .before .before .before .before .before .before .before .before .before .before .pre in let z = mul-le-mul-left (c .before .before .before .before .before .before .before .before .before .before .before .before .before .before .before .before .before .before .before .before .before .before .before .before .stride-of .result) (c .before .before .before .before .before .before .before .before .before .before .before .if2 .left) in omega (arith, c .before .before .before .before .before .before .before .before .before .before .before .before .before .before .before .before .before .before .before .before .before .before .before .states-in .ensures .1)
 
 -- src/build.rt:52:1
 same-length-2 : tie.Need-same-length-2
-same-length-2 c = search needs
+same-length-2 c = c .before .before .put-head .ensures .frame .size ∙ c .before .before .before .before .before .before .before .before .before .compose .ensures .size ∙ c .before .before .before .before .before .before .before .before .before .before .before .before .before .before .before .put-rows .ensures .frame .size
 
 -- src/build.rt:52:1
 returns-3 : tie.Need-returns-3
-returns-3 c = search needs
+returns-3 c =
+    let p = c .before .before .before .before .before .before .before .before .before .before .before .before .before .before .before .before .before .before .before .before .before .before .before .before .before .before .before .before .pre in
+    attempted (c .before .before .before .before .before .before .before .before .before .before .before .before .before .before .before .before .before .before .before .before .before .before .before .before .before .before .before .before .args .t .now) (c .before .before .before .before .before .before .before .before .before .before .before .before .before .before .before .before .before .before .before .before .before .before .before .before .before .before .before .before .args .bytes .now) (c .before .before .before .before .before .before .before .before .before .before .before .before .before .before .before .before .before .before .before .before .before .before .before .before .before .before .before .before .args .k) _ _ (c .before .before .before .before .before .before .before .before .before .before .before .before .before .before .before .before .before .before .before .before .before .before .before .states-in .result) (c .before .before .before .before .before .before .before .before .before .before .before .before .before .before .before .before .before .before .before .before .before .begin .result .count) (c .before .before .before .before .before .before .before .before .before .before .before .before .before .before .before .put-rows .result) (c .before .before .before .before .before .before .before .before .before .before .before .before .before .before .before .before .before .before .before .before .before .before .before .before .stride-of .result)
+    (c .before .before .before .before .before .before .before .before .before .before .before .before .before .before .before .before .before .before .before .before .before .begin .result .accepted) (c .before .before .before .before .before .before .before .before .before .before .before .before .before .before .before .before .before .before .before .before .before .begin .result .later) (c .before .before .before .before .before .before .before .before .before .before .before .before .before .before .before .before .before .before .before .before .before .begin .result .first) (c .before .before .before .before .before .before .before .before .before .before .before .before .before .before .before .before .before .before .before .before .before .before .before .before .before .before .before .before .args .paired) (c .before .before .before .before .before .before .before .before .before .before .before .before .before .before .before .before .before .before .before .before .before .before .before .before .before .before .before .before .args .d .now) _ _ _
+    (c .before .before .before .before .before .before .before .before .before .before .before .before .before .before .before .before .before .before .before .before .before .before .before .before .stride-of .ensures) (c .before .before .before .before .before .before .before .before .before .before .before .before .before .before .before .before .before .before .before .before .before .before .before .states-in .ensures .1) (c .before .before .before .before .before .before .before .before .before .before .before .if2 .left) (c .before .before .before .before .before .before .before .before .before .before .before .before .before .before .before .before .before .before .if1 .left) (p .4) (p .5) _ (c .before .before .before .before .before .before .before .before .before .before .before .before .before .before .before .before .before .before .before .before .before .begin .ensures) (c .before .before .before .before .before .before .before .before .before .before .before .before .before .before .before .put-rows .ensures) (c .before .before .before .before .before .before .before .before .before .compose .ensures) (c .before .before .put-head .ensures)
 
 pub attempt-spec : {M : Type 1} → statement M
 attempt-spec =

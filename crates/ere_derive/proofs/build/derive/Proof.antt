@@ -1,83 +1,81 @@
+use Prim.Native.Nat.{ℕ, _+_, _-_, _*_, _≤_, _<_}
+use mathlib.Core.Path.{_≡_, refl, sym, ap, ap₂, subst, _∙_}
+use native.Mathlib.Omega.{arith}
+use lib.ListN.{length, length-set, getD}
+use Rattle.ere_derive.proofs.Bounded.{classified-on, hull-on}
+use Rattle.ere_derive.proofs.Driving.{underived, derived-on}
 use borrow.Author.Needs.{needs}
 use Rattle.ere_derive.proofs.build.derive.Statement.{statement}
 use Rattle.ere_derive.proofs.build.derive.Tie as tie
 use Rattle.ere_derive.proofs.build.derive.Reads as reads
 use Rattle.ere_derive.proofs.build.derive.Lts as lts
 use Rattle.ere_derive.proofs.build.attempt.Reads as attempt-reads
+use Rattle.ere_derive.proofs.build.with_pairs.Reads as with-pairs-reads
 use Rattle.ere_derive.proofs.classes.classes.Reads as classes-reads
 use Rattle.ere_derive.proofs.hull.put_hull.Reads as put-hull-reads
 
--- src/build.rt:80:9
+-- src/build.rt:96:9
 returns : tie.Need-returns
-returns c = ?
+returns c = underived _ _ _ refl
 
--- src/build.rt:83:33
+-- src/build.rt:99:33
 slice-aggregate-classes : tie.Need-slice-aggregate-classes
 slice-aggregate-classes c = search needs
 
--- src/build.rt:83:9
+-- src/build.rt:99:9
 classes-requires : tie.Need-classes-requires
 classes-requires c κs = search needs
 
--- src/build.rt:85:9
+-- src/build.rt:101:9
 same-length : tie.Need-same-length
 same-length c = search needs
 
--- src/build.rt:85:9
+-- src/build.rt:101:9
 returns-2 : tie.Need-returns-2
-returns-2 c = ?
+returns-2 c = underived _ _ _ (c .before .before .before .before .classes .ensures .size)
 
--- src/build.rt:87:23
+-- src/build.rt:103:23
 slice-aggregate-put-hull : tie.Need-slice-aggregate-put-hull
 slice-aggregate-put-hull c = search needs
 
--- src/build.rt:87:5
+-- src/build.rt:103:5
 put-hull-requires : tie.Need-put-hull-requires
-put-hull-requires c κs = ?
+put-hull-requires c κs = let C = c .before .before .before .before .before .before .classes .ensures in let K = C .classified (omega arith) in let p = c .before .before .before .before .before .before .before .before .before .before .before .before .pre in (p .0, omega (arith, K .few, C .byteSize), omega (arith, C .size), K)
 
--- src/build.rt:89:28
+-- src/build.rt:104:27
+slice-aggregate-with-pairs : tie.Need-slice-aggregate-with-pairs
+slice-aggregate-with-pairs c = search needs
+
+-- src/build.rt:104:9
+with-pairs-requires : tie.Need-with-pairs-requires
+with-pairs-requires c κs = let C = c .before .before .before .before .before .before .before .before .before .before .before .classes .ensures in let K = C .classified (omega arith) in let p = c .before .before .before .before .before .before .before .before .before .before .before .before .before .before .before .before .before .pre in let H = c .before .before .before .before .put-hull .ensures in (p .0, omega (arith, K .few, C .byteSize), omega (arith, C .size, H .size), omega (arith, C .size, H .size), H .classified, H .hull)
+
+-- src/build.rt:106:9
+same-length-2 : tie.Need-same-length-2
+same-length-2 c = c .before .before .before .with-pairs .ensures .derived .size ∙ c .before .before .before .before .before .before .before .before .put-hull .ensures .size ∙ c .before .before .before .before .before .before .before .before .before .before .before .before .before .before .before .classes .ensures .size
+
+-- src/build.rt:106:9
+returns-3 : tie.Need-returns-3
+returns-3 c = derived-on (c .before .before .before .before .before .before .before .before .before .before .before .before .before .before .before .before .before .before .before .before .before .args .d .now) (c .before .before .before .before .before .before .before .before .put-hull .ensures .size ∙ c .before .before .before .before .before .before .before .before .before .before .before .before .before .before .before .classes .ensures .size) (c .before .before .before .with-pairs .ensures .derived)
+
+-- src/build.rt:108:16
 slice-aggregate-attempt : tie.Need-slice-aggregate-attempt
 slice-aggregate-attempt c = search needs
 
--- src/build.rt:89:39
-sub-attempt : tie.Need-sub-attempt
-sub-attempt c = search needs
-
--- src/build.rt:89:39
-part-attempt-start : tie.Need-part-attempt-start
-part-attempt-start c = search needs
-
--- src/build.rt:89:39
-part-attempt-end : tie.Need-part-attempt-end
-part-attempt-end c = ?
-
--- src/build.rt:89:13
+-- src/build.rt:108:5
 attempt-requires : tie.Need-attempt-requires
-attempt-requires c κs = ?
+attempt-requires c κs =
+    let C = c .before .before .before .before .before .before .before .before .before .before .before .before .before .before .before .before .before .classes .ensures in let K = C .classified (omega arith) in let p = c .before .before .before .before .before .before .before .before .before .before .before .before .before .before .before .before .before .before .before .before .before .before .before .pre in let H = c .before .before .before .before .before .before .before .before .before .before .put-hull .ensures in let A = c .before .before .before .before .before .with-pairs .ensures in let s = A .derived .size in
+    (p .0, omega (arith, K .few, C .byteSize), omega (arith, C .size, H .size), omega (arith, C .size, H .size),
+      classified-on _ (λ b h. A .kept (16 + b) (omega arith) (omega arith)) (H .classified), hull-on _ (λ i g h. A .kept i (omega arith) (omega arith)) (H .hull))
 
--- src/build.rt:91:13
-same-length-2 : tie.Need-same-length-2
-same-length-2 c = search needs
-
--- src/build.rt:91:13
-returns-3 : tie.Need-returns-3
-returns-3 c = ?
-
--- src/build.rt:94:16
-slice-aggregate-attempt-2 : tie.Need-slice-aggregate-attempt-2
-slice-aggregate-attempt-2 c = search needs
-
--- src/build.rt:94:5
-attempt-requires-2 : tie.Need-attempt-requires-2
-attempt-requires-2 c κs = ?
-
--- src/build.rt:75:1
+-- src/build.rt:91:1
 same-length-3 : tie.Need-same-length-3
-same-length-3 c = ?
+same-length-3 c = c .before .before .attempt .ensures .derived .size ∙ c .before .before .before .before .before .before .before .before .with-pairs .ensures .derived .size ∙ c .before .before .before .before .before .before .before .before .before .before .before .before .before .put-hull .ensures .size ∙ c .before .before .before .before .before .before .before .before .before .before .before .before .before .before .before .before .before .before .before .before .classes .ensures .size
 
--- src/build.rt:75:1
+-- src/build.rt:91:1
 returns-4 : tie.Need-returns-4
-returns-4 c = ?
+returns-4 c = derived-on (c .before .before .before .before .before .before .before .before .before .before .before .before .before .before .before .before .before .before .before .before .before .before .before .before .before .before .args .d .now) (c .before .before .before .before .before .before .before .before .with-pairs .ensures .derived .size ∙ c .before .before .before .before .before .before .before .before .before .before .before .before .before .put-hull .ensures .size ∙ c .before .before .before .before .before .before .before .before .before .before .before .before .before .before .before .before .before .before .before .before .classes .ensures .size) (c .before .before .attempt .ensures .derived)
 
 pub derive-spec : {M : Type 1} → statement M
 derive-spec =
@@ -90,14 +88,11 @@ derive-spec =
     returns-2
     slice-aggregate-put-hull
     put-hull-requires
-    slice-aggregate-attempt
-    sub-attempt
-    part-attempt-start
-    part-attempt-end
-    attempt-requires
+    slice-aggregate-with-pairs
+    with-pairs-requires
     same-length-2
     returns-3
-    slice-aggregate-attempt-2
-    attempt-requires-2
+    slice-aggregate-attempt
+    attempt-requires
     same-length-3
     returns-4)

@@ -1,3 +1,11 @@
+use Prim.Native.Nat.{ℕ, _+_, _-_, _*_, _≤_, _<_}
+use mathlib.Core.Path.{_≡_, refl, sym, ap, ap₂, subst, _∙_}
+use native.Mathlib.Omega.{arith}
+use lib.ListN.{length, length-set, getD}
+use mathlib.Core.List.{List}
+use native.Mathlib.Nat.{mul-le-mul}
+use Rattle.ere_search.specs.Walk.{step}
+use Rattle.ere_derive.proofs.Bounded.{hull-put}
 use borrow.Author.Needs.{needs}
 use Rattle.ere_derive.proofs.hull.put_hull.Statement.{statement}
 use Rattle.ere_derive.proofs.hull.put_hull.Tie as tie
@@ -18,7 +26,7 @@ led-requires c κs = search needs
 
 -- src/hull.rt:135:9
 put-range-requires : tie.Need-put-range-requires
-put-range-requires c κs = ?
+put-range-requires c κs = let C = c .before .before .before .before .before .before .pre .3 in (omega arith, c .before .before .before .before .before .before .pre .2, λ b h. omega (arith, C .is b h, C .few))
 
 -- src/hull.rt:136:44
 seconds-requires : tie.Need-seconds-requires
@@ -26,11 +34,15 @@ seconds-requires c κs = search needs
 
 -- src/hull.rt:136:9
 put-range-requires-2 : tie.Need-put-range-requires-2
-put-range-requires-2 c κs = ?
+put-range-requires-2 c κs =
+    let C = c .before .before .before .before .before .before .before .before .before .before .before .pre .3 in
+    let R = c .before .before .before .before .put-range .ensures in
+    let p = c .before .before .before .before .before .before .before .before .before .before .before .pre in
+    (omega arith, omega (arith, R .frame .size), λ b h. omega (arith, C .is b h, C .few, R .frame .above (16 + b) (omega arith)))
 
 -- src/hull.rt:137:27
 mul-if1 : tie.Need-mul-if1
-mul-if1 c = ?
+mul-if1 c = let z = mul-le-mul (c .before .before .before .before .before .before .before .put-range .ensures .few) (c .before .before .put-range2 .ensures .few) in omega arith
 
 -- src/hull.rt:137:5
 slice-write-d : tie.Need-slice-write-d
@@ -38,11 +50,15 @@ slice-write-d c = search needs
 
 -- src/hull.rt:129:1
 same-length : tie.Need-same-length
-same-length c = ?
+same-length c = length-set (c .before .before .before .put-range2 .last .0) 5 (c .if1 .d) ∙ c .before .before .before .put-range2 .ensures .frame .size ∙ c .before .before .before .before .before .before .before .before .put-range .ensures .frame .size
 
 -- src/hull.rt:129:1
 returns : tie.Need-returns
-returns c = ?
+returns c =
+    let a = c .before .before .before .before .before .before .before .before .before .before .before .before .before .before .before .args in
+    hull-put (a .t .now) (a .bytes .now) (a .k) (a .d .now) (c .before .before .before .before .before .before .before .before .before .before .led .result) (c .before .before .before .before .seconds .result) _ _ _ _ (c .before .before .before .before .before .before .before .before .before .before .before .before .before .before .before .pre .3)
+    (λ x h f. ap (λ (s : List ℕ). step (a .t .now) s (getD (a .bytes .now) x 0)) (sym (c .before .before .before .before .before .before .before .before .before .before .before .set-at .ensures)) ∙ c .before .before .before .before .before .before .before .before .before .before .led .ensures .none x h f)
+    (c .before .before .before .before .seconds .ensures) (c .before .before .before .before .before .before .before .before .put-range .ensures) (c .before .before .before .put-range2 .ensures) (c .if1 .d)
 
 pub put-hull-spec : {M : Type 1} → statement M
 put-hull-spec =

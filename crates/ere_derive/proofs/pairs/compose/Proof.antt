@@ -28,7 +28,7 @@ returns c = subst (λ (x : Bool). PutPairs (c .before .before .before .before .b
 
 -- src/pairs.rt:54:1
 returns-2 : tie.Need-returns-2
-returns-2 c = subst (λ (x : Bool). PutPairs (c .before .before .args .k) (c .before .before .args .n) (c .before .before .args .stride) (cond x 0 (c .before .before .args .n)) (c .before .before .args .d .now) (c .before .before .args .d .now)) (sym (eq-eqb (c .before .before .args .paired) 0 ?)) (put-pairs-none _ _ _ _)
+returns-2 c = subst (λ (x : Bool). PutPairs (c .before .before .args .k) (c .before .before .args .n) (c .before .before .args .stride) (cond x 0 (c .before .before .args .n)) (c .before .before .args .d .now) (c .before .before .args .d .now)) (sym (eq-eqb (c .before .before .args .paired) 0 (c .if1 .left))) (put-pairs-none _ _ _ _)
 
 pub compose-spec : {M : Type 1} → statement M
 compose-spec = tie.close (tie.spec put-pairs-requires same-length returns returns-2)
