@@ -52,16 +52,16 @@ starts-none g x i (suc n) e j h k =
       | no z ↦ starts-none g x i n (f .0) j h (omega arith)
     ]
 
--- a block more is passed
-pub skipped-more : (g : Ranges) (x : List ℕ) (from i n : ℕ) → Skipped g x from i → i + n < length x
-    → starts g x i n ≡ false → Skipped g x from (i + n)
-skipped-more g x from i n S h e =
+-- some more of a block's places are passed
+pub skipped-more : (g : Ranges) (x : List ℕ) (from i n r : ℕ) → Skipped g x from i → starts g x i n ≡ false
+    → i ≤ r → r ≤ i + n → r < length x → Skipped g x from r
+skipped-more g x from i n r S e a b h =
     record {
       on = omega (arith, S .on);
       short = λ l. h;
-      none = λ j a b. elim (decLt j i) [
-        | yes l ↦ S .none j a l
-        | no l ↦ starts-none g x i n e j (omega arith) b
+      none = λ j k l. elim (decLt j i) [
+        | yes m ↦ S .none j k m
+        | no m ↦ starts-none g x i n e j (omega arith) (omega arith)
       ];
     }
 

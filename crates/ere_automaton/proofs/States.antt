@@ -60,6 +60,9 @@ module _ (d x : List ℕ) where
       let w : i ≡ from + (i - from) = omega arith in
       ap₂ (λ (a b : ℕ). nextIn d a (getD x b 0)) e w ∙ ap (runs d x from s) (sym z)
 
+  pub runs-count : (i s m n : ℕ) {r : ℕ} → r ≡ runs d x i s m → m ≡ n → r ≡ runs d x i s n
+  runs-count i s m n e h = e ∙ ap (runs d x i s) h
+
   pub runs-two : (i s j q : ℕ) → q ≡ runs d x i s j
       → nextIn d (nextIn d q (getD x (i + j) 0)) (getD x (i + j + 1) 0) ≡ runs d x i s (j + 2)
   unfolding runs

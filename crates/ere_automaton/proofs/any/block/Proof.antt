@@ -3,7 +3,7 @@ use mathlib.Core.Path.{_≡_, sym, ap, _∙_}
 use Prim.Native.Nat.{_+_, _-_}
 use native.Mathlib.Omega.{arith}
 use borrow.Author.Tests.{not-true}
-use Rattle.ere_automaton.specs.Scan.{runs}
+use Rattle.ere_automaton.proofs.States.{runs-count}
 use borrow.Author.Needs.{needs}
 use Rattle.ere_automaton.proofs.any.block.Statement.{statement}
 use Rattle.ere_automaton.proofs.any.block.Tie as tie
@@ -24,8 +24,7 @@ by-bytes-requires c κs = search needs
 returns-2 : tie.Need-returns-2
 returns-2 c =
     let a = c .before .before .before .before .args in
-    let z : a .i + 16 - a .i ≡ 16 = omega arith in
-    c .by-bytes .ensures ∙ ap (runs (a .d .now) (a .x .now) (a .i) (a .s)) z
+    runs-count (a .d .now) (a .x .now) (a .i) (a .s) _ 16 (c .by-bytes .ensures) (omega arith)
 
 pub block-spec : {M : Type 1} → statement M
 block-spec =

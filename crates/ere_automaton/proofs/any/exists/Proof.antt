@@ -151,8 +151,9 @@ skip-left l i r j S e later skips L =
 
 next-block-requires : tie.Need-next-block-requires Inv-loop μ-loop
 next-block-requires c κs =
-    let p = c .before .before .before .before .before .before .before .before .before .before .before .before .before .pre in
-    (p .0 .head, p .1, c .before .before .before .loop .inv .1)
+    let l = c .before .before .before in
+    let p = l .before .before .before .before .before .before .before .before .before .before .pre in
+    (p .0 .head, p .1, l .loop .inv .1)
 
 add-if4 : tie.Need-add-if4 Inv-loop μ-loop
 add-if4 c =

@@ -38,8 +38,10 @@ loop-again c =
     let a = c .before .before .before .before .before .args in
     let l = c .before .before .before .loop in
     let g = ranges (a .low) (a .width) (a .next-low) (a .next-width) in
-    let none = sym (c .before .may-start .ensures) ∙ c .if1 .left in
-    (omega arith, skipped-more g (a .x .now) (a .from) (l .i) 16 (l .inv .1) (omega arith) none)
+    let none = sym (c .before .may-start .ensures) ∙ c .if1 .left in (
+      omega arith,
+      skipped-more g (a .x .now) (a .from) (l .i) 16 _ (l .inv .1) none (omega arith) (omega arith) (omega arith),
+    )
 
 returns-2 : tie.Need-returns-2 Inv-loop μ-loop
 returns-2 c = c .before .loop .inv .1
