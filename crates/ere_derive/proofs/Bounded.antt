@@ -79,11 +79,11 @@ within-out l w b h = go (leb l b) (leb b (l + w)) refl refl h
 pub range-is : (d : List ℕ) (at x r low width : ℕ) → at + 1 < length d → r ≤ 256 → low + width < 256
     → ((b : ℕ) → b < 256 → within low width b ≡ false → bit x (classIn d b) ≡ false) → Range d at x r (set (set d at low) (at + 1) width)
 range-is d at x r low width room few sum out = record {
-    frame = frame-on (frame-wider (omega arith) (omega arith) (frame-set d at low)) (frame-wider (omega arith) (omega arith) (frame-set (set d at low) (at + 1) width));
-    few = few;
-    bytes = subst (λ (y : ℕ). y + getD both (at + 1) 0 < 256) (sym first) (subst (λ (y : ℕ). low + y < 256) (sym second) sum);
-    outside = λ b h f. out b h (ap₂ (λ (y z : ℕ). within y z b) (sym first) (sym second) ∙ f);
-  }
+  frame = frame-on (frame-wider (omega arith) (omega arith) (frame-set d at low)) (frame-wider (omega arith) (omega arith) (frame-set (set d at low) (at + 1) width));
+  few = few;
+  bytes = subst (λ (y : ℕ). y + getD both (at + 1) 0 < 256) (sym first) (subst (λ (y : ℕ). low + y < 256) (sym second) sum);
+  outside = λ b h f. out b h (ap₂ (λ (y z : ℕ). within y z b) (sym first) (sym second) ∙ f);
+}
   where
     both : List ℕ
     both = set (set d at low) (at + 1) width
@@ -104,12 +104,14 @@ classified-on {t} {bytes} {k} d' e C = record {
 
 pub hull-on : {t d : List ℕ} (d' : List ℕ) → ((i : ℕ) → 6 ≤ i → i < 10 → getD d' i 0 ≡ getD d i 0) → Hull t d → Hull t d'
 hull-on {t} {d} d' e H = record {
-    bytes = (subst (λ (x : ℕ). x + getD d' 7 0 < 256) (sym six) (subst (λ (x : ℕ). getD d 6 0 + x < 256) (sym seven) (H .bytes .0)),
-      subst (λ (x : ℕ). x + getD d' 9 0 < 256) (sym eight) (subst (λ (x : ℕ). getD d 8 0 + x < 256) (sym nine) (H .bytes .1)));
-    first = λ b h f. H .first b h (ap₂ (λ (y z : ℕ). within y z b) (sym six) (sym seven) ∙ f);
-    second = λ b c h l f. H .second b c h l (ap₂ (λ (y z : ℕ). within y z c) (sym eight) (sym nine) ∙ f);
-    none-ends = λ b c h l f. H .none-ends b c h l (ap₂ (λ (y z : ℕ). within y z c) (sym eight) (sym nine) ∙ f);
-  }
+  bytes = (
+    subst (λ (x : ℕ). x + getD d' 7 0 < 256) (sym six) (subst (λ (x : ℕ). getD d 6 0 + x < 256) (sym seven) (H .bytes .0)),
+    subst (λ (x : ℕ). x + getD d' 9 0 < 256) (sym eight) (subst (λ (x : ℕ). getD d 8 0 + x < 256) (sym nine) (H .bytes .1)),
+  );
+  first = λ b h f. H .first b h (ap₂ (λ (y z : ℕ). within y z b) (sym six) (sym seven) ∙ f);
+  second = λ b c h l f. H .second b c h l (ap₂ (λ (y z : ℕ). within y z c) (sym eight) (sym nine) ∙ f);
+  none-ends = λ b c h l f. H .none-ends b c h l (ap₂ (λ (y z : ℕ). within y z c) (sym eight) (sym nine) ∙ f);
+}
   where
     six : getD d' 6 0 ≡ getD d 6 0
     six = e 6 (omega arith) (omega arith)
@@ -133,14 +135,14 @@ module _ (t bytes : List ℕ) (k : ℕ) (d : List ℕ) (x y n m : ℕ) (d' d'' :
   -- both ranges are those of the first two bytes
   pub ranges-hull : Hull t d''
   ranges-hull = record {
-      bytes = (subst (λ (z : ℕ). z + getD d'' 7 0 < 256) (sym six) (subst (λ (z : ℕ). getD d' 6 0 + z < 256) (sym seven) (R .bytes)), S .bytes);
-      first = λ b h f. C .same (row t 1) b h ∙ L (classIn d b) (C .is b h) (R .outside b h (ap₂ (λ (u v : ℕ). within u v b) (sym six) (sym seven) ∙ f));
-      second = λ b c h l f.
-          ap (λ (s : List ℕ). step t s c) (C .same (row t 1) b h) ∙ C .same (step t (row t 1) (getD bytes (classIn d b) 0)) c l
-          ∙ F (classIn d b) (C .is b h) .none (classIn d c) (C .is c l) (off c l f);
-      none-ends = λ b c h l f.
-          ap (λ (s : List ℕ). stopIn s false) (C .same (row t 1) b h) ∙ F (classIn d b) (C .is b h) .unended (classIn d c) (C .is c l) (off c l f);
-    }
+    bytes = (subst (λ (z : ℕ). z + getD d'' 7 0 < 256) (sym six) (subst (λ (z : ℕ). getD d' 6 0 + z < 256) (sym seven) (R .bytes)), S .bytes);
+    first = λ b h f. C .same (row t 1) b h ∙ L (classIn d b) (C .is b h) (R .outside b h (ap₂ (λ (u v : ℕ). within u v b) (sym six) (sym seven) ∙ f));
+    second = λ b c h l f.
+        ap (λ (s : List ℕ). step t s c) (C .same (row t 1) b h) ∙ C .same (step t (row t 1) (getD bytes (classIn d b) 0)) c l
+        ∙ F (classIn d b) (C .is b h) .none (classIn d c) (C .is c l) (off c l f);
+    none-ends = λ b c h l f.
+        ap (λ (s : List ℕ). stopIn s false) (C .same (row t 1) b h) ∙ F (classIn d b) (C .is b h) .unended (classIn d c) (C .is c l) (off c l f);
+  }
     where
       six : getD d'' 6 0 ≡ getD d' 6 0
       six = S .frame .below 6 (omega arith)

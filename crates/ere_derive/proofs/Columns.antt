@@ -147,13 +147,13 @@ module _ (t : List ℕ) (n m : ℕ) where
       → getD columns (2 * j + 1) 0 ≡ columnOf t m (firstWord n) (n - firstWord n)
       → Classed t n m columns k bytes d → Classed t n (m + 1) columns k bytes (set d (classesAt + m) j)
   class-found columns k bytes d j room h low high C = record {
-      each = C .each;
-      is = upTo m (λ b l. subst (λ (x : ℕ). x < k) (sym (other b l)) (C .is b l)) (subst (λ (x : ℕ). x < k) (sym here) h);
-      alike =
-          upTo m (λ b l. subst (λ (x : ℕ). Alike t n b (getD bytes x 0)) (sym (other b l)) (C .alike b l))
-          (subst (λ (x : ℕ). Alike t n m (getD bytes x 0)) (sym here)
-          (columns-alike t m (getD bytes j 0) n (sym low ∙ C .each j h .low) (sym high ∙ C .each j h .high)));
-    }
+    each = C .each;
+    is = upTo m (λ b l. subst (λ (x : ℕ). x < k) (sym (other b l)) (C .is b l)) (subst (λ (x : ℕ). x < k) (sym here) h);
+    alike =
+        upTo m (λ b l. subst (λ (x : ℕ). Alike t n b (getD bytes x 0)) (sym (other b l)) (C .alike b l))
+        (subst (λ (x : ℕ). Alike t n m (getD bytes x 0)) (sym here)
+        (columns-alike t m (getD bytes j 0) n (sym low ∙ C .each j h .low) (sym high ∙ C .each j h .high)));
+  }
     where
       other : (b : ℕ) → b < m → classIn (set d (classesAt + m) j) b ≡ classIn d b
       other b l = getD-set-other d (classesAt + m) (classesAt + b) j 0 (omega arith)
@@ -166,10 +166,10 @@ module _ (t : List ℕ) (n m : ℕ) where
       → x ≡ columnOf t m 0 (firstWord n) → y ≡ columnOf t m (firstWord n) (n - firstWord n)
       → Classed t n m columns k bytes d → Classed t n m (set (set columns (2 * k) x) (2 * k + 1) y) (k + 1) (set bytes k m) d
   class-more columns k bytes d x y room rooms byte low high C = record {
-      each = upTo k old new;
-      is = λ b l. let h = C .is b l in omega arith;
-      alike = λ b l. subst (λ (z : ℕ). Alike t n b z) (sym (kept (classIn d b) (C .is b l))) (C .alike b l);
-    }
+    each = upTo k old new;
+    is = λ b l. let h = C .is b l in omega arith;
+    alike = λ b l. subst (λ (z : ℕ). Alike t n b z) (sym (kept (classIn d b) (C .is b l))) (C .alike b l);
+  }
     where
       both : List ℕ
       both = set (set columns (2 * k) x) (2 * k + 1) y

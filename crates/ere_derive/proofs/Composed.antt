@@ -134,11 +134,11 @@ module _ (k n stride : ℕ) (st : stride ≡ k + 1 + k * k) where
     pub put-pairs-more : Frame (rowsAt + stride * i + (k + 1)) (rowsAt + stride * i + (k + 1 + k * k)) s s' → Paired k s s' (rowsAt + stride * i) k
         → PutPairs k n stride (i + 1) d s'
     put-pairs-more f new = record {
-        size = f .size ∙ P .size;
-        below = λ x l. f .below x (omega arith) ∙ P .below x l;
-        kept = λ j c l m. row-kept j c m ∙ P .kept j c l m;
-        paired = upTo i old last;
-      }
+      size = f .size ∙ P .size;
+      below = λ x l. f .below x (omega arith) ∙ P .below x l;
+      kept = λ j c l m. row-kept j c m ∙ P .kept j c l m;
+      paired = upTo i old last;
+    }
       where
         row-kept : (j c : ℕ) → c < k + 1 → getD s' (rowsAt + stride * j + c) 0 ≡ getD s (rowsAt + stride * j + c) 0
         row-kept j c m =

@@ -44,13 +44,13 @@ fits-in len stride h = let z = mul-div-le (len - rowsAt) stride in omega arith
 pub headed : (d : List ℕ) (k first later accepted pairs : ℕ) → rowsAt ≤ length d
     → Headed d k first later accepted pairs (set (set (set (set (set d 0 k) 1 first) 2 later) 3 accepted) 4 pairs)
 headed d k first later accepted pairs room = record {
-    frame = record { size = simp length-set; below = λ i h. absurd (omega arith); above = other };
-    classes = after-four 0 (omega arith) ∙ after-three 0 (omega arith) ∙ after-two 0 (omega arith) ∙ getD-set-other d1 1 0 first 0 (omega arith) ∙ getD-set-same d 0 k 0 (omega arith);
-    is-first = after-four 1 (omega arith) ∙ after-three 1 (omega arith) ∙ after-two 1 (omega arith) ∙ getD-set-same d1 1 first 0 (simp length-set (omega arith));
-    is-later = after-four 2 (omega arith) ∙ after-three 2 (omega arith) ∙ getD-set-same d2 2 later 0 (simp length-set (omega arith));
-    is-accepted = after-four 3 (omega arith) ∙ getD-set-same d3 3 accepted 0 (simp length-set (omega arith));
-    is-paired = getD-set-same d4 4 pairs 0 (simp length-set (omega arith));
-  }
+  frame = record { size = simp length-set; below = λ i h. absurd (omega arith); above = other };
+  classes = after-four 0 (omega arith) ∙ after-three 0 (omega arith) ∙ after-two 0 (omega arith) ∙ getD-set-other d1 1 0 first 0 (omega arith) ∙ getD-set-same d 0 k 0 (omega arith);
+  is-first = after-four 1 (omega arith) ∙ after-three 1 (omega arith) ∙ after-two 1 (omega arith) ∙ getD-set-same d1 1 first 0 (simp length-set (omega arith));
+  is-later = after-four 2 (omega arith) ∙ after-three 2 (omega arith) ∙ getD-set-same d2 2 later 0 (simp length-set (omega arith));
+  is-accepted = after-four 3 (omega arith) ∙ getD-set-same d3 3 accepted 0 (simp length-set (omega arith));
+  is-paired = getD-set-same d4 4 pairs 0 (simp length-set (omega arith));
+}
   where
     d1 : List ℕ
     d1 = set d 0 k
@@ -295,13 +295,13 @@ module _ (t bytes : List ℕ) (k m : ℕ) (d : List ℕ) (h : rowsAt ≤ m) (l :
 
   pub front-attempted : (r : ℕ) (f : List ℕ) → Attempted t (take m d) r f → Attempted t d r (f ++ drop m d)
   front-attempted r f A = record {
-      derived = record {
-        size = length-front d f m (A .derived .size);
-        inside = let x = A .derived .inside in let y = front-size in omega arith;
-        drives = λ g. subst (Drives t) (sym (take-append-le r f (drop m d) r-in)) (A .derived .drives g);
-      };
-      kept = λ i g o. List·getD-append f (drop m d) 0 i (f-has i o) ∙ A .kept i g o ∙ getD-take m d i 0 (omega arith);
-    }
+    derived = record {
+      size = length-front d f m (A .derived .size);
+      inside = let x = A .derived .inside in let y = front-size in omega arith;
+      drives = λ g. subst (Drives t) (sym (take-append-le r f (drop m d) r-in)) (A .derived .drives g);
+    };
+    kept = λ i g o. List·getD-append f (drop m d) 0 i (f-has i o) ∙ A .kept i g o ∙ getD-take m d i 0 (omega arith);
+  }
     where
       f-size : length f ≡ m
       f-size = A .derived .size ∙ front-size

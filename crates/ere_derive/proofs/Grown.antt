@@ -35,15 +35,15 @@ row-is a i s l h =
 pub put-is : (a : List ℕ) (i : ℕ) (s : List ℕ) → 3 * i + 3 ≤ length a → length s ≡ 3
     → Put a i s (set (set (set a (3 * i) (getD s 0 0)) (3 * i + 1) (getD s 1 0)) (3 * i + 2) (getD s 2 0))
 put-is a i s room l = record {
-    size = simp length-set;
-    is =
-        three _ _ _ _ _ _
-        (getD-set-other b (3 * i + 2) (3 * i) z 0 (omega arith) ∙ getD-set-other c (3 * i + 1) (3 * i) y 0 (omega arith) ∙ getD-set-same a (3 * i) x 0 (omega arith))
-        (getD-set-other b (3 * i + 2) (3 * i + 1) z 0 (omega arith) ∙ getD-set-same c (3 * i + 1) y 0 (simp length-set (omega arith)))
-        (getD-set-same b (3 * i + 2) z 0 (simp length-set (omega arith)))
-        ∙ spelled s l;
-    kept = λ j ne. three _ _ _ _ _ _ (other (3 * j) (omega arith) (omega arith) (omega arith)) (other (3 * j + 1) (omega arith) (omega arith) (omega arith)) (other (3 * j + 2) (omega arith) (omega arith) (omega arith));
-  }
+  size = simp length-set;
+  is =
+      three _ _ _ _ _ _
+      (getD-set-other b (3 * i + 2) (3 * i) z 0 (omega arith) ∙ getD-set-other c (3 * i + 1) (3 * i) y 0 (omega arith) ∙ getD-set-same a (3 * i) x 0 (omega arith))
+      (getD-set-other b (3 * i + 2) (3 * i + 1) z 0 (omega arith) ∙ getD-set-same c (3 * i + 1) y 0 (simp length-set (omega arith)))
+      (getD-set-same b (3 * i + 2) z 0 (simp length-set (omega arith)))
+      ∙ spelled s l;
+  kept = λ j ne. three _ _ _ _ _ _ (other (3 * j) (omega arith) (omega arith) (omega arith)) (other (3 * j + 1) (omega arith) (omega arith) (omega arith)) (other (3 * j + 2) (omega arith) (omega arith) (omega arith));
+}
   where
     x : ℕ
     x = getD s 0 0

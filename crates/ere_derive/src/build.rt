@@ -21,7 +21,11 @@ fn states_in(length: usize, stride: usize) -> usize
     ensures { λ r. ⌜ (r ≤ 96) × (rowsAt + stride * r ≤ «length») ⌝ }
 {
     let n = (length - ROWS) / stride;
-    if n < layout::MOST_STATES { n } else { layout::MOST_STATES }
+    if n < layout::MOST_STATES {
+        n
+    } else {
+        layout::MOST_STATES
+    }
 }
 
 // Stores the first words of an automaton of k classes.
@@ -66,7 +70,14 @@ fn attempt(t: &[u64], bytes: &[u8], k: usize, d: &mut [u16], paired: u16) -> usi
         return 0;
     }
     pairs::compose(d, k, stride, n, paired);
-    put_head(d, k, ROWS + stride * s.first, ROWS + stride * s.later, ROWS + stride * s.accepted, paired);
+    put_head(
+        d,
+        k,
+        ROWS + stride * s.first,
+        ROWS + stride * s.later,
+        ROWS + stride * s.accepted,
+        paired,
+    );
     ROWS + stride * n
 }
 

@@ -83,7 +83,15 @@ fn first_word(n: usize) -> usize
 
 // Stores the class of the byte b, of k classes, and the column and the byte of a new class; gives how many classes there
 // are then.
-fn classify(t: &[u64], b: u8, n: usize, columns: &mut [u64], k: usize, bytes: &mut [u8], d: &mut [u16]) -> usize
+fn classify(
+    t: &[u64],
+    b: u8,
+    n: usize,
+    columns: &mut [u64],
+    k: usize,
+    bytes: &mut [u8],
+    d: &mut [u16],
+) -> usize
     requires { ⌜ (length (now t) ≡ tableWords) × (n ≤ placeCount) × (k < 64) × (length (now columns) ≡ 128)
         × (length (now bytes) ≡ 64) × (rowsAt ≤ length (now d)) ⌝ }
     ensures { λ r. ⌜ Classifies (now (t .entry)) n b (now (columns .entry)) k (now (bytes .entry)) (now (d .entry)) r

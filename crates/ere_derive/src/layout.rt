@@ -2,15 +2,25 @@
 // A row: the state after a byte of each class; 1 if a match ends where the text ends, else 0; and with pairs, the state
 // after two bytes, of each class and each class.
 pub const CLASS_COUNT: usize = 0;
+
 pub const FIRST: usize = 1;
+
 pub const LATER: usize = 2;
+
 pub const ACCEPTED: usize = 3;
+
 pub const PAIRS: usize = 4;
+
 pub const SKIPS: usize = 5;
+
 pub const LOW: usize = 6;
+
 pub const NEXT_LOW: usize = 8;
+
 pub const CLASSES: usize = 16;
+
 pub const ROWS: usize = CLASSES + 256;
 // At most so many classes, and states.
 pub const MOST_CLASSES: usize = 64;
+
 pub const MOST_STATES: usize = 96;

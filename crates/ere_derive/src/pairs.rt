@@ -25,7 +25,7 @@ fn copy_words(d: &mut [u16], p: usize, q: usize, k: usize)
 fn put_pairs_in(d: &mut [u16], k: usize, p: usize)
     requires { ⌜ (p + (k + 1 + k * k) ≤ length (now d)) × (length (now d) < 65536)
         × ((c : ℕ) → c < k → (getD (now d) (p + c) 0 + k ≤ length (now d))
-            × (Apart (getD (now d) (p + c) 0) k (p + (k + 1)) (p + (k + 1 + k * k)))) ⌝ }
+        × (Apart (getD (now d) (p + c) 0) k (p + (k + 1)) (p + (k + 1 + k * k)))) ⌝ }
     ensures { λ _. ⌜ (Frame (p + (k + 1)) (p + (k + 1 + k * k)) (now (d .entry)) (now (d .exit)))
         × (Paired k (now (d .entry)) (now (d .exit)) p k) ⌝ }
 {

@@ -13,7 +13,17 @@ use crate::sets;
 use ere_table::PLACES;
 
 // Stores at p the state after the set s and the byte b; gives how many states there are then, most + 1 if too many.
-fn put_entry(t: &[u64], b: u8, sets: &mut [u64], count: usize, most: usize, s: [u64; 3], stride: usize, p: usize, d: &mut [u16]) -> usize
+fn put_entry(
+    t: &[u64],
+    b: u8,
+    sets: &mut [u64],
+    count: usize,
+    most: usize,
+    s: [u64; 3],
+    stride: usize,
+    p: usize,
+    d: &mut [u16],
+) -> usize
     requires { ⌜ (length (now t) ≡ tableWords) × (count ≤ most) × (most ≤ 96) × (length (now sets) ≡ 288)
         × (rowsAt + stride * most ≤ length (now d)) × (length (now d) < 65536) × (p < length (now d)) ⌝ }
     ensures { λ r. ⌜ PutEntry (now (t .entry)) (now (sets .entry)) count most stride s b p (now (d .entry)) r
@@ -38,7 +48,18 @@ fn end_mark(s: [u64; 3]) -> u16
 }
 
 // Stores the row of the set s at p; gives how many states there are then, most + 1 if too many.
-fn put_row(t: &[u64], bytes: &[u8], k: usize, sets: &mut [u64], count: usize, most: usize, s: [u64; 3], stride: usize, p: usize, d: &mut [u16]) -> usize
+fn put_row(
+    t: &[u64],
+    bytes: &[u8],
+    k: usize,
+    sets: &mut [u64],
+    count: usize,
+    most: usize,
+    s: [u64; 3],
+    stride: usize,
+    p: usize,
+    d: &mut [u16],
+) -> usize
     requires { ⌜ (length (now t) ≡ tableWords) × (k ≤ length (now bytes)) × (count ≤ most) × (most ≤ 96)
         × (length (now sets) ≡ 288) × (rowsAt + stride * most ≤ length (now d)) × (length (now d) < 65536)
         × (p + k < length (now d)) ⌝ }
@@ -59,7 +80,16 @@ fn put_row(t: &[u64], bytes: &[u8], k: usize, sets: &mut [u64], count: usize, mo
 }
 
 // Stores the rows of all states; gives how many there are, most + 1 if too many.
-pub fn put_rows(t: &[u64], bytes: &[u8], k: usize, sets: &mut [u64], count: usize, most: usize, stride: usize, d: &mut [u16]) -> usize
+pub fn put_rows(
+    t: &[u64],
+    bytes: &[u8],
+    k: usize,
+    sets: &mut [u64],
+    count: usize,
+    most: usize,
+    stride: usize,
+    d: &mut [u16],
+) -> usize
     requires { ⌜ (length (now t) ≡ tableWords) × (k ≤ length (now bytes)) × (count ≤ most) × (most ≤ 96)
         × (length (now sets) ≡ 288) × (rowsAt + stride * most ≤ length (now d)) × (length (now d) < 65536)
         × (k < stride) ⌝ }
@@ -95,15 +125,35 @@ pub fn begin(t: &[u64], sets: &mut [u64], most: usize) -> Begun
 {
     let a = sets::enter(sets, 0, most, ere_table::ACCEPT);
     if most < a.count {
-        return Begun { count: most + 1, accepted: 0, later: 0, first: 0 };
+        return Begun {
+            count: most + 1,
+            accepted: 0,
+            later: 0,
+            first: 0,
+        };
     }
     let l = sets::enter(sets, a.count, most, sets::collapsed(sets::set_at(t, 1)));
     if most < l.count {
-        return Begun { count: most + 1, accepted: 0, later: 0, first: 0 };
+        return Begun {
+            count: most + 1,
+            accepted: 0,
+            later: 0,
+            first: 0,
+        };
     }
     let f = sets::enter(sets, l.count, most, sets::collapsed(sets::set_at(t, 0)));
     if most < f.count {
-        return Begun { count: most + 1, accepted: 0, later: 0, first: 0 };
+        return Begun {
+            count: most + 1,
+            accepted: 0,
+            later: 0,
+            first: 0,
+        };
     }
-    Begun { count: f.count, accepted: a.number, later: l.number, first: f.number }
+    Begun {
+        count: f.count,
+        accepted: a.number,
+        later: l.number,
+        first: f.number,
+    }
 }

@@ -98,8 +98,14 @@ pub fn enter(sets: &mut [u64], count: usize, most: usize, s: [u64; 3]) -> Entere
     if count < most {
         if is_fair(s) {
             put(sets, count, s);
-            return Entered { count: count + 1, number: count };
+            return Entered {
+                count: count + 1,
+                number: count,
+            };
         }
     }
-    Entered { count: most + 1, number: 0 }
+    Entered {
+        count: most + 1,
+        number: 0,
+    }
 }

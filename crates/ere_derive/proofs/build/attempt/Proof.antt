@@ -1,62 +1,42 @@
 use native.Mathlib.Nat.{mul-le-mul-left}
 use borrow.Author.Needs.{needs}
-use Prim.Native.Nat.{ℕ, _+_, _-_, _*_, _≤_, _<_}
-use mathlib.Core.Path.{_≡_, refl, sym, ap, ap₂, subst, _∙_}
+use mathlib.Core.Path.{refl, _∙_}
 use native.Mathlib.Omega.{arith}
-use lib.ListN.{length, length-set, getD}
 use Rattle.ere_derive.proofs.Composed.{rows-below}
 use Rattle.ere_derive.proofs.Driving.{stride-wide, unattempted, attempted, rows-closed}
 use Rattle.ere_derive.proofs.build.attempt.Statement.{statement}
 use Rattle.ere_derive.proofs.build.attempt.Tie as tie
-use Rattle.ere_derive.proofs.build.attempt.Reads as reads
-use Rattle.ere_derive.proofs.build.attempt.Lts as lts
-use Rattle.ere_derive.proofs.build.put_head.Reads as put-head-reads
-use Rattle.ere_derive.proofs.build.states_in.Reads as states-in-reads
-use Rattle.ere_derive.proofs.build.stride_of.Reads as stride-of-reads
-use Rattle.ere_derive.proofs.pairs.compose.Reads as compose-reads
-use Rattle.ere_derive.proofs.rows.begin.Reads as begin-reads
-use Rattle.ere_derive.proofs.rows.put_rows.Reads as put-rows-reads
 
--- src/build.rt:57:9
 stride-of-requires : tie.Need-stride-of-requires
 stride-of-requires c κs = c .before .before .before .pre .4 .few
 
--- src/build.rt:58:9
 states-in-requires : tie.Need-states-in-requires
 states-in-requires c κs = let z = stride-wide (c .before .before .before .before .args .k) (c .before .before .before .before .args .paired) in let p = c .before .before .before .before .pre in omega (arith, c .stride-of .ensures)
 
--- src/build.rt:60:28
 slice-aggregate-begin : tie.Need-slice-aggregate-begin
 slice-aggregate-begin c = search needs
 
--- src/build.rt:60:9
 begin-requires : tie.Need-begin-requires
 begin-requires c κs = search needs
 
--- src/build.rt:62:9
 returns : tie.Need-returns
 returns c = unattempted _ _ _ refl (λ i g h. refl)
 
--- src/build.rt:64:41
 slice-aggregate-put-rows : tie.Need-slice-aggregate-put-rows
 slice-aggregate-put-rows c = search needs
 
--- src/build.rt:64:9
 put-rows-requires : tie.Need-put-rows-requires
 put-rows-requires c κs =
     let z = stride-wide (c .before .before .before .before .before .before .before .before .before .before .before .before .args .k) (c .before .before .before .before .before .before .before .before .before .before .before .before .args .paired) in
     let p = c .before .before .before .before .before .before .before .before .before .before .before .before .pre in
     (p .0, p .1, c .before .before .if1 .left, c .before .before .before .before .before .before .before .states-in .ensures .0, c .before .before .before .before .before .begin .ensures .size, c .before .before .before .before .before .before .before .states-in .ensures .1, p .3, omega (arith, c .before .before .before .before .before .before .before .before .stride-of .ensures))
 
--- src/build.rt:66:9
 same-length : tie.Need-same-length
 same-length c = c .before .before .before .before .put-rows .ensures .frame .size
 
--- src/build.rt:66:9
 returns-2 : tie.Need-returns-2
 returns-2 c = unattempted _ _ _ (c .before .before .before .before .put-rows .ensures .frame .size) (λ i g h. c .before .before .before .before .put-rows .ensures .frame .below i h)
 
--- src/build.rt:68:5
 compose-requires : tie.Need-compose-requires
 compose-requires c κs =
     let p = c .before .before .before .before .before .before .before .before .before .before .before .before .before .before .before .before .before .before .pre in
@@ -64,31 +44,24 @@ compose-requires c κs =
     let y = c .before .before .before .before .before .put-rows .ensures .frame .size in
     (c .before .before .before .before .before .before .before .before .before .before .before .before .before .before .stride-of .ensures, omega (arith, c .before .before .before .before .before .before .before .before .before .before .before .before .before .states-in .ensures .1), omega arith, rows-closed (c .before .before .before .before .before .put-rows .ensures .rows (c .before .if2 .left)))
 
--- src/build.rt:69:27
 mul-put-head : tie.Need-mul-put-head
 mul-put-head c = let p = c .before .before .before .before .before .before .before .before .before .before .before .before .before .before .before .before .before .before .before .before .before .before .before .pre in let z = rows-below (c .before .before .before .before .before .before .before .before .before .before .before .before .before .before .before .before .before .before .before .stride-of .result) (c .before .before .before .before .before .before .before .before .before .before .before .before .before .before .before .before .begin .result .first) (c .before .before .before .before .before .before .before .before .before .before .before .before .before .before .before .before .before .before .states-in .result) (omega (arith, c .before .before .before .before .before .before .before .before .before .before .before .before .before .before .before .before .begin .ensures .is-first (c .before .before .before .before .before .before .before .before .before .before .before .before .before .if1 .left) .low, c .before .before .before .before .before .before .before .before .before .before .before .before .before .if1 .left)) in omega (arith, c .before .before .before .before .before .before .before .before .before .before .before .before .before .before .before .before .before .before .states-in .ensures .1)
 
--- src/build.rt:69:20
 add-put-head : tie.Need-add-put-head
 add-put-head c = let p = c .before .before .before .before .before .before .before .before .before .before .before .before .before .before .before .before .before .before .before .before .before .before .before .pre in let z = rows-below (c .before .before .before .before .before .before .before .before .before .before .before .before .before .before .before .before .before .before .before .stride-of .result) (c .before .before .before .before .before .before .before .before .before .before .before .before .before .before .before .before .begin .result .first) (c .before .before .before .before .before .before .before .before .before .before .before .before .before .before .before .before .before .before .states-in .result) (omega (arith, c .before .before .before .before .before .before .before .before .before .before .before .before .before .before .before .before .begin .ensures .is-first (c .before .before .before .before .before .before .before .before .before .before .before .before .before .if1 .left) .low, c .before .before .before .before .before .before .before .before .before .before .before .before .before .if1 .left)) in omega (arith, c .before .before .before .before .before .before .before .before .before .before .before .before .before .before .before .before .before .before .states-in .ensures .1)
 
--- src/build.rt:69:52
 mul-put-head-2 : tie.Need-mul-put-head-2
 mul-put-head-2 c = let p = c .before .before .before .before .before .before .before .before .before .before .before .before .before .before .before .before .before .before .before .before .before .before .before .before .pre in let z = rows-below (c .before .before .before .before .before .before .before .before .before .before .before .before .before .before .before .before .before .before .before .before .stride-of .result) (c .before .before .before .before .before .before .before .before .before .before .before .before .before .before .before .before .before .begin .result .later) (c .before .before .before .before .before .before .before .before .before .before .before .before .before .before .before .before .before .before .before .states-in .result) (omega (arith, c .before .before .before .before .before .before .before .before .before .before .before .before .before .before .before .before .before .begin .ensures .is-later (c .before .before .before .before .before .before .before .before .before .before .before .before .before .before .if1 .left) .low, c .before .before .before .before .before .before .before .before .before .before .before .before .before .before .if1 .left)) in omega (arith, c .before .before .before .before .before .before .before .before .before .before .before .before .before .before .before .before .before .before .before .states-in .ensures .1)
 
--- src/build.rt:69:45
 add-put-head-2 : tie.Need-add-put-head-2
 add-put-head-2 c = let p = c .before .before .before .before .before .before .before .before .before .before .before .before .before .before .before .before .before .before .before .before .before .before .before .before .pre in let z = rows-below (c .before .before .before .before .before .before .before .before .before .before .before .before .before .before .before .before .before .before .before .before .stride-of .result) (c .before .before .before .before .before .before .before .before .before .before .before .before .before .before .before .before .before .begin .result .later) (c .before .before .before .before .before .before .before .before .before .before .before .before .before .before .before .before .before .before .before .states-in .result) (omega (arith, c .before .before .before .before .before .before .before .before .before .before .before .before .before .before .before .before .before .begin .ensures .is-later (c .before .before .before .before .before .before .before .before .before .before .before .before .before .before .if1 .left) .low, c .before .before .before .before .before .before .before .before .before .before .before .before .before .before .if1 .left)) in omega (arith, c .before .before .before .before .before .before .before .before .before .before .before .before .before .before .before .before .before .before .before .states-in .ensures .1)
 
--- src/build.rt:69:77
 mul-put-head-3 : tie.Need-mul-put-head-3
 mul-put-head-3 c = let p = c .before .before .before .before .before .before .before .before .before .before .before .before .before .before .before .before .before .before .before .before .before .before .before .before .before .pre in let z = rows-below (c .before .before .before .before .before .before .before .before .before .before .before .before .before .before .before .before .before .before .before .before .before .stride-of .result) (c .before .before .before .before .before .before .before .before .before .before .before .before .before .before .before .before .before .before .begin .result .accepted) (c .before .before .before .before .before .before .before .before .before .before .before .before .before .before .before .before .before .before .before .before .states-in .result) (omega (arith, c .before .before .before .before .before .before .before .before .before .before .before .before .before .before .before .before .before .before .begin .ensures .is-accepted (c .before .before .before .before .before .before .before .before .before .before .before .before .before .before .before .if1 .left) .low, c .before .before .before .before .before .before .before .before .before .before .before .before .before .before .before .if1 .left)) in omega (arith, c .before .before .before .before .before .before .before .before .before .before .before .before .before .before .before .before .before .before .before .before .states-in .ensures .1)
 
--- src/build.rt:69:70
 add-put-head-3 : tie.Need-add-put-head-3
 add-put-head-3 c = let p = c .before .before .before .before .before .before .before .before .before .before .before .before .before .before .before .before .before .before .before .before .before .before .before .before .before .pre in let z = rows-below (c .before .before .before .before .before .before .before .before .before .before .before .before .before .before .before .before .before .before .before .before .before .stride-of .result) (c .before .before .before .before .before .before .before .before .before .before .before .before .before .before .before .before .before .before .begin .result .accepted) (c .before .before .before .before .before .before .before .before .before .before .before .before .before .before .before .before .before .before .before .before .states-in .result) (omega (arith, c .before .before .before .before .before .before .before .before .before .before .before .before .before .before .before .before .before .before .begin .ensures .is-accepted (c .before .before .before .before .before .before .before .before .before .before .before .before .before .before .before .if1 .left) .low, c .before .before .before .before .before .before .before .before .before .before .before .before .before .before .before .if1 .left)) in omega (arith, c .before .before .before .before .before .before .before .before .before .before .before .before .before .before .before .before .before .before .before .before .states-in .ensures .1)
 
--- src/build.rt:69:5
 put-head-requires : tie.Need-put-head-requires
 put-head-requires c κs =
     let p = c .before .before .before .before .before .before .before .before .before .before .before .before .before .before .before .before .before .before .before .before .before .before .before .before .before .pre in
@@ -96,19 +69,15 @@ put-head-requires c κs =
     let x = c .before .before .before .before .before .before .compose .ensures .size in
     (omega arith, omega (arith, p .4 .few), omega (arith, rows-below (c .before .before .before .before .before .before .before .before .before .before .before .before .before .before .before .before .before .before .before .before .before .stride-of .result) (c .before .before .before .before .before .before .before .before .before .before .before .before .before .before .before .before .before .before .begin .result .first) (c .before .before .before .before .before .before .before .before .before .before .before .before .before .before .before .before .before .before .before .before .states-in .result) (omega (arith, c .before .before .before .before .before .before .before .before .before .before .before .before .before .before .before .before .before .before .begin .ensures .is-first (c .before .before .before .before .before .before .before .before .before .before .before .before .before .before .before .if1 .left) .low, c .before .before .before .before .before .before .before .before .before .before .before .before .before .before .before .if1 .left)), c .before .before .before .before .before .before .before .before .before .before .before .before .before .before .before .before .before .before .before .before .states-in .ensures .1), omega (arith, rows-below (c .before .before .before .before .before .before .before .before .before .before .before .before .before .before .before .before .before .before .before .before .before .stride-of .result) (c .before .before .before .before .before .before .before .before .before .before .before .before .before .before .before .before .before .before .begin .result .later) (c .before .before .before .before .before .before .before .before .before .before .before .before .before .before .before .before .before .before .before .before .states-in .result) (omega (arith, c .before .before .before .before .before .before .before .before .before .before .before .before .before .before .before .before .before .before .begin .ensures .is-later (c .before .before .before .before .before .before .before .before .before .before .before .before .before .before .before .if1 .left) .low, c .before .before .before .before .before .before .before .before .before .before .before .before .before .before .before .if1 .left)), c .before .before .before .before .before .before .before .before .before .before .before .before .before .before .before .before .before .before .before .before .states-in .ensures .1), omega (arith, rows-below (c .before .before .before .before .before .before .before .before .before .before .before .before .before .before .before .before .before .before .before .before .before .stride-of .result) (c .before .before .before .before .before .before .before .before .before .before .before .before .before .before .before .before .before .before .begin .result .accepted) (c .before .before .before .before .before .before .before .before .before .before .before .before .before .before .before .before .before .before .before .before .states-in .result) (omega (arith, c .before .before .before .before .before .before .before .before .before .before .before .before .before .before .before .before .before .before .begin .ensures .is-accepted (c .before .before .before .before .before .before .before .before .before .before .before .before .before .before .before .if1 .left) .low, c .before .before .before .before .before .before .before .before .before .before .before .before .before .before .before .if1 .left)), c .before .before .before .before .before .before .before .before .before .before .before .before .before .before .before .before .before .before .before .before .states-in .ensures .1))
 
--- src/build.rt:70:12
 mul-result : tie.Need-mul-result
 mul-result c = let p = c .before .before .before .before .before .before .before .before .before .before .before .before .before .before .before .before .before .before .before .before .before .before .before .before .before .before .before .before .pre in let z = mul-le-mul-left (c .before .before .before .before .before .before .before .before .before .before .before .before .before .before .before .before .before .before .before .before .before .before .before .before .stride-of .result) (c .before .before .before .before .before .before .before .before .before .before .before .if2 .left) in omega (arith, c .before .before .before .before .before .before .before .before .before .before .before .before .before .before .before .before .before .before .before .before .before .before .before .states-in .ensures .1)
 
--- src/build.rt:70:5
 add-result : tie.Need-add-result
 add-result c = let p = c .before .before .before .before .before .before .before .before .before .before .before .before .before .before .before .before .before .before .before .before .before .before .before .before .before .before .before .before .pre in let z = mul-le-mul-left (c .before .before .before .before .before .before .before .before .before .before .before .before .before .before .before .before .before .before .before .before .before .before .before .before .stride-of .result) (c .before .before .before .before .before .before .before .before .before .before .before .if2 .left) in omega (arith, c .before .before .before .before .before .before .before .before .before .before .before .before .before .before .before .before .before .before .before .before .before .before .before .states-in .ensures .1)
 
--- src/build.rt:52:1
 same-length-2 : tie.Need-same-length-2
 same-length-2 c = c .before .before .put-head .ensures .frame .size ∙ c .before .before .before .before .before .before .before .before .before .compose .ensures .size ∙ c .before .before .before .before .before .before .before .before .before .before .before .before .before .before .before .put-rows .ensures .frame .size
 
--- src/build.rt:52:1
 returns-3 : tie.Need-returns-3
 returns-3 c =
     let p = c .before .before .before .before .before .before .before .before .before .before .before .before .before .before .before .before .before .before .before .before .before .before .before .before .before .before .before .before .pre in

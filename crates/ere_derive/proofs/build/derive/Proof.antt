@@ -1,79 +1,62 @@
-use Prim.Native.Nat.{ℕ, _+_, _-_, _*_, _≤_, _<_}
-use mathlib.Core.Path.{_≡_, refl, sym, ap, ap₂, subst, _∙_}
+use Prim.Native.Nat.{_+_}
+use mathlib.Core.Path.{refl, _∙_}
 use native.Mathlib.Omega.{arith}
-use lib.ListN.{length, length-set, getD}
 use Rattle.ere_derive.proofs.Bounded.{classified-on, hull-on}
 use Rattle.ere_derive.proofs.Driving.{underived, derived-on}
 use borrow.Author.Needs.{needs}
 use Rattle.ere_derive.proofs.build.derive.Statement.{statement}
 use Rattle.ere_derive.proofs.build.derive.Tie as tie
-use Rattle.ere_derive.proofs.build.derive.Reads as reads
-use Rattle.ere_derive.proofs.build.derive.Lts as lts
-use Rattle.ere_derive.proofs.build.attempt.Reads as attempt-reads
-use Rattle.ere_derive.proofs.build.with_pairs.Reads as with-pairs-reads
-use Rattle.ere_derive.proofs.classes.classes.Reads as classes-reads
-use Rattle.ere_derive.proofs.hull.put_hull.Reads as put-hull-reads
 
--- src/build.rt:96:9
 returns : tie.Need-returns
 returns c = underived _ _ _ refl
 
--- src/build.rt:99:33
 slice-aggregate-classes : tie.Need-slice-aggregate-classes
 slice-aggregate-classes c = search needs
 
--- src/build.rt:99:9
 classes-requires : tie.Need-classes-requires
 classes-requires c κs = search needs
 
--- src/build.rt:101:9
 same-length : tie.Need-same-length
 same-length c = search needs
 
--- src/build.rt:101:9
 returns-2 : tie.Need-returns-2
 returns-2 c = underived _ _ _ (c .before .before .before .before .classes .ensures .size)
 
--- src/build.rt:103:23
 slice-aggregate-put-hull : tie.Need-slice-aggregate-put-hull
 slice-aggregate-put-hull c = search needs
 
--- src/build.rt:103:5
 put-hull-requires : tie.Need-put-hull-requires
 put-hull-requires c κs = let C = c .before .before .before .before .before .before .classes .ensures in let K = C .classified (omega arith) in let p = c .before .before .before .before .before .before .before .before .before .before .before .before .pre in (p .0, omega (arith, K .few, C .byteSize), omega (arith, C .size), K)
 
--- src/build.rt:104:27
 slice-aggregate-with-pairs : tie.Need-slice-aggregate-with-pairs
 slice-aggregate-with-pairs c = search needs
 
--- src/build.rt:104:9
 with-pairs-requires : tie.Need-with-pairs-requires
 with-pairs-requires c κs = let C = c .before .before .before .before .before .before .before .before .before .before .before .classes .ensures in let K = C .classified (omega arith) in let p = c .before .before .before .before .before .before .before .before .before .before .before .before .before .before .before .before .before .pre in let H = c .before .before .before .before .put-hull .ensures in (p .0, omega (arith, K .few, C .byteSize), omega (arith, C .size, H .size), omega (arith, C .size, H .size), H .classified, H .hull)
 
--- src/build.rt:106:9
 same-length-2 : tie.Need-same-length-2
 same-length-2 c = c .before .before .before .with-pairs .ensures .derived .size ∙ c .before .before .before .before .before .before .before .before .put-hull .ensures .size ∙ c .before .before .before .before .before .before .before .before .before .before .before .before .before .before .before .classes .ensures .size
 
--- src/build.rt:106:9
 returns-3 : tie.Need-returns-3
 returns-3 c = derived-on (c .before .before .before .before .before .before .before .before .before .before .before .before .before .before .before .before .before .before .before .before .before .args .d .now) (c .before .before .before .before .before .before .before .before .put-hull .ensures .size ∙ c .before .before .before .before .before .before .before .before .before .before .before .before .before .before .before .classes .ensures .size) (c .before .before .before .with-pairs .ensures .derived)
 
--- src/build.rt:108:16
 slice-aggregate-attempt : tie.Need-slice-aggregate-attempt
 slice-aggregate-attempt c = search needs
 
--- src/build.rt:108:5
 attempt-requires : tie.Need-attempt-requires
 attempt-requires c κs =
-    let C = c .before .before .before .before .before .before .before .before .before .before .before .before .before .before .before .before .before .classes .ensures in let K = C .classified (omega arith) in let p = c .before .before .before .before .before .before .before .before .before .before .before .before .before .before .before .before .before .before .before .before .before .before .before .pre in let H = c .before .before .before .before .before .before .before .before .before .before .put-hull .ensures in let A = c .before .before .before .before .before .with-pairs .ensures in let s = A .derived .size in
-    (p .0, omega (arith, K .few, C .byteSize), omega (arith, C .size, H .size), omega (arith, C .size, H .size),
-      classified-on _ (λ b h. A .kept (16 + b) (omega arith) (omega arith)) (H .classified), hull-on _ (λ i g h. A .kept i (omega arith) (omega arith)) (H .hull))
+    let C = c .before .before .before .before .before .before .before .before .before .before .before .before .before .before .before .before .before .classes .ensures in let K = C .classified (omega arith) in let p = c .before .before .before .before .before .before .before .before .before .before .before .before .before .before .before .before .before .before .before .before .before .before .before .pre in let H = c .before .before .before .before .before .before .before .before .before .before .put-hull .ensures in let A = c .before .before .before .before .before .with-pairs .ensures in let s = A .derived .size in (
+      p .0,
+      omega (arith, K .few, C .byteSize),
+      omega (arith, C .size, H .size),
+      omega (arith, C .size, H .size),
+      classified-on _ (λ b h. A .kept (16 + b) (omega arith) (omega arith)) (H .classified),
+      hull-on _ (λ i g h. A .kept i (omega arith) (omega arith)) (H .hull),
+    )
 
--- src/build.rt:91:1
 same-length-3 : tie.Need-same-length-3
 same-length-3 c = c .before .before .attempt .ensures .derived .size ∙ c .before .before .before .before .before .before .before .before .with-pairs .ensures .derived .size ∙ c .before .before .before .before .before .before .before .before .before .before .before .before .before .put-hull .ensures .size ∙ c .before .before .before .before .before .before .before .before .before .before .before .before .before .before .before .before .before .before .before .before .classes .ensures .size
 
--- src/build.rt:91:1
 returns-4 : tie.Need-returns-4
 returns-4 c = derived-on (c .before .before .before .before .before .before .before .before .before .before .before .before .before .before .before .before .before .before .before .before .before .before .before .before .before .before .args .d .now) (c .before .before .before .before .before .before .before .before .with-pairs .ensures .derived .size ∙ c .before .before .before .before .before .before .before .before .before .before .before .before .before .put-hull .ensures .size ∙ c .before .before .before .before .before .before .before .before .before .before .before .before .before .before .before .before .before .before .before .before .classes .ensures .size) (c .before .before .attempt .ensures .derived)
 

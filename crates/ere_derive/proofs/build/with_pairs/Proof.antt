@@ -1,33 +1,23 @@
-use Prim.Native.Nat.{ℕ, _+_, _-_, _*_, _≤_, _<_}
-use mathlib.Core.Path.{_≡_, refl, sym, ap, ap₂, subst, _∙_}
+use mathlib.Core.Path.{refl, sym}
 use native.Mathlib.Omega.{arith}
-use lib.ListN.{length, length-set, getD}
 use lib.Seq.{length-take-le}
 use Rattle.ere_derive.proofs.Driving.{unattempted, front-size, front-classified, front-hull, front-attempted}
 use borrow.Author.Needs.{needs}
 use Rattle.ere_derive.proofs.build.with_pairs.Statement.{statement}
 use Rattle.ere_derive.proofs.build.with_pairs.Tie as tie
-use Rattle.ere_derive.proofs.build.with_pairs.Reads as reads
-use Rattle.ere_derive.proofs.build.with_pairs.Lts as lts
-use Rattle.ere_derive.proofs.build.attempt.Reads as attempt-reads
 
--- src/build.rt:81:9
 returns : tie.Need-returns
 returns c = unattempted _ _ _ refl (λ i g h. refl)
 
--- src/build.rt:84:9
 returns-2 : tie.Need-returns-2
 returns-2 c = unattempted _ _ _ refl (λ i g h. refl)
 
--- src/build.rt:86:26
 slice-relend-prefix-attempt : tie.Need-slice-relend-prefix-attempt
 slice-relend-prefix-attempt c = search needs
 
--- src/build.rt:86:26
 slice-aggregate-attempt : tie.Need-slice-aggregate-attempt
 slice-aggregate-attempt c = sym (length-take-le (c .before .before .before .before .before .before .args .pairs) (c .before .before .before .before .before .before .args .d .now) (c .before .if2 .left))
 
--- src/build.rt:86:5
 attempt-requires : tie.Need-attempt-requires
 attempt-requires c κs =
     let p = c .before .before .before .before .before .before .pre in
@@ -35,11 +25,9 @@ attempt-requires c κs =
     let z = front-size (a .t .now) (a .bytes .now) (a .k) (a .pairs) (a .d .now) (c .before .before .if1 .left) (c .before .if2 .left) in
     (p .0, p .1, omega arith, omega arith, front-classified (a .t .now) (a .bytes .now) (a .k) (a .pairs) (a .d .now) (c .before .before .if1 .left) (c .before .if2 .left) (p .4), front-hull (a .t .now) (a .bytes .now) (a .k) (a .pairs) (a .d .now) (c .before .before .if1 .left) (c .before .if2 .left) (p .5))
 
--- src/build.rt:75:1
 same-length : tie.Need-same-length
 same-length c = search needs
 
--- src/build.rt:75:1
 returns-3 : tie.Need-returns-3
 returns-3 c =
     let a = c .before .before .before .before .before .before .before .before .before .args in

@@ -1,16 +1,12 @@
 use borrow.Author.Needs.{needs}
-use Prim.Native.Nat.{ℕ, _+_, _-_, _*_, _≤_, _<_}
-use mathlib.Core.Path.{_≡_, refl, sym, ap, subst, _∙_}
+use Prim.Native.Nat.{ℕ, _-_, _≤_}
+use mathlib.Core.Path.{_≡_, refl, subst, _∙_}
 use native.Mathlib.Omega.{arith}
-use lib.ListN.{length, length-set, getD}
+use lib.ListN.{length}
 use Rattle.ere_derive.specs.Column.{Used, Classed}
 use Rattle.ere_derive.proofs.Columns.{classed-none, classified}
 use Rattle.ere_derive.proofs.classes.classes.Statement.{statement}
 use Rattle.ere_derive.proofs.classes.classes.Tie as tie
-use Rattle.ere_derive.proofs.classes.classes.Reads as reads
-use Rattle.ere_derive.proofs.classes.classes.Lts as lts
-use Rattle.ere_derive.proofs.classes.classify.Reads as classify-reads
-use Rattle.ere_derive.proofs.classes.used_places.Reads as used-places-reads
 
 abbrev Inv-loop : tie.InvT-loop
 Inv-loop t bytes₀ d₀ n columns₀ k₀ b₀ bytes d columns k b = (b ≤ 256) × (k ≤ 64) × (k ≤ b) × (length columns ≡ 128) × (length bytes ≡ length bytes₀) × (length d ≡ length d₀) × (Used t n) × (Classed t n b columns k bytes d)
@@ -18,62 +14,48 @@ Inv-loop t bytes₀ d₀ n columns₀ k₀ b₀ bytes d columns k b = (b ≤ 256
 abbrev μ-loop : tie.MeasureT-loop
 μ-loop t bytes₀ d₀ n columns₀ k₀ b₀ bytes d columns k b = 256 - b
 
--- src/classes.rt:104:9
 used-places-requires : tie.Need-used-places-requires Inv-loop μ-loop
 used-places-requires c κs = search needs
 
--- src/classes.rt:108:5
 loop-holds : tie.Need-loop-holds Inv-loop μ-loop
 loop-holds c = (omega arith, omega arith, omega arith, refl, refl, refl, c .used-places .ensures, classed-none _ _ _ _ _)
 
--- src/classes.rt:110:13
 same-length : tie.Need-same-length Inv-loop μ-loop
 same-length c = search needs
 
--- src/classes.rt:110:13
 same-length-2 : tie.Need-same-length-2 Inv-loop μ-loop
 same-length-2 c = search needs
 
--- src/classes.rt:110:13
 returns : tie.Need-returns Inv-loop μ-loop
 returns c = record { byteSize = c .before .before .loop .inv .4; size = c .before .before .loop .inv .5; classified = λ h. absurd (omega arith) }
 
--- src/classes.rt:112:25
 cast-classify : tie.Need-cast-classify Inv-loop μ-loop
 cast-classify c = search needs
 
--- src/classes.rt:112:37
 slice-aggregate-classify : tie.Need-slice-aggregate-classify Inv-loop μ-loop
 slice-aggregate-classify c = search needs
 
--- src/classes.rt:112:9
 classify-requires : tie.Need-classify-requires Inv-loop μ-loop
 classify-requires c κs = search needs
 
--- src/classes.rt:113:9
 add-b : tie.Need-add-b Inv-loop μ-loop
 add-b c = search needs
 
--- src/classes.rt:108:5
 loop-less : tie.Need-loop-less Inv-loop μ-loop
 loop-less c = search needs
 
--- src/classes.rt:108:5
 loop-again : tie.Need-loop-again Inv-loop μ-loop
 loop-again c =
     let r = c .before .before .before .before .before .classify .ensures in
     let i = c .before .before .before .before .before .before .before .before .before .before .before .loop .inv in
     (omega arith, omega arith, omega arith, r .columnSize ∙ i .3, r .byteSize ∙ i .4, r .size ∙ i .5, i .6, r .classed (i .7))
 
--- src/classes.rt:99:1
 same-length-3 : tie.Need-same-length-3 Inv-loop μ-loop
 same-length-3 c = search needs
 
--- src/classes.rt:99:1
 same-length-4 : tie.Need-same-length-4 Inv-loop μ-loop
 same-length-4 c = search needs
 
--- src/classes.rt:99:1
 returns-2 : tie.Need-returns-2 Inv-loop μ-loop
 returns-2 c =
     let i = c .before .loop .inv in

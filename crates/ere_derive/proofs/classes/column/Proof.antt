@@ -1,15 +1,12 @@
-use Prim.Native.Nat.{ℕ, _+_, _-_, _*_, _≤_, _<_}
+use Prim.Native.Nat.{ℕ, _-_, _≤_}
 use borrow.Author.Needs.{needs}
 use Prim.Native.Nat.{_-_, _≤_}
-use mathlib.Core.Path.{_≡_, refl, sym, ap, _∙_}
+use mathlib.Core.Path.{_≡_, sym, ap, _∙_}
 use native.Mathlib.Omega.{arith}
 use Rattle.ere_derive.specs.Column.{columnOf}
 use Rattle.ere_derive.proofs.Columns.{column-room, column-more, column-none}
 use Rattle.ere_derive.proofs.classes.column.Statement.{statement}
 use Rattle.ere_derive.proofs.classes.column.Tie as tie
-use Rattle.ere_derive.proofs.classes.column.Reads as reads
-use Rattle.ere_derive.proofs.classes.column.Lts as lts
-use Rattle.ere_derive.proofs.classes.taken.Reads as taken-reads
 
 abbrev Inv-loop : tie.InvT-loop
 Inv-loop t b from to c₀ p₀ c p = (from ≤ p) × (p ≤ to) × (c ≡ columnOf t b from (p - from))
@@ -17,35 +14,27 @@ Inv-loop t b from to c₀ p₀ c p = (from ≤ p) × (p ≤ to) × (c ≡ column
 abbrev μ-loop : tie.MeasureT-loop
 μ-loop t b from to c₀ p₀ c p = to - p
 
--- src/classes.rt:53:5
 loop-holds : tie.Need-loop-holds Inv-loop μ-loop
 loop-holds c = (omega arith, omega arith, sym (column-none (c .before .args .t .now) (c .before .args .b) (c .before .args .from)))
 
--- src/classes.rt:54:13
 mul-c : tie.Need-mul-c Inv-loop μ-loop
 mul-c c = omega (arith, c .before .loop .inv .2, column-room (c .before .before .before .args .t .now) (c .before .before .before .args .b) (c .before .before .before .args .from) (c .before .loop .p - c .before .before .before .args .from) (omega arith))
 
--- src/classes.rt:54:21
 taken-requires : tie.Need-taken-requires Inv-loop μ-loop
 taken-requires c κs = search needs
 
--- src/classes.rt:54:13
 add-c : tie.Need-add-c Inv-loop μ-loop
 add-c c = omega (arith, c .before .before .loop .inv .2, c .taken .ensures, column-room (c .before .before .before .before .args .t .now) (c .before .before .before .before .args .b) (c .before .before .before .before .args .from) (c .before .before .loop .p - c .before .before .before .before .args .from) (omega arith))
 
--- src/classes.rt:55:9
 add-p : tie.Need-add-p Inv-loop μ-loop
 add-p c = search needs
 
--- src/classes.rt:53:5
 loop-less : tie.Need-loop-less Inv-loop μ-loop
 loop-less c = search needs
 
--- src/classes.rt:53:5
 loop-again : tie.Need-loop-again Inv-loop μ-loop
 loop-again c = (omega arith, omega arith, omega (arith, c .before .before .loop .inv .2, c .taken .ensures, column-more (c .before .before .before .before .args .t .now) (c .before .before .before .before .args .b) (c .before .before .before .before .args .from) (c .before .before .loop .p) (c .before .before .loop .inv .0)))
 
--- src/classes.rt:47:1
 returns : tie.Need-returns Inv-loop μ-loop
 returns c = let e : c .before .loop .p ≡ c .before .before .before .args .to = omega arith in c .before .loop .inv .2 ∙ ap (λ (q : ℕ). columnOf (c .before .before .before .args .t .now) (c .before .before .before .args .b) (c .before .before .before .args .from) (q - c .before .before .before .args .from)) e
 

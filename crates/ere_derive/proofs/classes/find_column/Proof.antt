@@ -1,14 +1,10 @@
-use Prim.Native.Nat.{ℕ, _+_, _-_, _*_, _≤_, _<_}
+use Prim.Native.Nat.{_-_, _≤_}
 use borrow.Author.Tests.{eqb-true}
 use Rattle.lists.proofs.Tests.{and-true}
 use borrow.Author.Needs.{needs}
-use Prim.Native.Nat.{_-_, _≤_}
-use mathlib.Core.Path.{_≡_, refl, sym, ap, _∙_}
 use native.Mathlib.Omega.{arith}
 use Rattle.ere_derive.proofs.classes.find_column.Statement.{statement}
 use Rattle.ere_derive.proofs.classes.find_column.Tie as tie
-use Rattle.ere_derive.proofs.classes.find_column.Reads as reads
-use Rattle.ere_derive.proofs.classes.find_column.Lts as lts
 
 abbrev Inv-loop : tie.InvT-loop
 Inv-loop columns k x y j₀ j = j ≤ k
@@ -16,55 +12,42 @@ Inv-loop columns k x y j₀ j = j ≤ k
 abbrev μ-loop : tie.MeasureT-loop
 μ-loop columns k x y j₀ j = k - j
 
--- src/classes.rt:67:5
 loop-holds : tie.Need-loop-holds Inv-loop μ-loop
 loop-holds c = search needs
 
--- src/classes.rt:68:21
 mul-if1 : tie.Need-mul-if1 Inv-loop μ-loop
 mul-if1 c = search needs
 
--- src/classes.rt:68:13
 mul-if1-2 : tie.Need-mul-if1-2 Inv-loop μ-loop
 mul-if1-2 c = search needs
 
--- src/classes.rt:68:13
 shared-slice-read-if1 : tie.Need-shared-slice-read-if1 Inv-loop μ-loop
 shared-slice-read-if1 c = search needs
 
--- src/classes.rt:68:45
 mul-if1-3 : tie.Need-mul-if1-3 Inv-loop μ-loop
 mul-if1-3 c = search needs
 
--- src/classes.rt:68:45
 add-if1 : tie.Need-add-if1 Inv-loop μ-loop
 add-if1 c = search needs
 
--- src/classes.rt:68:37
 mul-if1-4 : tie.Need-mul-if1-4 Inv-loop μ-loop
 mul-if1-4 c = search needs
 
--- src/classes.rt:68:37
 shared-slice-read-if1-2 : tie.Need-shared-slice-read-if1-2 Inv-loop μ-loop
 shared-slice-read-if1-2 c = search needs
 
--- src/classes.rt:69:13
 returns : tie.Need-returns Inv-loop μ-loop
 returns c = (omega arith, λ h. let e = and-true _ _ (c .if1 .taken) in (eqb-true _ _ (e .0), eqb-true _ _ (e .1)))
 
--- src/classes.rt:71:9
 add-j : tie.Need-add-j Inv-loop μ-loop
 add-j c = search needs
 
--- src/classes.rt:67:5
 loop-less : tie.Need-loop-less Inv-loop μ-loop
 loop-less c = search needs
 
--- src/classes.rt:67:5
 loop-again : tie.Need-loop-again Inv-loop μ-loop
 loop-again c = search needs
 
--- src/classes.rt:61:1
 returns-2 : tie.Need-returns-2 Inv-loop μ-loop
 returns-2 c = search needs
 

@@ -1,19 +1,15 @@
-use mathlib.Core.Path.{_≡_, refl, sym, ap, subst, _∙_}
+use mathlib.Core.Path.{_≡_, subst}
 use mathlib.Core.Logic.{⊎-elim}
 use native.Mathlib.Nat.{eq-or-lt-of-le}
 use borrow.Author.Tests.{not-false}
-use Prim.Native.Nat.{ℕ, _+_, _-_, _*_, _≤_, _<_}
-use borrow.Author.Needs.{needs}
 use Prim.Native.Nat.{ℕ, _≤_, _<_}
-use mathlib.Core.Path.{_≡_, refl, sym, ap, _∙_}
+use borrow.Author.Needs.{needs}
+use mathlib.Core.Path.{_≡_}
 use native.Mathlib.Omega.{arith}
 use Rattle.ere_table.specs.Table.{placeCount}
 use Rattle.ere_derive.specs.Column.{takenBy}
 use Rattle.ere_derive.proofs.classes.used_places.Statement.{statement}
 use Rattle.ere_derive.proofs.classes.used_places.Tie as tie
-use Rattle.ere_derive.proofs.classes.used_places.Reads as reads
-use Rattle.ere_derive.proofs.classes.used_places.Lts as lts
-use Rattle.ere_derive.proofs.classes.takes_none.Reads as takes-none-reads
 
 abbrev Inv-loop : tie.InvT-loop
 Inv-loop t n₀ n = (n ≤ placeCount) × ((p b : ℕ) → n ≤ p → p < placeCount → b < 256 → takenBy t b p ≡ 0)
@@ -21,35 +17,27 @@ Inv-loop t n₀ n = (n ≤ placeCount) × ((p b : ℕ) → n ≤ p → p < place
 abbrev μ-loop : tie.MeasureT-loop
 μ-loop t n₀ n = n
 
--- src/classes.rt:29:5
 loop-holds : tie.Need-loop-holds Inv-loop μ-loop
 loop-holds c = (omega arith, λ p b h l. absurd (omega arith))
 
--- src/classes.rt:30:27
 sub-takes-none : tie.Need-sub-takes-none Inv-loop μ-loop
 sub-takes-none c = search needs
 
--- src/classes.rt:30:13
 takes-none-requires : tie.Need-takes-none-requires Inv-loop μ-loop
 takes-none-requires c κs = search needs
 
--- src/classes.rt:31:13
 returns : tie.Need-returns Inv-loop μ-loop
 returns c = record { few = omega arith; none = c .before .before .before .loop .inv .1 }
 
--- src/classes.rt:33:9
 sub-n : tie.Need-sub-n Inv-loop μ-loop
 sub-n c = search needs
 
--- src/classes.rt:29:5
 loop-less : tie.Need-loop-less Inv-loop μ-loop
 loop-less c = search needs
 
--- src/classes.rt:29:5
 loop-again : tie.Need-loop-again Inv-loop μ-loop
 loop-again c = (omega arith, λ p b h l g. ⊎-elim (λ e. subst (λ (q : ℕ). takenBy (c .before .before .before .before .before .args .t .now) b q ≡ 0) e (c .before .takes-none .ensures (not-false _ (c .if1 .left)) b g)) (λ i. c .before .before .before .loop .inv .1 p b (omega arith) l g) (eq-or-lt-of-le h))
 
--- src/classes.rt:24:1
 returns-2 : tie.Need-returns-2 Inv-loop μ-loop
 returns-2 c = record { few = omega arith; none = c .before .loop .inv .1 }
 

@@ -1,16 +1,11 @@
 use borrow.Author.Needs.{needs}
-use Prim.Native.Nat.{ℕ, _+_, _-_, _*_, _≤_, _<_}
-use mathlib.Core.Path.{_≡_, refl, sym, ap, ap₂, subst, _∙_}
+use Prim.Native.Nat.{ℕ, _-_, _≤_}
+use mathlib.Core.Path.{_≡_, subst}
 use native.Mathlib.Omega.{arith}
-use lib.ListN.{length, length-set, getD}
 use Rattle.ere_derive.specs.Bounds.{Led}
 use Rattle.ere_derive.proofs.Bounded.{led-none, led-more}
 use Rattle.ere_derive.proofs.hull.led.Statement.{statement}
 use Rattle.ere_derive.proofs.hull.led.Tie as tie
-use Rattle.ere_derive.proofs.hull.led.Reads as reads
-use Rattle.ere_derive.proofs.hull.led.Lts as lts
-use Rattle.ere_derive.proofs.hull.with_class.Reads as with-class-reads
-use Rattle.ere_search.proofs.step.Reads as step-reads
 
 abbrev Inv-loop : tie.InvT-loop
 Inv-loop t bytes k s start out₀ c₀ out c = (c ≤ k) × (Led t bytes c s start out)
@@ -18,35 +13,27 @@ Inv-loop t bytes k s start out₀ c₀ out c = (c ≤ k) × (Led t bytes c s sta
 abbrev μ-loop : tie.MeasureT-loop
 μ-loop t bytes k s start out₀ c₀ out c = k - c
 
--- src/hull.rt:39:5
 loop-holds : tie.Need-loop-holds Inv-loop μ-loop
 loop-holds c = (omega arith, led-none _ _ _ _)
 
--- src/hull.rt:40:54
 shared-slice-read-step : tie.Need-shared-slice-read-step Inv-loop μ-loop
 shared-slice-read-step c = search needs
 
--- src/hull.rt:40:31
 step-requires : tie.Need-step-requires Inv-loop μ-loop
 step-requires c κs = search needs
 
--- src/hull.rt:40:9
 with-class-requires : tie.Need-with-class-requires Inv-loop μ-loop
 with-class-requires c κs = search needs
 
--- src/hull.rt:41:9
 add-c : tie.Need-add-c Inv-loop μ-loop
 add-c c = search needs
 
--- src/hull.rt:39:5
 loop-less : tie.Need-loop-less Inv-loop μ-loop
 loop-less c = search needs
 
--- src/hull.rt:39:5
 loop-again : tie.Need-loop-again Inv-loop μ-loop
 loop-again c = (omega arith, led-more _ _ _ _ _ _ _ _ (omega arith) (c .before .step .ensures) (c .with-class .ensures .0) (c .with-class .ensures .1) (c .before .before .before .before .loop .inv .1))
 
--- src/hull.rt:33:1
 returns : tie.Need-returns Inv-loop μ-loop
 returns c = let e : c .before .loop .c ≡ c .before .before .before .before .args .k = omega arith in subst (λ (m : ℕ). Led (c .before .before .before .before .args .t .now) (c .before .before .before .before .args .bytes .now) m (c .before .before .before .before .args .s) (c .before .before .before .before .args .start) (c .before .loop .out)) e (c .before .loop .inv .1)
 

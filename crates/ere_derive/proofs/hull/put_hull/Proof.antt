@@ -1,7 +1,7 @@
-use Prim.Native.Nat.{ℕ, _+_, _-_, _*_, _≤_, _<_}
-use mathlib.Core.Path.{_≡_, refl, sym, ap, ap₂, subst, _∙_}
+use Prim.Native.Nat.{ℕ, _+_}
+use mathlib.Core.Path.{sym, ap, _∙_}
 use native.Mathlib.Omega.{arith}
-use lib.ListN.{length, length-set, getD}
+use lib.ListN.{length-set, getD}
 use mathlib.Core.List.{List}
 use native.Mathlib.Nat.{mul-le-mul}
 use Rattle.ere_search.specs.Walk.{step}
@@ -9,30 +9,19 @@ use Rattle.ere_derive.proofs.Bounded.{hull-put}
 use borrow.Author.Needs.{needs}
 use Rattle.ere_derive.proofs.hull.put_hull.Statement.{statement}
 use Rattle.ere_derive.proofs.hull.put_hull.Tie as tie
-use Rattle.ere_derive.proofs.hull.put_hull.Reads as reads
-use Rattle.ere_derive.proofs.hull.put_hull.Lts as lts
-use Rattle.ere_derive.proofs.hull.led.Reads as led-reads
-use Rattle.ere_derive.proofs.hull.put_range.Reads as put-range-reads
-use Rattle.ere_derive.proofs.hull.seconds.Reads as seconds-reads
-use Rattle.ere_derive.proofs.sets.set_at.Reads as set-at-reads
 
--- src/hull.rt:134:35
 set-at-requires : tie.Need-set-at-requires
 set-at-requires c κs = search needs
 
--- src/hull.rt:134:9
 led-requires : tie.Need-led-requires
 led-requires c κs = search needs
 
--- src/hull.rt:135:9
 put-range-requires : tie.Need-put-range-requires
 put-range-requires c κs = let C = c .before .before .before .before .before .before .pre .3 in (omega arith, c .before .before .before .before .before .before .pre .2, λ b h. omega (arith, C .is b h, C .few))
 
--- src/hull.rt:136:44
 seconds-requires : tie.Need-seconds-requires
 seconds-requires c κs = search needs
 
--- src/hull.rt:136:9
 put-range-requires-2 : tie.Need-put-range-requires-2
 put-range-requires-2 c κs =
     let C = c .before .before .before .before .before .before .before .before .before .before .before .pre .3 in
@@ -40,19 +29,15 @@ put-range-requires-2 c κs =
     let p = c .before .before .before .before .before .before .before .before .before .before .before .pre in
     (omega arith, omega (arith, R .frame .size), λ b h. omega (arith, C .is b h, C .few, R .frame .above (16 + b) (omega arith)))
 
--- src/hull.rt:137:27
 mul-if1 : tie.Need-mul-if1
 mul-if1 c = let z = mul-le-mul (c .before .before .before .before .before .before .before .put-range .ensures .few) (c .before .before .put-range2 .ensures .few) in omega arith
 
--- src/hull.rt:137:5
 slice-write-d : tie.Need-slice-write-d
 slice-write-d c = search needs
 
--- src/hull.rt:129:1
 same-length : tie.Need-same-length
 same-length c = length-set (c .before .before .before .put-range2 .last .0) 5 (c .if1 .d) ∙ c .before .before .before .put-range2 .ensures .frame .size ∙ c .before .before .before .before .before .before .before .before .put-range .ensures .frame .size
 
--- src/hull.rt:129:1
 returns : tie.Need-returns
 returns c =
     let a = c .before .before .before .before .before .before .before .before .before .before .before .before .before .before .before .args in

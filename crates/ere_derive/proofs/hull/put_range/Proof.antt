@@ -1,101 +1,75 @@
-use Prim.Native.Nat.{ℕ, _+_, _-_, _*_, _≤_, _<_}
-use mathlib.Core.Path.{_≡_, refl, sym, ap, ap₂, subst, _∙_}
+use Prim.Native.Nat.{_-_}
 use native.Mathlib.Omega.{arith}
-use lib.ListN.{length, length-set, getD}
+use lib.ListN.{length-set}
 use mathlib.Core.Logic.{⊎-elim}
 use Rattle.ere_derive.proofs.Columns.{ordered}
 use Rattle.ere_derive.proofs.Bounded.{range-is, within-out}
 use borrow.Author.Needs.{needs}
 use Rattle.ere_derive.proofs.hull.put_range.Statement.{statement}
 use Rattle.ere_derive.proofs.hull.put_range.Tie as tie
-use Rattle.ere_derive.proofs.hull.put_range.Reads as reads
-use Rattle.ere_derive.proofs.hull.put_range.Lts as lts
-use Rattle.ere_derive.proofs.hull.highest.Reads as highest-reads
-use Rattle.ere_derive.proofs.hull.lowest.Reads as lowest-reads
 
--- src/hull.rt:116:9
 lowest-requires : tie.Need-lowest-requires
 lowest-requires c κs = search needs
 
--- src/hull.rt:117:9
 highest-requires : tie.Need-highest-requires
 highest-requires c κs = search needs
 
--- src/hull.rt:119:9
 mul-d : tie.Need-mul-d
 mul-d c = search needs
 
--- src/hull.rt:119:9
 slice-write-d : tie.Need-slice-write-d
 slice-write-d c = search needs
 
--- src/hull.rt:120:11
 add-d : tie.Need-add-d
 add-d c = search needs
 
--- src/hull.rt:120:9
 mul-d-2 : tie.Need-mul-d-2
 mul-d-2 c = search needs
 
--- src/hull.rt:120:9
 slice-write-d-2 : tie.Need-slice-write-d-2
 slice-write-d-2 c = simp length-set (omega arith)
 
--- src/hull.rt:121:9
 same-length : tie.Need-same-length
 same-length c = search needs
 
--- src/hull.rt:121:9
 returns : tie.Need-returns
 returns c =
     range-is (c .before .before .before .before .before .before .args .d .now) (c .before .before .before .before .before .before .args .at) (c .before .before .before .before .before .before .args .set) 1 255 0 (omega arith) (omega arith) (omega arith)
     (λ b h f. ⊎-elim (c .before .before .before .lowest .ensures .1 b) (λ g. c .before .highest .ensures .1 b (omega arith) h) (ordered b (c .before .before .before .lowest .result)))
 
--- src/hull.rt:123:13
 cast-d : tie.Need-cast-d
 cast-d c = search needs
 
--- src/hull.rt:123:5
 mul-d-3 : tie.Need-mul-d-3
 mul-d-3 c = search needs
 
--- src/hull.rt:123:5
 slice-write-d-3 : tie.Need-slice-write-d-3
 slice-write-d-3 c = search needs
 
--- src/hull.rt:124:18
 sub-d : tie.Need-sub-d
 sub-d c = search needs
 
--- src/hull.rt:124:18
 sub-d-2 : tie.Need-sub-d-2
 sub-d-2 c = search needs
 
--- src/hull.rt:124:17
 cast-d-2 : tie.Need-cast-d-2
 cast-d-2 c = search needs
 
--- src/hull.rt:124:7
 add-d-2 : tie.Need-add-d-2
 add-d-2 c = search needs
 
--- src/hull.rt:124:5
 mul-d-4 : tie.Need-mul-d-4
 mul-d-4 c = search needs
 
--- src/hull.rt:124:5
 slice-write-d-4 : tie.Need-slice-write-d-4
 slice-write-d-4 c = simp length-set (omega arith)
 
--- src/hull.rt:125:5
 sub-result : tie.Need-sub-result
 sub-result c = search needs
 
--- src/hull.rt:112:1
 same-length-2 : tie.Need-same-length-2
 same-length-2 c = search needs
 
--- src/hull.rt:112:1
 returns-2 : tie.Need-returns-2
 returns-2 c =
     let l = c .before .before .before .lowest .result in

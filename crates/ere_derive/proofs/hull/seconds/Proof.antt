@@ -1,8 +1,7 @@
 use borrow.Author.Needs.{needs}
-use Prim.Native.Nat.{ℕ, _+_, _-_, _*_, _≤_, _<_}
-use mathlib.Core.Path.{_≡_, refl, sym, ap, ap₂, subst, _∙_}
+use Prim.Native.Nat.{ℕ, _-_, _≤_, _<_}
 use native.Mathlib.Omega.{arith}
-use lib.ListN.{length, length-set, getD}
+use lib.ListN.{getD}
 use Rattle.ere_table.specs.Table.{row}
 use Rattle.ere_search.specs.Walk.{step}
 use Rattle.ere_derive.specs.Bounds.{Follows}
@@ -10,9 +9,6 @@ use Rattle.ere_derive.proofs.Columns.{upTo}
 use Rattle.ere_derive.proofs.Bounded.{follows-on}
 use Rattle.ere_derive.proofs.hull.seconds.Statement.{statement}
 use Rattle.ere_derive.proofs.hull.seconds.Tie as tie
-use Rattle.ere_derive.proofs.hull.seconds.Reads as reads
-use Rattle.ere_derive.proofs.hull.seconds.Lts as lts
-use Rattle.ere_derive.proofs.hull.seconds_of.Reads as seconds-of-reads
 
 abbrev Inv-loop : tie.InvT-loop
 Inv-loop t bytes k out₀ c₀ out c = (c ≤ k) × ((x : ℕ) → x < c → Follows t bytes k (step t (row t 1) (getD bytes x 0)) out)
@@ -20,31 +16,24 @@ Inv-loop t bytes k out₀ c₀ out c = (c ≤ k) × ((x : ℕ) → x < c → Fol
 abbrev μ-loop : tie.MeasureT-loop
 μ-loop t bytes k out₀ c₀ out c = k - c
 
--- src/hull.rt:66:5
 loop-holds : tie.Need-loop-holds Inv-loop μ-loop
 loop-holds c = (omega arith, λ x h. absurd (omega arith))
 
--- src/hull.rt:67:39
 shared-slice-read-seconds-of : tie.Need-shared-slice-read-seconds-of Inv-loop μ-loop
 shared-slice-read-seconds-of c = search needs
 
--- src/hull.rt:67:9
 seconds-of-requires : tie.Need-seconds-of-requires Inv-loop μ-loop
 seconds-of-requires c κs = search needs
 
--- src/hull.rt:68:9
 add-c : tie.Need-add-c Inv-loop μ-loop
 add-c c = search needs
 
--- src/hull.rt:66:5
 loop-less : tie.Need-loop-less Inv-loop μ-loop
 loop-less c = search needs
 
--- src/hull.rt:66:5
 loop-again : tie.Need-loop-again Inv-loop μ-loop
 loop-again c = (omega arith, upTo (c .before .before .before .loop .c) (λ x h. follows-on (c .seconds-of .result) (c .before .before .before .before .before .before .pre .1) (c .seconds-of .ensures .keeps) (c .before .before .before .loop .inv .1 x h)) (c .seconds-of .ensures .follows))
 
--- src/hull.rt:59:1
 returns : tie.Need-returns Inv-loop μ-loop
 returns c = λ x h. c .before .loop .inv .1 x (omega arith)
 

@@ -1,7 +1,5 @@
-use Prim.Native.Nat.{ℕ, _+_, _-_, _*_, _≤_, _<_}
-use mathlib.Core.Path.{_≡_, refl, sym, ap, ap₂, subst, _∙_}
-use native.Mathlib.Omega.{arith}
-use lib.ListN.{length, length-set, getD}
+use Prim.Native.Nat.{ℕ}
+use mathlib.Core.Path.{sym, ap, subst, _∙_}
 use mathlib.Core.List.{List}
 use Rattle.ere_search.specs.Walk.{step}
 use Rattle.ere_derive.specs.Bounds.{SecondsOf}
@@ -9,34 +7,22 @@ use Rattle.ere_derive.proofs.Bounded.{all-follow}
 use borrow.Author.Needs.{needs}
 use Rattle.ere_derive.proofs.hull.seconds_of.Statement.{statement}
 use Rattle.ere_derive.proofs.hull.seconds_of.Tie as tie
-use Rattle.ere_derive.proofs.hull.seconds_of.Reads as reads
-use Rattle.ere_derive.proofs.hull.seconds_of.Lts as lts
-use Rattle.ere_derive.proofs.hull.led.Reads as led-reads
-use Rattle.ere_derive.proofs.sets.set_at.Reads as set-at-reads
-use Rattle.ere_search.proofs.step.Reads as step-reads
-use Rattle.ere_table.proofs.has.Reads as has-reads
 
--- src/hull.rt:52:33
 set-at-requires : tie.Need-set-at-requires
 set-at-requires c κs = search needs
 
--- src/hull.rt:52:9
 step-requires : tie.Need-step-requires
 step-requires c κs = search needs
 
--- src/hull.rt:53:8
 has-requires : tie.Need-has-requires
 has-requires c κs = search needs
 
--- src/hull.rt:54:9
 returns : tie.Need-returns
 returns c = all-follow _ _ _ _ _ (c .before .before .before .before .before .before .pre .1)
 
--- src/hull.rt:56:5
 led-requires : tie.Need-led-requires
 led-requires c κs = search needs
 
--- src/hull.rt:47:1
 returns-2 : tie.Need-returns-2
 returns-2 c =
     subst (λ (s : List ℕ). SecondsOf (c .before .before .before .before .before .before .before .args .t .now) (c .before .before .before .before .before .before .before .args .bytes .now) (c .before .before .before .before .before .before .before .args .k) s (c .before .before .before .before .before .before .before .args .out) (c .led .result))

@@ -1,35 +1,23 @@
-use Prim.Native.Nat.{ℕ, _+_, _-_, _*_, _≤_, _<_}
-use mathlib.Core.Path.{_≡_, refl, sym, ap, ap₂, subst, _∙_}
-use native.Mathlib.Omega.{arith}
-use lib.ListN.{length, length-set, getD}
 use Rattle.ere_derive.proofs.Bounded.{none-in, keeps-or, on-or}
 use borrow.Author.Needs.{needs}
 use Rattle.ere_derive.proofs.hull.with_class.Statement.{statement}
 use Rattle.ere_derive.proofs.hull.with_class.Tie as tie
-use Rattle.ere_derive.proofs.hull.with_class.Reads as reads
-use Rattle.ere_derive.proofs.hull.with_class.Lts as lts
 
--- src/hull.rt:26:9
 array-read-if1 : tie.Need-array-read-if1
 array-read-if1 c = search needs
 
--- src/hull.rt:26:24
 array-read-if1-2 : tie.Need-array-read-if1-2
 array-read-if1-2 c = search needs
 
--- src/hull.rt:26:38
 array-read-if1-3 : tie.Need-array-read-if1-3
 array-read-if1-3 c = search needs
 
--- src/hull.rt:27:9
 returns : tie.Need-returns
 returns c = (λ e h f. f, λ f. none-in (c .before .args .t2) (c .before .good .1 .0 .1 .0 .1) (c .if1 .taken))
 
--- src/hull.rt:29:12
 shl-result : tie.Need-shl-result
 shl-result c = search needs
 
--- src/hull.rt:22:1
 returns-2 : tie.Need-returns-2
 returns-2 c = (keeps-or (c .before .args .out) _, λ f. absurd (on-or (c .before .args .out) (c .before .args .c) (c .before .pre) f))
 

@@ -1,7 +1,4 @@
-use Prim.Native.Nat.{ℕ, _+_, _-_, _*_, _≤_, _<_}
-use mathlib.Core.Path.{_≡_, refl, sym, ap, ap₂, subst, _∙_}
-use native.Mathlib.Omega.{arith}
-use lib.ListN.{length, length-set, getD}
+use mathlib.Core.Path.{sym, subst, _∙_}
 use mathlib.Core.Bool.{Bool, cond}
 use borrow.Author.Tests.{eq-eqb, ne-eqb}
 use Rattle.ere_derive.specs.Layout.{PutPairs}
@@ -10,23 +7,16 @@ use Rattle.ere_derive.proofs.Driving.{stride-paired}
 use borrow.Author.Needs.{needs}
 use Rattle.ere_derive.proofs.pairs.compose.Statement.{statement}
 use Rattle.ere_derive.proofs.pairs.compose.Tie as tie
-use Rattle.ere_derive.proofs.pairs.compose.Reads as reads
-use Rattle.ere_derive.proofs.pairs.compose.Lts as lts
-use Rattle.ere_derive.proofs.pairs.put_pairs.Reads as put-pairs-reads
 
--- src/pairs.rt:60:9
 put-pairs-requires : tie.Need-put-pairs-requires
 put-pairs-requires c κs = let p = c .before .before .before .pre in (p .0 ∙ sym (stride-paired (c .before .before .before .args .k) (c .before .before .before .args .paired) (c .before .if1 .taken)), p .1, p .2, p .3)
 
--- src/pairs.rt:54:1
 same-length : tie.Need-same-length
 same-length c = search needs
 
--- src/pairs.rt:54:1
 returns : tie.Need-returns
 returns c = subst (λ (x : Bool). PutPairs (c .before .before .before .before .before .before .args .k) (c .before .before .before .before .before .before .args .n) (c .before .before .before .before .before .before .args .stride) (cond x 0 (c .before .before .before .before .before .before .args .n)) (c .before .before .before .before .before .before .args .d .now) (c .before .before .put-pairs .last .0)) (sym (ne-eqb (c .before .before .before .before .before .before .args .paired) 0 (c .before .before .before .before .if1 .taken))) (c .before .before .put-pairs .ensures)
 
--- src/pairs.rt:54:1
 returns-2 : tie.Need-returns-2
 returns-2 c = subst (λ (x : Bool). PutPairs (c .before .before .args .k) (c .before .before .args .n) (c .before .before .args .stride) (cond x 0 (c .before .before .args .n)) (c .before .before .args .d .now) (c .before .before .args .d .now)) (sym (eq-eqb (c .before .before .args .paired) 0 (c .if1 .left))) (put-pairs-none _ _ _ _)
 

@@ -1,15 +1,12 @@
 use borrow.Author.Needs.{needs}
-use Prim.Native.Nat.{ℕ, _+_, _-_, _*_, _≤_, _<_}
-use mathlib.Core.Path.{_≡_, refl, sym, ap, ap₂, subst, _∙_}
+use Prim.Native.Nat.{ℕ, _+_, _-_, _*_, _≤_}
+use mathlib.Core.Path.{sym, subst}
 use native.Mathlib.Omega.{arith}
-use lib.ListN.{length, length-set, getD}
+use lib.ListN.{getD}
 use Rattle.ere_derive.specs.Layout.{Frame, Apart, Paired}
 use Rattle.ere_derive.proofs.Composed.{frame-none, square-below, apart-in, pairs-frame, pairs-more}
 use Rattle.ere_derive.proofs.pairs.put_pairs_in.Statement.{statement}
 use Rattle.ere_derive.proofs.pairs.put_pairs_in.Tie as tie
-use Rattle.ere_derive.proofs.pairs.put_pairs_in.Reads as reads
-use Rattle.ere_derive.proofs.pairs.put_pairs_in.Lts as lts
-use Rattle.ere_derive.proofs.pairs.copy_words.Reads as copy-words-reads
 
 abbrev Inv-loop : tie.InvT-loop
 Inv-loop d₀ k p c₀ d c = (c ≤ k) × (Frame (p + (k + 1)) (p + (k + 1 + k * k)) d₀ d) × (Paired k d₀ d p c)
@@ -17,43 +14,33 @@ Inv-loop d₀ k p c₀ d c = (c ≤ k) × (Frame (p + (k + 1)) (p + (k + 1 + k *
 abbrev μ-loop : tie.MeasureT-loop
 μ-loop d₀ k p c₀ d c = k - c
 
--- src/pairs.rt:31:5
 loop-holds : tie.Need-loop-holds Inv-loop μ-loop
 loop-holds c = (omega arith, frame-none _ _ _, λ x e h. absurd (omega arith))
 
--- src/pairs.rt:32:22
 add-next : tie.Need-add-next Inv-loop μ-loop
 add-next c = search needs
 
--- src/pairs.rt:32:20
 mul-next : tie.Need-mul-next Inv-loop μ-loop
 mul-next c = search needs
 
--- src/pairs.rt:32:20
 slice-read-next : tie.Need-slice-read-next Inv-loop μ-loop
 slice-read-next c = let z = c .before .before .loop .inv .1 .size in omega arith
 
--- src/pairs.rt:32:20
 cast-next : tie.Need-cast-next Inv-loop μ-loop
 cast-next c = omega (arith, c .slice-known2 .given (c .before .before .before .before .args .p + c .before .before .loop .c))
 
--- src/pairs.rt:33:34
 add-copy-words : tie.Need-add-copy-words Inv-loop μ-loop
 add-copy-words c = search needs
 
--- src/pairs.rt:33:42
 mul-copy-words : tie.Need-mul-copy-words Inv-loop μ-loop
 mul-copy-words c = let z = square-below (c .before .before .before .before .before .args .k) (c .before .before .before .loop .c) (c .before .before .before .before .before .args .k) (c .before .before .loop-test .taken) in omega arith
 
--- src/pairs.rt:33:34
 add-copy-words-2 : tie.Need-add-copy-words-2 Inv-loop μ-loop
 add-copy-words-2 c = let z = square-below (c .before .before .before .before .before .args .k) (c .before .before .before .loop .c) (c .before .before .before .before .before .args .k) (c .before .before .loop-test .taken) in omega arith
 
--- src/pairs.rt:33:29
 add-copy-words-3 : tie.Need-add-copy-words-3 Inv-loop μ-loop
 add-copy-words-3 c = let z = square-below (c .before .before .before .before .before .args .k) (c .before .before .before .loop .c) (c .before .before .before .before .before .args .k) (c .before .before .loop-test .taken) in omega arith
 
--- src/pairs.rt:33:9
 copy-words-requires : tie.Need-copy-words-requires Inv-loop μ-loop
 copy-words-requires c κs =
     let a = c .before .before .before .before .before .args in
@@ -61,33 +48,33 @@ copy-words-requires c κs =
     let r = c .before .before .before .before .before .pre .2 (l .c) (c .before .before .loop-test .taken) in
     let e = l .inv .1 .below (a .p + l .c) (omega arith) in
     let z = l .inv .1 .size in
-    let y = square-below (a .k) (l .c) (a .k) (c .before .before .loop-test .taken) in
-    (omega (arith, r .0), omega arith, subst (λ (q : ℕ). Apart q (a .k) (a .p + (a .k + 1 + l .c * a .k)) (a .p + (a .k + 1 + l .c * a .k) + a .k)) (sym e)
-      (apart-in (getD (a .d .now) (a .p + l .c) 0) (a .k) (a .p + (a .k + 1)) (a .p + (a .k + 1 + a .k * a .k)) _ _ (omega arith) (omega arith) (r .1)))
+    let y = square-below (a .k) (l .c) (a .k) (c .before .before .loop-test .taken) in (
+      omega (arith, r .0),
+      omega arith,
+      subst (λ (q : ℕ). Apart q (a .k) (a .p + (a .k + 1 + l .c * a .k)) (a .p + (a .k + 1 + l .c * a .k) + a .k)) (sym e)
+          (apart-in (getD (a .d .now) (a .p + l .c) 0) (a .k) (a .p + (a .k + 1)) (a .p + (a .k + 1 + a .k * a .k)) _ _ (omega arith) (omega arith) (r .1)),
+    )
 
--- src/pairs.rt:34:9
 add-c : tie.Need-add-c Inv-loop μ-loop
 add-c c = search needs
 
--- src/pairs.rt:31:5
 loop-less : tie.Need-loop-less Inv-loop μ-loop
 loop-less c = search needs
 
--- src/pairs.rt:31:5
 loop-again : tie.Need-loop-again Inv-loop μ-loop
 loop-again c =
     let a = c .before .before .before .before .before .before .before .before .args in
     let l = c .before .before .before .before .before .before .loop in
     let r = c .before .before .before .before .before .before .before .before .pre .2 (l .c) (c .before .before .before .before .before .loop-test .taken) in
-    let w = c .before .before .copy-words .ensures in
-    (omega arith, pairs-frame (a .d .now) (l .d) _ (a .k) (a .p) (l .c) (c .before .before .before .before .before .loop-test .taken) (r .1) (l .inv .1) (w .0),
-      pairs-more (a .d .now) (l .d) _ (a .k) (a .p) (l .c) (c .before .before .before .before .before .loop-test .taken) (r .1) (l .inv .1) (l .inv .2) (w .0) (w .1))
+    let w = c .before .before .copy-words .ensures in (
+      omega arith,
+      pairs-frame (a .d .now) (l .d) _ (a .k) (a .p) (l .c) (c .before .before .before .before .before .loop-test .taken) (r .1) (l .inv .1) (w .0),
+      pairs-more (a .d .now) (l .d) _ (a .k) (a .p) (l .c) (c .before .before .before .before .before .loop-test .taken) (r .1) (l .inv .1) (l .inv .2) (w .0) (w .1),
+    )
 
--- src/pairs.rt:23:1
 same-length : tie.Need-same-length Inv-loop μ-loop
 same-length c = c .before .loop .inv .1 .size
 
--- src/pairs.rt:23:1
 returns : tie.Need-returns Inv-loop μ-loop
 returns c = (c .before .loop .inv .1, λ x e h m. c .before .loop .inv .2 x e (omega arith) m)
 

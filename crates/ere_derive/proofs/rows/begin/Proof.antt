@@ -1,7 +1,6 @@
-use Prim.Native.Nat.{ℕ, _+_, _-_, _*_, _≤_, _<_}
-use mathlib.Core.Path.{_≡_, refl, sym, ap, ap₂, subst, _∙_}
+use Prim.Native.Nat.{ℕ}
+use mathlib.Core.Path.{ap, subst, _∙_}
 use native.Mathlib.Omega.{arith}
-use lib.ListN.{length, length-set, getD}
 use mathlib.Core.List.{List}
 use Rattle.ere_automaton.specs.Sets.{collapsed}
 use Rattle.ere_derive.specs.Growth.{Has}
@@ -9,81 +8,58 @@ use Rattle.ere_derive.proofs.Grown.{has-on}
 use borrow.Author.Needs.{needs}
 use Rattle.ere_derive.proofs.rows.begin.Statement.{statement}
 use Rattle.ere_derive.proofs.rows.begin.Tie as tie
-use Rattle.ere_derive.proofs.rows.begin.Reads as reads
-use Rattle.ere_derive.proofs.rows.begin.Lts as lts
-use Rattle.ere_derive.proofs.sets.collapsed.Reads as collapsed-reads
-use Rattle.ere_derive.proofs.sets.enter.Reads as enter-reads
-use Rattle.ere_derive.proofs.sets.set_at.Reads as set-at-reads
 
--- src/rows.rt:96:9
 enter-requires : tie.Need-enter-requires
 enter-requires c κs = search needs
 
--- src/rows.rt:98:31
 add-t11 : tie.Need-add-t11
 add-t11 c = search needs
 
--- src/rows.rt:98:9
 same-length : tie.Need-same-length
 same-length c = c .before .before .before .before .enter .ensures .size
 
--- src/rows.rt:98:9
 returns : tie.Need-returns
 returns c = record { size = c .before .before .before .before .enter .ensures .size; fair = λ h. absurd (omega arith); is-accepted = λ h. absurd (omega arith); is-later = λ h. absurd (omega arith); is-first = λ h. absurd (omega arith) }
 
--- src/rows.rt:100:62
 set-at-requires : tie.Need-set-at-requires
 set-at-requires c κs = search needs
 
--- src/rows.rt:100:46
 collapsed-requires : tie.Need-collapsed-requires
 collapsed-requires c κs = search needs
 
--- src/rows.rt:100:9
 enter-requires-2 : tie.Need-enter-requires-2
 enter-requires-2 c κs = let z = c .before .before .before .before .before .before .before .enter .ensures .size in let p = c .before .before .before .before .before .before .before .before .before .before .before .pre in omega (arith, c .before .before .before .if1 .left)
 
--- src/rows.rt:102:31
 add-t15 : tie.Need-add-t15
 add-t15 c = search needs
 
--- src/rows.rt:102:9
 same-length-2 : tie.Need-same-length-2
 same-length-2 c = c .before .before .before .before .enter2 .ensures .size ∙ c .before .before .before .before .before .before .before .before .before .before .before .before .enter .ensures .size
 
--- src/rows.rt:102:9
 returns-2 : tie.Need-returns-2
 returns-2 c = record { size = c .before .before .before .before .enter2 .ensures .size ∙ c .before .before .before .before .before .before .before .before .before .before .before .before .enter .ensures .size; fair = λ h. absurd (omega arith); is-accepted = λ h. absurd (omega arith); is-later = λ h. absurd (omega arith); is-first = λ h. absurd (omega arith) }
 
--- src/rows.rt:104:62
 set-at-requires-2 : tie.Need-set-at-requires-2
 set-at-requires-2 c κs = search needs
 
--- src/rows.rt:104:46
 collapsed-requires-2 : tie.Need-collapsed-requires-2
 collapsed-requires-2 c κs = search needs
 
--- src/rows.rt:104:9
 enter-requires-3 : tie.Need-enter-requires-3
 enter-requires-3 c κs = let z = c .before .before .before .before .before .before .before .before .before .before .before .before .before .before .before .enter .ensures .size in let y = c .before .before .before .before .before .before .before .enter2 .ensures .size in let p = c .before .before .before .before .before .before .before .before .before .before .before .before .before .before .before .before .before .before .before .pre in omega (arith, c .before .before .before .if2 .left)
 
--- src/rows.rt:106:31
 add-t18 : tie.Need-add-t18
 add-t18 c = search needs
 
--- src/rows.rt:106:9
 same-length-3 : tie.Need-same-length-3
 same-length-3 c = c .before .before .before .before .enter3 .ensures .size ∙ c .before .before .before .before .before .before .before .before .before .before .before .before .enter2 .ensures .size ∙ c .before .before .before .before .before .before .before .before .before .before .before .before .before .before .before .before .before .before .before .before .enter .ensures .size
 
--- src/rows.rt:106:9
 returns-3 : tie.Need-returns-3
 returns-3 c = record { size = c .before .before .before .before .enter3 .ensures .size ∙ c .before .before .before .before .before .before .before .before .before .before .before .before .enter2 .ensures .size ∙ c .before .before .before .before .before .before .before .before .before .before .before .before .before .before .before .before .before .before .before .before .enter .ensures .size; fair = λ h. absurd (omega arith); is-accepted = λ h. absurd (omega arith); is-later = λ h. absurd (omega arith); is-first = λ h. absurd (omega arith) }
 
--- src/rows.rt:91:1
 same-length-4 : tie.Need-same-length-4
 same-length-4 c = c .before .before .before .before .enter3 .ensures .size ∙ c .before .before .before .before .before .before .before .before .before .before .before .before .enter2 .ensures .size ∙ c .before .before .before .before .before .before .before .before .before .before .before .before .before .before .before .before .before .before .before .before .enter .ensures .size
 
--- src/rows.rt:91:1
 returns-4 : tie.Need-returns-4
 returns-4 c =
     let g = c .before .before .before .before .before .before .before .before .before .before .before .before .before .before .before .before .before .before .before .before .enter .ensures .grows (c .before .before .before .before .before .before .before .before .before .before .before .before .before .before .before .before .if1 .left) in

@@ -1,7 +1,6 @@
-use Prim.Native.Nat.{ℕ, _+_, _-_, _*_, _≤_, _<_}
-use mathlib.Core.Path.{_≡_, refl, sym, ap, ap₂, subst, _∙_}
+use Prim.Native.Nat.{ℕ}
+use mathlib.Core.Path.{subst}
 use native.Mathlib.Omega.{arith}
-use lib.ListN.{length, length-set, getD}
 use mathlib.Core.List.{List}
 use lib.Seq.{getD-set-same}
 use Rattle.ere_derive.specs.Growth.{Has}
@@ -9,60 +8,43 @@ use Rattle.ere_derive.proofs.Composed.{rows-below, frame-none, frame-se
 use borrow.Author.Needs.{needs}
 use Rattle.ere_derive.proofs.rows.put_entry.Statement.{statement}
 use Rattle.ere_derive.proofs.rows.put_entry.Tie as tie
-use Rattle.ere_derive.proofs.rows.put_entry.Reads as reads
-use Rattle.ere_derive.proofs.rows.put_entry.Lts as lts
-use Rattle.ere_derive.proofs.sets.after.Reads as after-reads
-use Rattle.ere_derive.proofs.sets.enter.Reads as enter-reads
 
--- src/rows.rt:22:44
 after-requires : tie.Need-after-requires
 after-requires c κs = search needs
 
--- src/rows.rt:22:9
 enter-requires : tie.Need-enter-requires
 enter-requires c κs = search needs
 
--- src/rows.rt:24:16
 add-result : tie.Need-add-result
 add-result c = search needs
 
--- src/rows.rt:24:9
 same-length : tie.Need-same-length
 same-length c = search needs
 
--- src/rows.rt:24:9
 returns : tie.Need-returns
 returns c = record { size = c .before .before .before .before .enter .ensures .size; frame = frame-none _ _ _; grows = λ h. absurd (omega arith); leads = λ h. absurd (omega arith) }
 
--- src/rows.rt:26:20
 mul-d : tie.Need-mul-d
 mul-d c = let h = c .before .before .before .before .before .enter .ensures .has (c .before .if1 .left) in let z = rows-below (c .before .before .before .before .before .before .before .before .before .before .before .args .stride) (c .before .before .before .before .before .enter .result .number) (c .before .before .before .before .before .before .before .before .before .before .before .args .most) (omega (arith, h .low, c .before .if1 .left)) in omega arith
 
--- src/rows.rt:26:13
 add-d : tie.Need-add-d
 add-d c = let h = c .before .before .before .before .before .enter .ensures .has (c .before .if1 .left) in let z = rows-below (c .before .before .before .before .before .before .before .before .before .before .before .args .stride) (c .before .before .before .before .before .enter .result .number) (c .before .before .before .before .before .before .before .before .before .before .before .args .most) (omega (arith, h .low, c .before .if1 .left)) in omega arith
 
--- src/rows.rt:26:12
 cast-d : tie.Need-cast-d
 cast-d c = let h = c .before .before .before .before .before .enter .ensures .has (c .before .if1 .left) in let z = rows-below (c .before .before .before .before .before .before .before .before .before .before .before .args .stride) (c .before .before .before .before .before .enter .result .number) (c .before .before .before .before .before .before .before .before .before .before .before .args .most) (omega (arith, h .low, c .before .if1 .left)) in omega arith
 
--- src/rows.rt:26:5
 mul-d-2 : tie.Need-mul-d-2
 mul-d-2 c = search needs
 
--- src/rows.rt:26:5
 slice-write-d : tie.Need-slice-write-d
 slice-write-d c = search needs
 
--- src/rows.rt:16:1
 same-length-2 : tie.Need-same-length-2
 same-length-2 c = search needs
 
--- src/rows.rt:16:1
 same-length-3 : tie.Need-same-length-3
 same-length-3 c = search needs
 
--- src/rows.rt:16:1
 returns-2 : tie.Need-returns-2
 returns-2 c =
     let h = c .before .before .before .before .before .enter .ensures .has (c .before .if1 .left) in

@@ -1,6 +1,6 @@
 use borrow.Author.Needs.{needs}
-use Prim.Native.Nat.{ℕ, _+_, _-_, _*_, _≤_, _<_}
-use mathlib.Core.Path.{_≡_, refl, sym, ap, ap₂, subst, _∙_}
+use Prim.Native.Nat.{ℕ, _+_, _-_, _≤_, _<_}
+use mathlib.Core.Path.{_≡_, refl, sym, subst, _∙_}
 use native.Mathlib.Omega.{arith}
 use lib.ListN.{length, length-set, getD}
 use Rattle.ere_derive.specs.Growth.{Grows, Leads}
@@ -10,10 +10,6 @@ use Rattle.ere_derive.proofs.Grown.{grows-none, grows-on, leads-on}
 use Rattle.ere_derive.proofs.Composed.{frame-none, frame-on, frame-wider, frame-set, row-ended}
 use Rattle.ere_derive.proofs.rows.put_row.Statement.{statement}
 use Rattle.ere_derive.proofs.rows.put_row.Tie as tie
-use Rattle.ere_derive.proofs.rows.put_row.Reads as reads
-use Rattle.ere_derive.proofs.rows.put_row.Lts as lts
-use Rattle.ere_derive.proofs.rows.end_mark.Reads as end-mark-reads
-use Rattle.ere_derive.proofs.rows.put_entry.Reads as put-entry-reads
 
 abbrev Inv-loop : tie.InvT-loop
 Inv-loop t bytes k sets₀ count most s stride p d₀ n₀ e₀ sets d n e =
@@ -23,35 +19,27 @@ Inv-loop t bytes k sets₀ count most s stride p d₀ n₀ e₀ sets d n e =
 abbrev μ-loop : tie.MeasureT-loop
 μ-loop t bytes k sets₀ count most s stride p d₀ n₀ e₀ sets d n e = k - e
 
--- src/rows.rt:50:5
 loop-holds : tie.Need-loop-holds Inv-loop μ-loop
 loop-holds c = (omega arith, omega arith, refl, grows-none _ _, frame-none _ _ _, λ x h. absurd (omega arith))
 
--- src/rows.rt:51:26
 shared-slice-read-put-entry : tie.Need-shared-slice-read-put-entry Inv-loop μ-loop
 shared-slice-read-put-entry c = search needs
 
--- src/rows.rt:51:62
 add-put-entry : tie.Need-add-put-entry Inv-loop μ-loop
 add-put-entry c = search needs
 
--- src/rows.rt:51:9
 put-entry-requires : tie.Need-put-entry-requires Inv-loop μ-loop
 put-entry-requires c κs = let z = c .before .before .before .before .loop .inv .4 .size in let p = c .before .before .before .before .before .before .before .before .before .pre in omega arith
 
--- src/rows.rt:53:20
 add-result : tie.Need-add-result Inv-loop μ-loop
 add-result c = search needs
 
--- src/rows.rt:53:13
 same-length : tie.Need-same-length Inv-loop μ-loop
 same-length c = c .before .before .before .before .before .put-entry .ensures .size ∙ c .before .before .before .before .before .before .before .before .before .before .loop .inv .2
 
--- src/rows.rt:53:13
 same-length-2 : tie.Need-same-length-2 Inv-loop μ-loop
 same-length-2 c = c .before .before .before .before .before .put-entry .ensures .frame .size ∙ c .before .before .before .before .before .before .before .before .before .before .loop .inv .4 .size
 
--- src/rows.rt:53:13
 returns : tie.Need-returns Inv-loop μ-loop
 returns c =
     record {
@@ -61,15 +49,12 @@ returns c =
       has = λ h. absurd (omega arith);
     }
 
--- src/rows.rt:55:9
 add-e : tie.Need-add-e Inv-loop μ-loop
 add-e c = search needs
 
--- src/rows.rt:50:5
 loop-less : tie.Need-loop-less Inv-loop μ-loop
 loop-less c = search needs
 
--- src/rows.rt:50:5
 loop-again : tie.Need-loop-again Inv-loop μ-loop
 loop-again c =
     let i = c .before .before .before .before .before .before .before .before .before .before .loop .inv in
@@ -81,36 +66,29 @@ loop-again c =
       grows-on (i .3) g,
       frame-on (i .4) (frame-wider (omega arith) (omega arith) (r .frame)),
       upTo (c .before .before .before .before .before .before .before .before .before .before .loop .e)
-      (λ x h. subst (λ (q : ℕ). Leads (c .before .before .before .before .before .before .before .before .before .before .before .before .before .before .before .args .t .now) (c .before .before .before .before .before .put-entry .last .1 .1 .0) (c .before .before .before .before .before .put-entry .result) (c .before .before .before .before .before .before .before .before .before .before .before .before .before .before .before .args .stride) (c .before .before .before .before .before .before .before .before .before .before .before .before .before .before .before .args .s) (getD (c .before .before .before .before .before .before .before .before .before .before .before .before .before .before .before .args .bytes .now) x 0) q)
-      (sym (r .frame .below (c .before .before .before .before .before .before .before .before .before .before .before .before .before .before .before .args .p + x) (omega arith))) (leads-on (i .5 x h) g))
-      (r .leads (c .if1 .left)),
+          (λ x h. subst (λ (q : ℕ). Leads (c .before .before .before .before .before .before .before .before .before .before .before .before .before .before .before .args .t .now) (c .before .before .before .before .before .put-entry .last .1 .1 .0) (c .before .before .before .before .before .put-entry .result) (c .before .before .before .before .before .before .before .before .before .before .before .before .before .before .before .args .stride) (c .before .before .before .before .before .before .before .before .before .before .before .before .before .before .before .args .s) (getD (c .before .before .before .before .before .before .before .before .before .before .before .before .before .before .before .args .bytes .now) x 0) q)
+          (sym (r .frame .below (c .before .before .before .before .before .before .before .before .before .before .before .before .before .before .before .args .p + x) (omega arith))) (leads-on (i .5 x h) g))
+          (r .leads (c .if1 .left)),
     )
 
--- src/rows.rt:57:16
 end-mark-requires : tie.Need-end-mark-requires Inv-loop μ-loop
 end-mark-requires c κs = search needs
 
--- src/rows.rt:57:7
 add-d : tie.Need-add-d Inv-loop μ-loop
 add-d c = search needs
 
--- src/rows.rt:57:5
 mul-d : tie.Need-mul-d Inv-loop μ-loop
 mul-d c = search needs
 
--- src/rows.rt:57:5
 slice-write-d : tie.Need-slice-write-d Inv-loop μ-loop
 slice-write-d c = let z = c .before .before .loop .inv .4 .size in omega arith
 
--- src/rows.rt:41:1
 same-length-3 : tie.Need-same-length-3 Inv-loop μ-loop
 same-length-3 c = c .before .before .loop .inv .2
 
--- src/rows.rt:41:1
 same-length-4 : tie.Need-same-length-4 Inv-loop μ-loop
 same-length-4 c = length-set (c .before .before .loop .d) (c .before .before .before .before .before .before .before .args .p + c .before .before .before .before .before .before .before .args .k) (c .end-mark .result) ∙ c .before .before .loop .inv .4 .size
 
--- src/rows.rt:41:1
 returns-2 : tie.Need-returns-2 Inv-loop μ-loop
 returns-2 c =
     let i = c .before .before .loop .inv in

@@ -1,8 +1,8 @@
 use borrow.Author.Needs.{needs}
-use Prim.Native.Nat.{ℕ, _+_, _-_, _*_, _≤_, _<_}
-use mathlib.Core.Path.{_≡_, refl, sym, ap, ap₂, subst, _∙_}
+use Prim.Native.Nat.{ℕ, _+_, _-_, _*_, _≤_}
+use mathlib.Core.Path.{_≡_, refl, subst, _∙_}
 use native.Mathlib.Omega.{arith}
-use lib.ListN.{length, length-set, getD}
+use lib.ListN.{length}
 use mathlib.Core.List.{List}
 use Rattle.ere_automaton.specs.Layout.{rowsAt}
 use Rattle.ere_derive.specs.Growth.{Grows}
@@ -11,10 +11,6 @@ use Rattle.ere_derive.proofs.Grown.{grows-none, grows-on}
 use Rattle.ere_derive.proofs.Composed.{rows-below, frame-none, frame-on, frame-wider, rows-more}
 use Rattle.ere_derive.proofs.rows.put_rows.Statement.{statement}
 use Rattle.ere_derive.proofs.rows.put_rows.Tie as tie
-use Rattle.ere_derive.proofs.rows.put_rows.Reads as reads
-use Rattle.ere_derive.proofs.rows.put_rows.Lts as lts
-use Rattle.ere_derive.proofs.rows.put_row.Reads as put-row-reads
-use Rattle.ere_derive.proofs.sets.set_at.Reads as set-at-reads
 
 abbrev Inv-loop : tie.InvT-loop
 Inv-loop t bytes k sets₀ count most stride d₀ n₀ i₀ sets d n i =
@@ -24,39 +20,30 @@ Inv-loop t bytes k sets₀ count most stride d₀ n₀ i₀ sets d n i =
 abbrev μ-loop : tie.MeasureT-loop
 μ-loop t bytes k sets₀ count most stride d₀ n₀ i₀ sets d n i = most - i
 
--- src/rows.rt:71:5
 loop-holds : tie.Need-loop-holds Inv-loop μ-loop
 loop-holds c = (omega arith, omega arith, refl, grows-none _ _, frame-none _ _ _, λ j h. absurd (omega arith))
 
--- src/rows.rt:72:13
 set-at-requires : tie.Need-set-at-requires Inv-loop μ-loop
 set-at-requires c κs = let z = c .before .before .loop .inv .2 in let p = c .before .before .before .before .before .before .before .pre in omega arith
 
--- src/rows.rt:73:67
 mul-put-row : tie.Need-mul-put-row Inv-loop μ-loop
 mul-put-row c = let z = rows-below (c .before .before .before .before .before .before .before .before .before .args .stride) (c .before .before .before .before .loop .i) (c .before .before .before .before .before .before .before .before .before .args .most) (omega arith) in let p = c .before .before .before .before .before .before .before .before .before .pre in omega arith
 
--- src/rows.rt:73:60
 add-put-row : tie.Need-add-put-row Inv-loop μ-loop
 add-put-row c = let z = rows-below (c .before .before .before .before .before .before .before .before .before .args .stride) (c .before .before .before .before .loop .i) (c .before .before .before .before .before .before .before .before .before .args .most) (omega arith) in let p = c .before .before .before .before .before .before .before .before .before .pre in omega arith
 
--- src/rows.rt:73:9
 put-row-requires : tie.Need-put-row-requires Inv-loop μ-loop
 put-row-requires c κs = let z = rows-below (c .before .before .before .before .before .before .before .before .before .before .args .stride) (c .before .before .before .before .before .loop .i) (c .before .before .before .before .before .before .before .before .before .before .args .most) (omega arith) in let p = c .before .before .before .before .before .before .before .before .before .before .pre in let y = c .before .before .before .before .before .loop .inv .4 .size in omega (arith, c .before .before .before .before .before .loop .inv .2)
 
--- src/rows.rt:75:20
 add-result : tie.Need-add-result Inv-loop μ-loop
 add-result c = search needs
 
--- src/rows.rt:75:13
 same-length : tie.Need-same-length Inv-loop μ-loop
 same-length c = c .before .before .before .before .before .put-row .ensures .size ∙ c .before .before .before .before .before .before .before .before .before .before .before .loop .inv .2
 
--- src/rows.rt:75:13
 same-length-2 : tie.Need-same-length-2 Inv-loop μ-loop
 same-length-2 c = c .before .before .before .before .before .put-row .ensures .frame .size ∙ c .before .before .before .before .before .before .before .before .before .before .before .loop .inv .4 .size
 
--- src/rows.rt:75:13
 returns : tie.Need-returns Inv-loop μ-loop
 returns c =
     let z = rows-below (c .before .before .before .before .before .before .before .before .before .before .before .before .before .before .before .before .args .stride) (c .before .before .before .before .before .before .before .before .before .before .before .loop .i) (c .before .before .before .before .before .before .before .before .before .before .before .before .before .before .before .before .args .most) (omega arith) in
@@ -68,15 +55,12 @@ returns c =
       rows = λ h. absurd (omega arith);
     }
 
--- src/rows.rt:77:9
 add-i : tie.Need-add-i Inv-loop μ-loop
 add-i c = search needs
 
--- src/rows.rt:71:5
 loop-less : tie.Need-loop-less Inv-loop μ-loop
 loop-less c = search needs
 
--- src/rows.rt:71:5
 loop-again : tie.Need-loop-again Inv-loop μ-loop
 loop-again c =
     let z = rows-below (c .before .before .before .before .before .before .before .before .before .before .before .before .before .before .before .before .args .stride) (c .before .before .before .before .before .before .before .before .before .before .before .loop .i) (c .before .before .before .before .before .before .before .before .before .before .before .before .before .before .before .before .args .most) (omega arith) in
@@ -90,19 +74,16 @@ loop-again c =
       grows-on (i .3) g,
       frame-on (i .4) (frame-wider (omega arith) (omega arith) (r .frame)),
       rows-more (c .before .before .before .before .before .before .before .before .before .before .before .before .before .before .before .before .args .t .now) (c .before .before .before .before .before .before .before .before .before .before .before .before .before .before .before .before .args .bytes .now) (c .before .before .before .before .before .before .before .before .before .before .before .before .before .before .before .before .args .k) (c .before .before .before .before .before .before .before .before .before .before .before .loop .sets) (c .before .before .before .before .before .before .before .before .before .before .before .loop .n) (c .before .before .before .before .before .before .before .before .before .before .before .before .before .before .before .before .args .stride) (c .before .before .before .before .before .before .before .before .before .before .before .loop .d) (c .before .before .before .before .before .before .before .before .before .before .before .loop .i) _ _ _ (p .7) (c .before .before .before .before .before .before .before .before .before .before .loop-test .taken) (i .5) g (r .frame)
-      (subst (λ (s : List ℕ). RowAt (c .before .before .before .before .before .before .before .before .before .before .before .before .before .before .before .before .args .t .now) (c .before .before .before .before .before .before .before .before .before .before .before .before .before .before .before .before .args .bytes .now) (c .before .before .before .before .before .before .before .before .before .before .before .before .before .before .before .before .args .k) (c .before .before .before .before .before .put-row .last .1 .1 .1 .0) (c .before .before .before .before .before .put-row .result) (c .before .before .before .before .before .before .before .before .before .before .before .before .before .before .before .before .args .stride) s (c .before .before .before .before .before .put-row .last .1 .1 .1 .1 .1 .1 .1 .1 .1 .0) (rowsAt + c .before .before .before .before .before .before .before .before .before .before .before .before .before .before .before .before .args .stride * c .before .before .before .before .before .before .before .before .before .before .before .loop .i))
-      (c .before .before .before .before .before .before .before .before .set-at .ensures) (r .has (c .if1 .left))),
+          (subst (λ (s : List ℕ). RowAt (c .before .before .before .before .before .before .before .before .before .before .before .before .before .before .before .before .args .t .now) (c .before .before .before .before .before .before .before .before .before .before .before .before .before .before .before .before .args .bytes .now) (c .before .before .before .before .before .before .before .before .before .before .before .before .before .before .before .before .args .k) (c .before .before .before .before .before .put-row .last .1 .1 .1 .0) (c .before .before .before .before .before .put-row .result) (c .before .before .before .before .before .before .before .before .before .before .before .before .before .before .before .before .args .stride) s (c .before .before .before .before .before .put-row .last .1 .1 .1 .1 .1 .1 .1 .1 .1 .0) (rowsAt + c .before .before .before .before .before .before .before .before .before .before .before .before .before .before .before .before .args .stride * c .before .before .before .before .before .before .before .before .before .before .before .loop .i))
+          (c .before .before .before .before .before .before .before .before .set-at .ensures) (r .has (c .if1 .left))),
     )
 
--- src/rows.rt:62:1
 same-length-3 : tie.Need-same-length-3 Inv-loop μ-loop
 same-length-3 c = c .before .loop .inv .2
 
--- src/rows.rt:62:1
 same-length-4 : tie.Need-same-length-4 Inv-loop μ-loop
 same-length-4 c = c .before .loop .inv .4 .size
 
--- src/rows.rt:62:1
 returns-2 : tie.Need-returns-2 Inv-loop μ-loop
 returns-2 c =
     let e : c .before .loop .i ≡ c .before .loop .n = omega arith in

@@ -1,58 +1,40 @@
-use Prim.Native.Nat.{ℕ, _+_, _-_, _*_, _≤_, _<_}
-use mathlib.Core.Path.{_≡_, refl, sym, ap, ap₂, subst, _∙_}
+use mathlib.Core.Path.{refl}
 use native.Mathlib.Omega.{arith}
-use lib.ListN.{length, length-set, getD}
 use Rattle.ere_derive.proofs.Grown.{grows-none, grows-put}
 use borrow.Author.Needs.{needs}
 use Rattle.ere_derive.proofs.sets.enter.Statement.{statement}
 use Rattle.ere_derive.proofs.sets.enter.Tie as tie
-use Rattle.ere_derive.proofs.sets.enter.Reads as reads
-use Rattle.ere_derive.proofs.sets.enter.Lts as lts
-use Rattle.ere_derive.proofs.sets.find.Reads as find-reads
-use Rattle.ere_derive.proofs.sets.is_fair.Reads as is-fair-reads
-use Rattle.ere_derive.proofs.sets.put.Reads as put-reads
 
--- src/sets.rt:94:9
 find-requires : tie.Need-find-requires
 find-requires c κs = search needs
 
--- src/sets.rt:96:9
 same-length : tie.Need-same-length
 same-length c = search needs
 
--- src/sets.rt:96:9
 returns : tie.Need-returns
 returns c = record { size = refl; grows = λ h. grows-none _ _; has = λ h. record { low = c .if1 .taken; is = c .before .find .ensures .1 (c .if1 .taken) } }
 
--- src/sets.rt:99:12
 is-fair-requires : tie.Need-is-fair-requires
 is-fair-requires c κs = search needs
 
--- src/sets.rt:100:13
 put-requires : tie.Need-put-requires
 put-requires c κs = search needs
 
--- src/sets.rt:101:37
 add-t13 : tie.Need-add-t13
 add-t13 c = search needs
 
--- src/sets.rt:101:13
 same-length-2 : tie.Need-same-length-2
 same-length-2 c = search needs
 
--- src/sets.rt:101:13
 returns-2 : tie.Need-returns-2
 returns-2 c = record { size = c .before .before .put .ensures .size; grows = λ h. grows-put (c .before .before .put .ensures) (c .before .before .before .before .before .is-fair .ensures (c .before .before .before .before .if3 .taken)); has = λ h. record { low = omega arith; is = c .before .before .put .ensures .is } }
 
--- src/sets.rt:104:22
 add-t14 : tie.Need-add-t14
 add-t14 c = search needs
 
--- src/sets.rt:90:1
 same-length-3 : tie.Need-same-length-3
 same-length-3 c = search needs
 
--- src/sets.rt:90:1
 returns-3 : tie.Need-returns-3
 returns-3 c = record { size = refl; grows = λ h. absurd (omega arith); has = λ h. absurd (omega arith) }
 

@@ -1,13 +1,8 @@
 use borrow.Author.Needs.{needs}
-use Prim.Native.Nat.{ℕ, _+_, _-_, _*_, _≤_, _<_}
-use mathlib.Core.Path.{_≡_, refl, sym, ap, ap₂, subst, _∙_}
+use Prim.Native.Nat.{_-_, _≤_}
 use native.Mathlib.Omega.{arith}
-use lib.ListN.{length, length-set, getD}
 use Rattle.ere_derive.proofs.sets.find.Statement.{statement}
 use Rattle.ere_derive.proofs.sets.find.Tie as tie
-use Rattle.ere_derive.proofs.sets.find.Reads as reads
-use Rattle.ere_derive.proofs.sets.find.Lts as lts
-use Rattle.ere_derive.proofs.sets.is_at.Reads as is-at-reads
 
 abbrev Inv-loop : tie.InvT-loop
 Inv-loop sets n s i₀ i = i ≤ n
@@ -15,31 +10,24 @@ Inv-loop sets n s i₀ i = i ≤ n
 abbrev μ-loop : tie.MeasureT-loop
 μ-loop sets n s i₀ i = n - i
 
--- src/sets.rt:65:5
 loop-holds : tie.Need-loop-holds Inv-loop μ-loop
 loop-holds c = search needs
 
--- src/sets.rt:66:12
 is-at-requires : tie.Need-is-at-requires Inv-loop μ-loop
 is-at-requires c κs = search needs
 
--- src/sets.rt:67:13
 returns : tie.Need-returns Inv-loop μ-loop
 returns c = (omega arith, λ h. c .before .is-at .ensures (c .if1 .taken))
 
--- src/sets.rt:69:9
 add-i : tie.Need-add-i Inv-loop μ-loop
 add-i c = search needs
 
--- src/sets.rt:65:5
 loop-less : tie.Need-loop-less Inv-loop μ-loop
 loop-less c = search needs
 
--- src/sets.rt:65:5
 loop-again : tie.Need-loop-again Inv-loop μ-loop
 loop-again c = search needs
 
--- src/sets.rt:60:1
 returns-2 : tie.Need-returns-2 Inv-loop μ-loop
 returns-2 c = (omega arith, λ h. absurd (omega arith))
 

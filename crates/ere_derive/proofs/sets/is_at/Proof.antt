@@ -1,71 +1,50 @@
-use Prim.Native.Nat.{ℕ, _+_, _-_, _*_, _≤_, _<_}
-use mathlib.Core.Path.{_≡_, refl, sym, ap, ap₂, subst, _∙_}
-use native.Mathlib.Omega.{arith}
-use lib.ListN.{length, length-set, getD}
 use Rattle.ere_derive.proofs.Grown.{row-is}
 use borrow.Author.Needs.{needs}
 use Rattle.ere_derive.proofs.sets.is_at.Statement.{statement}
 use Rattle.ere_derive.proofs.sets.is_at.Tie as tie
-use Rattle.ere_derive.proofs.sets.is_at.Reads as reads
-use Rattle.ere_derive.proofs.sets.is_at.Lts as lts
 
--- src/sets.rt:56:11
 mul-result : tie.Need-mul-result
 mul-result c = search needs
 
--- src/sets.rt:56:6
 mul-result-2 : tie.Need-mul-result-2
 mul-result-2 c = search needs
 
--- src/sets.rt:56:6
 shared-slice-read-result : tie.Need-shared-slice-read-result
 shared-slice-read-result c = search needs
 
--- src/sets.rt:56:21
 array-read-result : tie.Need-array-read-result
 array-read-result c = search needs
 
--- src/sets.rt:56:36
 mul-result-3 : tie.Need-mul-result-3
 mul-result-3 c = search needs
 
--- src/sets.rt:56:36
 add-result : tie.Need-add-result
 add-result c = search needs
 
--- src/sets.rt:56:31
 mul-result-4 : tie.Need-mul-result-4
 mul-result-4 c = search needs
 
--- src/sets.rt:56:31
 shared-slice-read-result-2 : tie.Need-shared-slice-read-result-2
 shared-slice-read-result-2 c = search needs
 
--- src/sets.rt:56:50
 array-read-result-2 : tie.Need-array-read-result-2
 array-read-result-2 c = search needs
 
--- src/sets.rt:56:64
 mul-result-5 : tie.Need-mul-result-5
 mul-result-5 c = search needs
 
--- src/sets.rt:56:64
 add-result-2 : tie.Need-add-result-2
 add-result-2 c = search needs
 
--- src/sets.rt:56:59
 mul-result-6 : tie.Need-mul-result-6
 mul-result-6 c = search needs
 
--- src/sets.rt:56:59
 shared-slice-read-result-3 : tie.Need-shared-slice-read-result-3
 shared-slice-read-result-3 c = search needs
 
--- src/sets.rt:56:78
 array-read-result-3 : tie.Need-array-read-result-3
 array-read-result-3 c = search needs
 
--- src/sets.rt:52:1
 returns : tie.Need-returns
 returns c = row-is (c .before .before .before .args .sets .now) (c .before .before .before .args .i) (c .before .before .before .args .t3) (c .before .before .before .good .1 .1 .0 .1 .0 .1)
 

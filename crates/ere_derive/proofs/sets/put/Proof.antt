@@ -1,75 +1,55 @@
-use Prim.Native.Nat.{ℕ, _+_, _-_, _*_, _≤_, _<_}
-use mathlib.Core.Path.{_≡_, refl, sym, ap, ap₂, subst, _∙_}
 use native.Mathlib.Omega.{arith}
-use lib.ListN.{length, length-set, getD}
+use lib.ListN.{length-set}
 use Rattle.ere_derive.proofs.Grown.{put-is}
 use borrow.Author.Needs.{needs}
 use Rattle.ere_derive.proofs.sets.put.Statement.{statement}
 use Rattle.ere_derive.proofs.sets.put.Tie as tie
-use Rattle.ere_derive.proofs.sets.put.Reads as reads
-use Rattle.ere_derive.proofs.sets.put.Lts as lts
 
--- src/sets.rt:78:19
 array-read-sets : tie.Need-array-read-sets
 array-read-sets c = search needs
 
--- src/sets.rt:78:10
 mul-sets : tie.Need-mul-sets
 mul-sets c = search needs
 
--- src/sets.rt:78:5
 mul-sets-2 : tie.Need-mul-sets-2
 mul-sets-2 c = search needs
 
--- src/sets.rt:78:5
 slice-write-sets : tie.Need-slice-write-sets
 slice-write-sets c = search needs
 
--- src/sets.rt:79:23
 array-read-sets-2 : tie.Need-array-read-sets-2
 array-read-sets-2 c = search needs
 
--- src/sets.rt:79:10
 mul-sets-3 : tie.Need-mul-sets-3
 mul-sets-3 c = search needs
 
--- src/sets.rt:79:10
 add-sets : tie.Need-add-sets
 add-sets c = search needs
 
--- src/sets.rt:79:5
 mul-sets-4 : tie.Need-mul-sets-4
 mul-sets-4 c = search needs
 
--- src/sets.rt:79:5
 slice-write-sets-2 : tie.Need-slice-write-sets-2
 slice-write-sets-2 c = simp length-set (omega arith)
 
--- src/sets.rt:80:23
 array-read-sets-3 : tie.Need-array-read-sets-3
 array-read-sets-3 c = search needs
 
--- src/sets.rt:80:10
 mul-sets-5 : tie.Need-mul-sets-5
 mul-sets-5 c = search needs
 
--- src/sets.rt:80:10
 add-sets-2 : tie.Need-add-sets-2
 add-sets-2 c = search needs
 
--- src/sets.rt:80:5
 mul-sets-6 : tie.Need-mul-sets-6
 mul-sets-6 c = search needs
 
--- src/sets.rt:80:5
 slice-write-sets-3 : tie.Need-slice-write-sets-3
 slice-write-sets-3 c = simp length-set (omega arith)
 
--- src/sets.rt:74:1
 same-length : tie.Need-same-length
 same-length c = search needs
 
--- src/sets.rt:74:1
 returns : tie.Need-returns
 returns c = put-is (c .args .sets .now) (c .args .i) (c .args .t3) (c .pre) (c .good .1 .1 .0 .1 .0 .1)
 
