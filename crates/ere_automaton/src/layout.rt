@@ -1,26 +1,29 @@
 // The words of an automaton: a head, the class of each byte, and a row for each state. A state is the index of its row.
 // A row: the state after a byte of each class; 1 if a match ends where the text ends, else 0; and with pairs, the state
 // after two bytes, of each class and each class.
+
+// How many classes there are.
 pub const CLASS_COUNT: usize = 0;
-
+// The state at the text's start.
 pub const FIRST: usize = 1;
-
+// The state elsewhere, where nothing is pending.
 pub const LATER: usize = 2;
-
+// A state in which a match has ended.
 pub const ACCEPTED: usize = 3;
-
+// Not 0 if rows have pairs.
 pub const PAIRS: usize = 4;
-
+// Not 0 if the ranges of a match's first two bytes are of use.
 pub const SKIPS: usize = 5;
-
+// The lowest byte of the range of a match's first byte.
 pub const LOW: usize = 6;
-
+// How many more that range has.
 pub const WIDTH: usize = 7;
-
+// The lowest byte of the range of its second.
 pub const NEXT_LOW: usize = 8;
-
+// How many more that one has.
 pub const NEXT_WIDTH: usize = 9;
-
+// Where the classes of the bytes start.
 pub const CLASSES: usize = 16;
+
 // The bytes that a search takes at a time.
 pub const BLOCK: usize = 16;
