@@ -1,0 +1,2 @@
+-- Words whose operands are places, and their operands by number.
+pub mod Numbered
