@@ -1,33 +1,7 @@
 // Reading, writing and checking images, for C.
 ghost use mathlib.Core.Path.{_≡_};
-ghost use mathlib.Core.List.{[]};
-ghost use Rattle.image.specs.Copy.{copying, copyingOf, readOf, writtenOf};
-ghost use Rattle.image_check.specs.Verdict.{outcomeOf, checkOf};
-use edition::Outcome;
-use image::Copied;
-use image_check::Verdict;
-
-// The number of an answer's outcome.
-fn outcome_of(c: Copied) -> u64
-    ensures { λ r. ⌜ r ≡ copyingOf c [] .outcome ⌝ }
-{
-    match c {
-        Copied::Written(n) => Outcome::DONE,
-        Copied::Malformed => Outcome::IMAGE_MALFORMED,
-        Copied::NoRoom => Outcome::ROOM_TOO_SMALL,
-    }
-}
-
-// The length written, 0 on a refusal.
-fn length_of(c: Copied) -> u64
-    ensures { λ r. ⌜ r ≡ copyingOf c [] .length ⌝ }
-{
-    match c {
-        Copied::Written(n) => n as u64,
-        Copied::Malformed => 0,
-        Copied::NoRoom => 0,
-    }
-}
+ghost use Rattle.image.specs.Copy.{copying, readOf, writtenOf};
+ghost use Rattle.image_check.specs.Verdict.{checkOf};
 
 // The content of an image.
 #[no_mangle]
@@ -36,8 +10,8 @@ pub extern "C" fn flowawk_read(image: &[u8], content: &mut [u64], written: &mut 
         ≡ readOf (now (image .entry)) (now (content .entry)) ⌝ }
 {
     let c = image::read(image, content);
-    *written = length_of(c);
-    outcome_of(c)
+    *written = capi_numbers::copied_length(c);
+    capi_numbers::copied_outcome(c)
 }
 
 // The bytes of an image, from its content.
@@ -47,19 +21,8 @@ pub extern "C" fn flowawk_write(content: &[u64], image: &mut [u8], written: &mut
         ≡ writtenOf (now (content .entry)) (now (image .entry)) ⌝ }
 {
     let c = image::write(content, image);
-    *written = length_of(c);
-    outcome_of(c)
-}
-
-// The number of a verdict.
-fn verdict_of(v: Verdict) -> u64
-    ensures { λ r. ⌜ r ≡ outcomeOf v ⌝ }
-{
-    match v {
-        Verdict::Accepted => Outcome::DONE,
-        Verdict::Malformed => Outcome::IMAGE_MALFORMED,
-        Verdict::Rejected => Outcome::IMAGE_FAILS_CHECK,
-    }
+    *written = capi_numbers::copied_length(c);
+    capi_numbers::copied_outcome(c)
 }
 
 // Whether an image passes the check.
@@ -67,5 +30,5 @@ fn verdict_of(v: Verdict) -> u64
 pub extern "C" fn flowawk_check(image: &[u8]) -> u64
     ensures { λ r. ⌜ r ≡ checkOf (now (image .entry)) ⌝ }
 {
-    verdict_of(image_check::check(image))
+    capi_numbers::verdict_outcome(image_check::check(image))
 }

@@ -3,33 +3,6 @@ ghost use mathlib.Core.Path.{_≡_};
 ghost use Rattle.edition.specs.Limits.{firstEdition};
 ghost use Rattle.splitting.specs.Field.{span};
 ghost use Rattle.splitting.specs.Splitting.{splitOf, counting, countOf, fieldOf};
-ghost use Rattle.fields.specs.Answer.{countingOf};
-use edition::Outcome;
-use fields::Splitting;
-
-// The number of a split's outcome.
-fn outcome_of(s: Splitting) -> u64
-    ensures { λ r. ⌜ r ≡ countingOf s .outcome ⌝ }
-{
-    match s {
-        Splitting::Fields(n) => Outcome::DONE,
-        Splitting::LongRecord => Outcome::RECORD_TOO_LONG,
-        Splitting::BadSeparator => Outcome::BAD_SEPARATOR,
-        Splitting::ManyFields => Outcome::BAD_FIELD_NUMBER,
-    }
-}
-
-// How many fields there are, 0 of a refused record.
-fn count_of(s: Splitting) -> u64
-    ensures { λ r. ⌜ r ≡ countingOf s .count ⌝ }
-{
-    match s {
-        Splitting::Fields(n) => n as u64,
-        Splitting::LongRecord => 0,
-        Splitting::BadSeparator => 0,
-        Splitting::ManyFields => 0,
-    }
-}
 
 // Splits a record, by the first edition.
 #[no_mangle]
@@ -38,8 +11,8 @@ pub extern "C" fn flowawk_split(record: &[u8], fs: &[u8], count: &mut u64) -> u6
         ≡ countOf (splitOf firstEdition (now (fs .entry)) (now («record» .entry))) ⌝ }
 {
     let s = fields::split(record, fs);
-    *count = count_of(s);
-    outcome_of(s)
+    *count = capi_numbers::split_count(s);
+    capi_numbers::split_outcome(s)
 }
 
 // Field k of a record, by the first edition: the outcome of splitting it, and the field's place and length.
@@ -59,5 +32,5 @@ pub extern "C" fn flowawk_field(
     let s = f.splitting;
     *start = f.start as u64;
     *length = f.size as u64;
-    outcome_of(s)
+    capi_numbers::split_outcome(s)
 }

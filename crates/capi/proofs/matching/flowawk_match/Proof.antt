@@ -5,8 +5,8 @@ use mir.Syntax.{w64}
 use mir.ValLaws.{toZ-ofZ}
 use Rattle.edition.specs.Limits.{firstEdition}
 use Rattle.ere.specs.Answer.{matching}
-use Rattle.capi.specs.Match.{Within}
-use Rattle.capi.proofs.Within.{search-within}
+use Rattle.capi_numbers.specs.Match.{Within}
+use Rattle.capi_numbers.proofs.Within.{search-within}
 use borrow.Author.Needs.{needs}
 use Rattle.capi.proofs.matching.flowawk_match.Statement.{statement}
 use Rattle.capi.proofs.matching.flowawk_match.Tie as tie
@@ -14,16 +14,16 @@ use Rattle.capi.proofs.matching.flowawk_match.Tie as tie
 search-requires : tie.Need-search-requires
 search-requires c κs = search needs
 
-numbers-of-requires : tie.Need-numbers-of-requires
-numbers-of-requires c κs = subst⁻¹ Within (c .search .ensures) (search-within firstEdition _ _)
+match-numbers-requires : tie.Need-match-numbers-requires
+match-numbers-requires c κs = subst⁻¹ Within (c .search .ensures) (search-within firstEdition _ _)
 
 returns : tie.Need-returns
 returns c =
-    let n = c .before .numbers-of .result in
+    let n = c .before .match-numbers .result in
     ap (λ (z : ℤ). matching (n .outcome) (n .rstart) z)
     (toZ-ofZ w64 (n .rlength) (record { sfits = c .struct-told .given .1 .1 .0 .1 }))
-    ∙ (c .before .numbers-of .ensures
+    ∙ (c .before .match-numbers .ensures
     ∙ c .before .before .search .ensures)
 
 pub flowawk-match-spec : {M : Type 1} → statement M
-flowawk-match-spec = tie.close (tie.spec search-requires numbers-of-requires returns)
+flowawk-match-spec = tie.close (tie.spec search-requires match-numbers-requires returns)

@@ -8,13 +8,13 @@ use Rattle.capi.proofs.records.flowawk_field.Tie as tie
 locate-requires : tie.Need-locate-requires
 locate-requires c κs = search needs
 
-outcome-of-requires : tie.Need-outcome-of-requires
-outcome-of-requires c κs = search needs
+split-outcome-requires : tie.Need-split-outcome-requires
+split-outcome-requires c κs = search needs
 
 returns : tie.Need-returns
 returns c =
     let e = c .before .locate .ensures in
-    (c .outcome-of .ensures ∙ ap (λ (x : Counting). x .outcome) (e .0), e .1)
+    (c .split-outcome .ensures ∙ ap (λ (x : Counting). x .outcome) (e .0), e .1)
 
 pub flowawk-field-spec : {M : Type 1} → statement M
-flowawk-field-spec = tie.close (tie.spec locate-requires outcome-of-requires returns)
+flowawk-field-spec = tie.close (tie.spec locate-requires split-outcome-requires returns)

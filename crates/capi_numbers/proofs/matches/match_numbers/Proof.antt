@@ -1,4 +1,4 @@
--- `numbers_of`: case by case; what is added and what is cast fits, since a match ends within a text value.
+-- `match_numbers`: case by case; what is added and what is cast fits, since a match ends within a text value.
 use mathlib.Core.Path.{sym, ap, _∙_}
 use Prim.Native.Nat.{_+_}
 use native.Mathlib.Omega.{arith}
@@ -7,10 +7,10 @@ use mir.Syntax.{w64}
 use mir.ValLaws.{toZ-pos}
 use Rattle.edition.specs.Outcomes.{done}
 use Rattle.ere.specs.Answer.{matching, matchingOf}
-use Rattle.capi.proofs.Within.{within-at}
+use Rattle.capi_numbers.proofs.Within.{within-at}
 use borrow.Author.Needs.{needs}
-use Rattle.capi.proofs.matching.numbers_of.Statement.{statement}
-use Rattle.capi.proofs.matching.numbers_of.Tie as tie
+use Rattle.capi_numbers.proofs.matches.match_numbers.Statement.{statement}
+use Rattle.capi_numbers.proofs.matches.match_numbers.Tie as tie
 
 enum-known-m : tie.Need-enum-known-m
 enum-known-m c = search needs
@@ -55,8 +55,8 @@ returns-3 c = c .without2 .ensures ∙ ap matchingOf (sym (c .before .enum-told2
 returns-4 : tie.Need-returns-4
 returns-4 c = c .without3 .ensures ∙ ap matchingOf (sym (c .before .enum-told3 .given .1))
 
-pub numbers-of-spec : {M : Type 1} → statement M
-numbers-of-spec =
+pub match-numbers-spec : {M : Type 1} → statement M
+match-numbers-spec =
     tie.close
     (tie.spec
     enum-known-m

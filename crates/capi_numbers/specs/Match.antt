@@ -1,4 +1,4 @@
--- Internal: cited by private contracts only. Cited by a private contract only. `search-within` of proofs/ shows it of each answer of a search.
+-- Internal: cited by private contracts only. `search-within` of proofs/ shows it of each answer of a search.
 use Prim.Native.Nat.{_+_, _≤_}
 use lib.IntN.{natAbs}
 use Rattle.edition.specs.Limits.{textBytes}

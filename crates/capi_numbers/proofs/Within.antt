@@ -18,7 +18,7 @@ use Rattle.ere_grammar.specs.Read.{readEre}
 use Rattle.ere.specs.Answer.{without, matchingOf, bestMatching, judged, searchOf}
 use Rattle.ere.specs.declared.matching.Matched.{Matched}
 use Rattle.ere.specs.declared.matching.Matched.the-variants.{At}
-use Rattle.capi.specs.Match.{Within}
+use Rattle.capi_numbers.specs.Match.{Within}
 
 without-within : (o : ℕ) → Within (without o)
 without-within o = record { start = omega arith; length = omega arith }

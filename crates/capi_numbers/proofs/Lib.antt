@@ -1,0 +1,2 @@
+-- Laws on the numbers of answers.
+pub mod Within
