@@ -75,6 +75,19 @@ uint64_t flowawk_write(const uint64_t *content, size_t content_words, uint8_t *i
 uint64_t flowawk_check(const uint8_t *image, size_t image_length);
 
 /*
+ * The translation of a filter text to an image.
+ *
+ * Outcome 1 if the text has over 8,192 bytes, with place 8,192; else 2 if it has a NUL byte, with the place of the first; else, at the first token that is bad (3,
+ * or 5 for an ERE), can't continue any program (4) or opens level 17 of nesting (6), the number, with the place where that token starts, or the text's end. Else 6
+ * if another size is passed: 25 users' names, 64 constants, 16 EREs, 1,024 instructions of a section, 32 operands, 512 bytes of a text; else 7 if the image has more
+ * than image_length bytes; both with the text's length as place. Else 0, with the image at the front of the room and its length as place.
+ *
+ * *place is stored on every call. The room's bytes beyond the image, and with outcomes 1 to 7 all of them, are as they were. An image that was written passes
+ * `flowawk_check`. A call uses under 256 KiB of stack.
+ */
+uint64_t flowawk_translate(const uint8_t *text, size_t text_length, uint8_t *image, size_t image_length, uint64_t *place);
+
+/*
  * A run of an image over lines.
  *
  * Outcome 19 if the working room has under 49,152 bytes; else 8 if the bytes are no image's, as for `flowawk_read`; else 9 if it fails the check: then nothing is

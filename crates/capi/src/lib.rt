@@ -3,6 +3,7 @@ mod images;
 mod matching;
 mod records;
 mod runs;
+mod translations;
 
 pub use images::flowawk_check;
 pub use images::flowawk_read;
@@ -11,3 +12,4 @@ pub use matching::flowawk_match;
 pub use records::flowawk_field;
 pub use records::flowawk_split;
 pub use runs::flowawk_run;
+pub use translations::flowawk_translate;
