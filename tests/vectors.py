@@ -34,6 +34,9 @@ the rules, -2^53 to 2^53, is 8 bytes: what it is above -2^53. Payloads, field by
                 and values: afterwards the record, the number of fields and the field that is got; before, FS, OFS, the
                 record that is read, twice the number of a field and what it is assigned, and the number of that got
 
+    translate   outcome 1, place 2, bytes of the image room 2, bytes of the image 2 (0 where the outcome is not 0), image, text
+    ways        as runs, with the text of a filter in the place of the image
+
     runs        outcome 1, steps 8, records 8, budget 8, bytes of the output room 2, bytes written 2, length of the image 2, the
                 bytes that are written, the image, lines
 
@@ -47,6 +50,8 @@ import random
 import struct
 import sys
 
+import filter_cases
+import filter_texts
 import image_cases
 import run_cases
 import whole_runs
@@ -885,6 +890,44 @@ def runs():
     return [p for p in (run_case(*case) for case in unique(cases)) if len(p) <= 4096]
 
 
+@group
+def translate():
+    """Translations: each rule of the grammar, each refusal with its place, sizes at and over their bounds, image rooms too small and just enough."""
+    r = random.Random('translate')
+    texts = [text for text, _ in filter_cases.hand_made()]
+    texts += [size(r, more).encode('latin1') for size in filter_texts.SIZES for more in (-1, 0, 1)]
+    texts += [filter_texts.draw(r, gen) for _ in range(1500)]
+    return [translate_case(r, text) for text in unique(texts)]
+
+
+def translate_case(r, text):
+    outcome, place, image = ref.translate(text)
+    room = r.choice([0, 50, 300])
+    if outcome == 0:
+        room = min(16384, r.choice([4096, place, place, place + 1, max(0, place - 1), 0]))
+    if outcome == 0 and room < place:
+        outcome, place, image = 7, len(text), b''
+    return bytes([outcome]) + struct.pack('<HHH', place, room, len(image)) + image + text
+
+
+@group
+def ways():
+    """Whole ways: filters that are translated and run."""
+    r = random.Random('ways')
+    cases = []
+    while len(cases) < 1500:
+        text = r.choice(whole_runs.FILTERS) if r.random() < .3 else filter_texts.draw(r, gen)
+        outcome, place, image = ref.translate(text)
+        if outcome == 0 and place <= 16384:
+            cases.append((text, image, whole_runs.lines(r, gen), r.choice([0, 40, 400, 4000]), r.choice([0, 5, 60, 2000])))
+    return [p for p in (way_case(*case) for case in unique(cases)) if len(p) <= 4096]
+
+
+def way_case(text, image, lines, room, budget):
+    outcome, steps, records, out = ref.run(image, lines, room, budget)
+    return bytes([outcome]) + struct.pack('<QQQHHH', steps, records, budget, room, len(out), len(text)) + out + text + lines
+
+
 # ---------------------------------------------------- wrong expectations
 
 # for each group, where a payload has what is expected
@@ -905,6 +948,8 @@ EXPECTED = {
     'check': lambda p: [0],
     'operations': lambda p: range(1, values_end(p, 2, 1)),
     'records': lambda p: [*range(4), *range(12, values_end(p, 12, 3))],
+    'translate': lambda p: [*range(3), *range(7, 7 + two(p, 5))],
+    'ways': lambda p: [*range(17), 27, 28, *range(31, 31 + two(p, 27))],
     'runs': lambda p: [*range(17), 27, 28, *range(31, 31 + two(p, 27))],
 }
 

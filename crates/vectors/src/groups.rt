@@ -17,6 +17,8 @@ pub enum Group {
     Operations,
     Records,
     Runs,
+    Translate,
+    Ways,
 }
 
 // Whether the case in a frame's payload passes.
@@ -39,5 +41,7 @@ pub fn passes(group: Group, p: &[u8]) -> bool {
         Group::Operations => vectors_runs::operations::passes(p),
         Group::Records => vectors_runs::records::passes(p),
         Group::Runs => vectors_runs::runs::passes(p),
+        Group::Translate => vectors_programs::translating::passes(p),
+        Group::Ways => vectors_programs::ways::passes(p),
     }
 }

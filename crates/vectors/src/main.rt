@@ -45,4 +45,8 @@ fn main() {
     run(Group::Records, b"wrong_records");
     run(Group::Runs, b"runs");
     run(Group::Runs, b"wrong_runs");
+    run(Group::Translate, b"translate");
+    run(Group::Translate, b"wrong_translate");
+    run(Group::Ways, b"ways");
+    run(Group::Ways, b"wrong_ways");
 }

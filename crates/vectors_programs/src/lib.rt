@@ -1,0 +1,4 @@
+// The judges of cases on filter texts. A group is a module, whose function `passes` says whether the case in a payload passes; a payload that is not of
+// the group's layout does not.
+pub mod translating;
+pub mod ways;
