@@ -49,7 +49,7 @@ Loose plain = Unit
 Loose against = ⊥
 Loose tested = ⊥
 
-abbrev joined : List Kind
+abbrev pub joined : List Kind
 joined = NUMBER ∷ STRING ∷ open-paren ∷ dollar ∷ user-name ∷ variable ∷ fixed-variable ∷ []
 
 -- kinds that begin no operator and no operand

@@ -2,3 +2,7 @@
 pub mod Facts
 pub mod Forms
 pub mod Sentences
+pub mod Meaning
+pub mod Kept
+pub mod Steps
+pub mod Viability
