@@ -73,7 +73,7 @@ settle-twice plain = refl
 settle-twice against = refl
 settle-twice tested = refl
 
-settled : (m : Mode) → NotTested m → NotTested (settle m)
+pub settled : (m : Mode) → NotTested m → NotTested (settle m)
 settled fresh h = h
 settled plain h = h
 settled against h = h
@@ -156,7 +156,7 @@ module _ (edition : ℕ) where
   unfolding tierOf
   tier-printed k h g = rw g (tier-compared k h)
 
-  tier-still : (p : Bool) (k : Kind) → same k greater ≡ false → operatorIn k binary ≡ none → among joined k ≡ false → among words k ≡ false
+  pub tier-still : (p : Bool) (k : Kind) → same k greater ≡ false → operatorIn k binary ≡ none → among joined k ≡ false → among words k ≡ false
       → tierOf edition p k ≡ fields
   unfolding tierOf startsJoined
   tier-still p k g o j w = simp (g, o, j, no-function k w, and-false)

@@ -6,3 +6,6 @@ pub mod Meaning
 pub mod Kept
 pub mod Steps
 pub mod Viability
+pub mod Walks
+pub mod Readings
+pub mod Operands
