@@ -9,3 +9,5 @@ pub mod Viability
 pub mod Walks
 pub mod Readings
 pub mod Operands
+pub mod Tiers
+pub mod Bodies

@@ -178,7 +178,7 @@ module _ (edition : ℕ) where
 
     -- ---- newlines that may follow
 
-    abbrev Line : State → Token → Token → Type 0
+    abbrev pub Line : State → Token → Token → Type 0
     Line x t u = (Walk edition s x t x u) × (InText edition s 0 u) × (t .start ≤ u .start) × (same (u .kind) newline ≡ false)
 
     line-end : (t : Token) → InText edition s 0 t → length s ≤ t .start → same (t .kind) newline ≡ false
@@ -193,7 +193,7 @@ module _ (edition : ℕ) where
     unfolding among
     single k j = or-none (same k j)
 
-    lines-in : (x y : State) → step edition x newline ≡ some x → step edition x ERE ≡ some y → (n : ℕ) (t : Token) → InText edition s 0 t → length s ≤ n + t .start
+    pub lines-in : (x y : State) → step edition x newline ≡ some x → step edition x ERE ≡ some y → (n : ℕ) (t : Token) → InText edition s 0 t → length s ≤ n + t .start
         → Line x (asOperand edition s t) (asOperand edition s (pastIn edition s (newline ∷ []) n t))
     unfolding pastIn rank
     lines-in x y a e zero t g h =
