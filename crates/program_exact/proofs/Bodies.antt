@@ -9,7 +9,7 @@ use native.Mathlib.Omega.{arith}
 use lib.ListN.{length}
 use lib.Dec.{eqb, leb}
 use Rattle.lists.proofs.Tests.{clash, and-true, and-false as and-none, or-false, or-cases}
-use Rattle.lists.proofs.Options.{none-some}
+use Rattle.lists.proofs.Options.{none-some, some-one}
 use Rattle.program_tokens.specs.Kinds.{Kind, text-end, newline, ERE, IF, ELSE, WHILE, PRINT, NEXT, EXIT, open-brace, close-brace, open-paren, close-paren, comma, semicolon, same, among, rank}
 use Rattle.program_tokens.specs.Tokens.{Token, is, isOneOf, tokenAfter, asOperand}
 use Rattle.program_tokens.proofs.Ranks.{same-is}
@@ -20,7 +20,7 @@ use Rattle.program_reader.specs.Operators.{expressions}
 use Rattle.program_reader.specs.Expressions.{closed, tier, inside, expressionAt}
 use Rattle.program_reader.specs.Statements.{ended, noBody, listed as listed-of, printAt, conditionAt, elseAfter, bodyAt, elseAt, thenAt, ifAt, whileAt, statementOf, followed, statements, blockOf, statementAt}
 use Rattle.program_parser.specs.Reading.{Good as InText}
-use Rattle.program_parser.proofs.Tokens.{Slashes}
+use Rattle.program_parser.proofs.Tokens.{Slashes, good-operand}
 use Rattle.program_exact.specs.Machine.{Mode, fresh, plain, Blocks, action, nested, Context, condition, value, listed, State, between, operand, operand-line, after, condition-next, body, print-next, finished, list, mainOf, printed, closed as closed-state, elseStep, finishedStep, exit, operandStep, beginStep, listStep, step}
 use Rattle.program_exact.proofs.Facts.{each, by-test, idle, idle-operand, operand-starts}
 use Rattle.program_exact.proofs.Walks.{Away, Walk, stay, go, walk-join, pass, pass-operand, walk-in, after-in, operand-in, operand-after-in, onward-after, onward-operand, at-end, operand-still, operand-test}
@@ -150,3 +150,270 @@ module _ (edition : ℕ) (s : List ℕ) where
         (reads-weaken edition s (Whole edition s (listed n b)) (Whole edition s (listed n b)) (print-next n b) u (u .start) (suc (u .start)) (expressionAt edition s levels true u) (λ a v y f. f) (omega arith)
         (expression-reads edition s levels true (listed n b) (print-next n b) u refl g (print-starts n b (u .kind) q))))))
       (λ q. record { pending = n; state = print-next n b; walk = stay (print-next n b) u; good = g; onward = omega arith; stands = print-ends n b (u .kind) q; own = inl refl })
+
+  -- ---- conditions and bodies
+
+  pub operand-start : (t : Token) → InText edition s 0 t → t .start ≤ asOperand edition s t .start
+  operand-start t g =
+      good-operand edition s (t .start) t (record { after = omega arith; ordered = g .ordered; within = g .within; longer = g .longer; placed = g .placed }) .after
+
+  closed-pauses : (c : Context) (x z v : State) (o : Token) (p : ℕ) (r : Read Expression) → ((k : Kind) → exit c k ≡ cond (same k close-paren) (some z) none)
+      → step edition z ERE ≡ some v → Reads edition s (Whole edition s c) x o p r → Pauses z x o p (closed edition s r)
+  unfolding closed rank
+  closed-pauses c x z v o p (no outcome place) h n g = g
+  closed-pauses c x z v o p (ok e t) h n g =
+      let at : step edition (g .state) (t .kind) ≡ cond (same (t .kind) close-paren) (some z) none = g .fact ∙ h (t .kind) in
+      by-test (Pauses z x o p) (is close-paren t) (ok e (tokenAfter edition s t)) (no _ _)
+      (λ q.
+        let on : t .start < tokenAfter edition s t .start = onward-after edition s t (g .good) (known edition s (λ k. same k text-end ≡ false) (t .kind) close-paren q refl) in
+        record {
+          walk = walk-join edition s x o (g .state) t z (operandAfter edition s t) (g .walk) (pass-operand edition s (g .state) t z v (at ∙ rw q) n);
+          good = after-in edition s t (g .good);
+          onward = omega (arith, g .onward, on);
+        })
+      (λ q. later edition s x o (g .state) t _ _ (g .walk) (refused edition s (g .state) t (at ∙ rw q)))
+
+  pub condition-reads : (levels n : ℕ) (b : Blocks) (u : Token) → InText edition s 0 u → Pauses (body n b) (condition-next n b) u (suc (u .start)) (conditionAt edition s levels u)
+  unfolding conditionAt step exit rank
+  condition-reads levels n b u g =
+      let x : State = condition-next n b in
+      let y : State = operand fresh (condition n b) in
+      let v : Token = operandAfter edition s u in
+      let r : Read Expression = inside edition s levels false expressions u v in
+      by-test (Pauses (body n b) x u (suc (u .start))) (is open-paren u) (closed edition s r) (no _ _)
+      (λ q.
+        let o : step edition x (u .kind) ≡ some y = rw q in
+        let on : u .start < v .start = onward-operand edition s u g (known edition s (λ k. same k text-end ≡ false) (u .kind) open-paren q refl) in
+        closed-pauses (condition n b) x (body n b) (after plain (value n b)) u (suc (u .start)) r (λ k. refl) (ere-body edition n b)
+        (reads-weaken edition s (Whole edition s (condition n b)) (Whole edition s (condition n b)) x u (suc (u .start)) (suc (v .start)) r (λ a w z f. f) (omega (arith, on))
+        (inside-reads edition s levels .whole false (condition n b) x u y v refl
+        (record { next = y; opens = o; walk = pass-operand edition s x u y (after plain (condition n b)) o (ere-operand edition fresh (condition n b)); opener = g; good = operand-after-in edition s u g }) refl)))
+      (λ q. refused edition s x u (rw q))
+
+  body-first : (n : ℕ) (b : Blocks) (k : Kind) → same k newline ≡ false → step edition (body n b) k ≡ beginStep edition n b k
+  unfolding step
+  body-first n b k e = rw e
+
+  body-line : (n : ℕ) (b : Blocks) → step edition (body n b) newline ≡ some (body n b)
+  unfolding step rank
+  body-line n b = refl
+
+  body-reads : (inMain : Bool) (f : Token → Read Statement) → StatementReads inMain f → (n : ℕ) (b : Blocks) (x : State) (o : Token) (p : ℕ) (t : Token) → mainOf b ≡ inMain
+      → Paused (body n b) x o p t → SReads n b x o p (bodyAt edition s f t)
+  body-reads inMain f h n b x o p t m g =
+      let i = lines-in edition s (body n b) (after plain (value n b)) (body-line n b) (ere-body edition n b) (length s) t (g .good) (omega arith) in
+      let v : Token = pastNewlines edition s t in
+      s-earlier n b x o (body n b) v p (suc (v .start)) (f v) (walk-join edition s x o (body n b) (asOperand edition s t) (body n b) v (g .walk) (i .0))
+      (omega (arith, i .2, operand-start t (g .good), g .onward)) (h n b (body n b) v m (i .1) (body-first n b (v .kind) (i .3)))
+
+  -- ---- `else`
+
+  abbrev Elses : State → Token → ℕ → Blocks → Token → Type 0
+  Elses y t n b w = (Walk edition s y t (body n b) (asOperand edition s w)) × (InText edition s 0 w) × (t .start ≤ w .start)
+
+  list-line : (n : ℕ) (p : Bool) (b : Blocks) → step edition (list n p b) newline ≡ some (list n p b)
+  unfolding step listStep rank
+  list-line n p b = refl
+
+  list-mark : (n : ℕ) (p : Bool) (b : Blocks) → not p ≡ true → step edition (list n p b) semicolon ≡ some (list n true b)
+  unfolding step listStep rank
+  list-mark n p b e = rw e
+
+  list-else : (n : ℕ) (p : Bool) (b : Blocks) → step edition (list (suc n) p b) ELSE ≡ some (body n b)
+  unfolding step listStep rank
+  list-else n p b = refl
+
+  -- one token of a list, and the next
+  list-pass : (x : State) (n : ℕ) (p : Bool) (b : Blocks) (j : Kind) (t : Token) → is j t ≡ true → step edition x j ≡ some (list n p b) → Walk edition s x t (list n p b) (operandAfter edition s t)
+  list-pass x n p b j t q h =
+      pass-operand edition s x t (list n p b) (after plain (value 0 b)) (ap (step edition x) (same-is (t .kind) j q) ∙ h) (ere-list edition n p b)
+
+  else-found : (i n : ℕ) (p : Bool) (b : Blocks) (t w : Token) → InText edition s 0 t → elseAfter edition s i true p t ≡ some w → Elses (list (suc n) p b) (asOperand edition s t) n b w
+  unfolding elseAfter among rank
+  else-found zero n p b t w g = λ h. absurd (none-some h)
+  else-found (suc i) n p b t w g =
+      let x : State = list (suc n) p b in
+      let E : Option Token → Type 0 = λ o. o ≡ some w → Elses x (asOperand edition s t) n b w in
+      let v : Token = tokenAfter edition s t in
+      let back : (j : Kind) → is j t ≡ true → among Slashes j ≡ false → Elses x t n b w → Elses x (asOperand edition s t) n b w =
+        λ j q e k. subst (λ (z : Token). Elses x z n b w) (sym (unread j t q e)) k in
+      let on : (j : Kind) → is j t ≡ true → same j text-end ≡ false → t .start < operandAfter edition s t .start =
+        λ j q e. onward-operand edition s t g (known edition s (λ k. same k text-end ≡ false) (t .kind) j q e) in
+      by-test E (is newline t) (elseAfter edition s i true p v) _
+      (λ q e.
+        let r = else-found i n p b v w (after-in edition s t g) e in
+        back newline q refl (walk-join edition s x t x (asOperand edition s v) (body n b) (asOperand edition s w) (list-pass x (suc n) p b newline t q (list-line (suc n) p b)) (r .0), r .1, omega (arith, r .2, on newline q refl)))
+      (λ q. by-test E (is semicolon t && not p) (elseAfter edition s i true true v) _
+      (λ q e.
+        let two = and-true (is semicolon t) (not p) q in
+        let r = else-found i n true b v w (after-in edition s t g) e in
+        back semicolon (two .0) refl
+        (walk-join edition s x t (list (suc n) true b) (asOperand edition s v) (body n b) (asOperand edition s w) (list-pass x (suc n) true b semicolon t (two .0) (list-mark (suc n) p b (two .1))) (r .0), r .1,
+          omega (arith, r .2, on semicolon (two .0) refl)))
+      (λ q. by-test E (is ELSE t && true) (some v) none
+      (λ q e.
+        let f : is ELSE t ≡ true = and-true (is ELSE t) true q .0 in
+        let same-token : v ≡ w = some-one refl e in
+        back ELSE f refl (subst (λ (z : Token). Elses x t n b z) same-token
+        (pass-operand edition s x t (body n b) (after plain (value n b)) (ap (step edition x) (same-is (t .kind) ELSE f) ∙ list-else n p b) (ere-body edition n b), after-in edition s t g,
+          omega (arith, onward-after edition s t g (known edition s (λ k. same k text-end ≡ false) (t .kind) ELSE f refl)))))
+      (λ q e. absurd (none-some e))))
+
+  finished-line : (n : ℕ) (b : Blocks) → finishedStep n b newline ≡ some (list n false b)
+  unfolding finishedStep among rank
+  finished-line n b = refl
+
+  finished-mark : (n : ℕ) (b : Blocks) → finishedStep n b semicolon ≡ some (list n true b)
+  unfolding finishedStep among rank
+  finished-mark n b = refl
+
+  else-ended : (i n : ℕ) (b : Blocks) (y : State) (t w : Token) → InText edition s 0 t → step edition y (t .kind) ≡ finishedStep (suc n) b (t .kind) → elseAfter edition s i false false t ≡ some w
+      → Elses y t n b w
+  unfolding elseAfter rank
+  else-ended zero n b y t w g h = λ e. absurd (none-some e)
+  else-ended (suc i) n b y t w g h =
+      let E : Option Token → Type 0 = λ o. o ≡ some w → Elses y t n b w in
+      let v : Token = tokenAfter edition s t in
+      let on : (j : Kind) → is j t ≡ true → same j text-end ≡ false → t .start < operandAfter edition s t .start =
+        λ j q e. onward-operand edition s t g (known edition s (λ k. same k text-end ≡ false) (t .kind) j q e) in
+      let goes : (j : Kind) (p : Bool) → is j t ≡ true → finishedStep (suc n) b j ≡ some (list (suc n) p b) → step edition y j ≡ some (list (suc n) p b) =
+        λ j p q e. sym (ap (step edition y) (same-is (t .kind) j q)) ∙ (h ∙ (ap (finishedStep (suc n) b) (same-is (t .kind) j q) ∙ e)) in
+      by-test E (is newline t) (elseAfter edition s i true false v) _
+      (λ q e.
+        let r = else-found i n false b v w (after-in edition s t g) e in
+        (walk-join edition s y t (list (suc n) false b) (asOperand edition s v) (body n b) (asOperand edition s w) (list-pass y (suc n) false b newline t q (goes newline false q (finished-line (suc n) b))) (r .0), r .1,
+          omega (arith, r .2, on newline q refl)))
+      (λ q. by-test E (is semicolon t && true) (elseAfter edition s i true true v) _
+      (λ q e.
+        let f : is semicolon t ≡ true = and-true (is semicolon t) true q .0 in
+        let r = else-found i n true b v w (after-in edition s t g) e in
+        (walk-join edition s y t (list (suc n) true b) (asOperand edition s v) (body n b) (asOperand edition s w) (list-pass y (suc n) true b semicolon t f (goes semicolon true f (finished-mark (suc n) b))) (r .0), r .1,
+          omega (arith, r .2, on semicolon f refl)))
+      (λ q. by-test E (is ELSE t && false) (some v) none (λ q e. absurd (clash (sym (and-true (is ELSE t) false q .1)))) (λ q e. absurd (none-some e))))
+
+  -- an `else` after a statement
+  else-after : (z : Bool) (n : ℕ) (b : Blocks) (y : State) (t w : Token) → InText edition s 0 t → Stands z (suc n) b y (t .kind) → elseAfter edition s (length s) z false t ≡ some w
+      → (Walk edition s y (cond z (asOperand edition s t) t) (body n b) (asOperand edition s w)) × (InText edition s 0 w) × (t .start ≤ w .start)
+  else-after true n b y t w g h e =
+      let r = else-found (length s) n false b t w g e in
+      (subst (λ (x : State). Walk edition s x (asOperand edition s t) (body n b) (asOperand edition s w)) (sym h) (r .0), r .1, omega (arith, r .2, operand-start t g))
+  else-after false n b y t w g h e = else-ended (length s) n b y t w g h e
+
+  -- ---- `if`, `while`
+
+  s-map : (f : Statement → Statement) → ((a : Statement) → ended (f a) ≡ ended a) → (n : ℕ) (b : Blocks) (x : State) (t : Token) (p : ℕ) (r : Read Statement) → SReads n b x t p r
+      → SReads n b x t p (map f r)
+  s-map f e n b x t p (no outcome place) g = g
+  s-map f e n b x t p (ok a u) g =
+      record {
+        pending = g .pending;
+        state = g .state;
+        walk = subst (λ (z : Bool). Walk edition s x t (g .state) (cond z (asOperand edition s u) u)) (sym (e a)) (g .walk);
+        good = g .good;
+        onward = g .onward;
+        stands = subst (λ (z : Bool). Stands z (g .pending) b (g .state) (u .kind)) (sym (e a)) (g .stands);
+        own = subst (λ (z : Bool). (g .pending ≡ n) ⊎ (elseAfter edition s (length s) z false u ≡ none)) (sym (e a)) (g .own);
+      }
+
+  module _ (inMain : Bool) (f : Token → Read Statement) (h : StatementReads inMain f) where
+    else-reads : (n : ℕ) (b : Blocks) (x : State) (t : Token) (p : ℕ) (c : Expression) (a : Statement) (v : Token) (o : Option Token) → mainOf b ≡ inMain
+        → elseAfter edition s (length s) (ended a) false v ≡ o → StatementRead (suc n) b x t p a v → SReads n b x t p (elseAt edition s f c a v o)
+    unfolding ended
+    else-reads n b x t p c a v none m e g =
+        record { pending = g .pending; state = g .state; walk = g .walk; good = g .good; onward = g .onward; stands = g .stands; own = inr e }
+    else-reads n b x t p c a v (some w) m e g =
+        let counted : g .pending ≡ suc n = ⊎-elim (λ z. z) (λ z. absurd (none-some (sym z ∙ e))) (g .own) in
+        let r = else-after (ended a) n b (g .state) v w (g .good) (subst (λ (k : ℕ). Stands (ended a) k b (g .state) (v .kind)) counted (g .stands)) e in
+        s-map (if-else c a) (λ d. refl) n b x t p (bodyAt edition s f w)
+        (body-reads inMain f h n b x t p w m
+        (record { walk = walk-join edition s x t (g .state) (cond (ended a) (asOperand edition s v) v) (body n b) (asOperand edition s w) (g .walk) (r .0); good = r .1; onward = omega (arith, r .2, g .onward) }))
+
+    then-reads : (n : ℕ) (b : Blocks) (x : State) (t : Token) (p : ℕ) (c : Expression) (r : Read Statement) → mainOf b ≡ inMain → SReads (suc n) b x t p r
+        → SReads n b x t p (bind r (λ a v. elseAt edition s f c a v (elseAfter edition s (length s) (ended a) false v)))
+    then-reads n b x t p c (ok a v) m g = else-reads n b x t p c a v (elseAfter edition s (length s) (ended a) false v) m refl g
+    then-reads n b x t p c (no outcome place) m g = g
+
+    if-conditioned : (n : ℕ) (b : Blocks) (x : State) (t : Token) (p : ℕ) (r : Read Expression) → mainOf b ≡ inMain → Pauses (body (suc n) b) x t p r → SReads n b x t p (bind r (thenAt edition s f))
+    if-conditioned n b x t p (ok c u) m g = then-reads n b x t p c (bodyAt edition s f u) m (body-reads inMain f h (suc n) b x t p u m g)
+    if-conditioned n b x t p (no outcome place) m g = g
+
+    while-conditioned : (n : ℕ) (b : Blocks) (x : State) (t : Token) (p : ℕ) (r : Read Expression) → mainOf b ≡ inMain → Pauses (body n b) x t p r
+        → SReads n b x t p (bind r (λ c v. map (while c) (bodyAt edition s f v)))
+    unfolding ended
+    while-conditioned n b x t p (ok c u) m g = s-map (while c) (λ d. refl) n b x t p (bodyAt edition s f u) (body-reads inMain f h n b x t p u m g)
+    while-conditioned n b x t p (no outcome place) m g = g
+
+    if-reads : (levels n : ℕ) (b : Blocks) (u : Token) → mainOf b ≡ inMain → InText edition s 0 u → SReads n b (condition-next (suc n) b) u (suc (u .start)) (ifAt edition s f levels u)
+    unfolding ifAt
+    if-reads levels n b u m g = if-conditioned n b (condition-next (suc n) b) u (suc (u .start)) (conditionAt edition s levels u) m (condition-reads levels (suc n) b u g)
+
+    while-reads : (levels n : ℕ) (b : Blocks) (u : Token) → mainOf b ≡ inMain → InText edition s 0 u → SReads n b (condition-next n b) u (suc (u .start)) (whileAt edition s f levels u)
+    unfolding whileAt
+    while-reads levels n b u m g = while-conditioned n b (condition-next n b) u (suc (u .start)) (conditionAt edition s levels u) m (condition-reads levels n b u g)
+
+    -- ---- a statement
+
+    abbrev BracesRead : (Token → Read Statement) → Type 0
+    BracesRead braces = (n : ℕ) (b : Blocks) (x : State) (t : Token) → mainOf b ≡ inMain → InText edition s 0 t → is open-brace t ≡ true
+        → step edition x (t .kind) ≡ some (list 0 false (nested n b)) → SReads n b x t (suc (t .start)) (braces t)
+
+    value-begins : (n : ℕ) (b : Blocks) (k : Kind) → same k semicolon ≡ false → same k open-brace ≡ false → same k IF ≡ false → same k WHILE ≡ false → same k PRINT ≡ false
+        → same k EXIT ≡ false → (same k NEXT && mainOf b) ≡ false → beginStep edition n b k ≡ operandStep edition fresh (value n b) k
+    unfolding beginStep
+    value-begins n b k a1 a2 a3 a4 a5 a6 a7 = rw (a1, a2, a3, a4, a5, a6, a7)
+
+    next-begins : (n : ℕ) (b : Blocks) → mainOf b ≡ true → beginStep edition n b NEXT ≡ some (finished n b)
+    unfolding beginStep rank
+    next-begins n b e = rw e
+
+    -- a statement of one token
+    one-reads : (n : ℕ) (b : Blocks) (x : State) (t : Token) (a : Statement) → ended a ≡ false → InText edition s 0 t → same (t .kind) text-end ≡ false → step edition x (t .kind) ≡ some (finished n b)
+        → StatementRead n b x t (suc (t .start)) a (tokenAfter edition s t)
+    unfolding step
+    one-reads n b x t a e g q h =
+        let v : Token = tokenAfter edition s t in
+        record {
+          pending = n;
+          state = finished n b;
+          walk = subst (λ (z : Bool). Walk edition s x t (finished n b) (cond z (asOperand edition s v) v)) (sym e) (pass edition s x t (finished n b) h (finished-ere edition n b));
+          good = after-in edition s t g;
+          onward = omega (arith, onward-after edition s t g q);
+          stands = subst (λ (z : Bool). Stands z n b (finished n b) (v .kind)) (sym e) refl;
+          own = inl refl;
+        }
+
+    statement-of-reads : (levels : ℕ) (braces : Token → Read Statement) → BracesRead braces → StatementReads inMain (statementOf edition s inMain levels f braces)
+    unfolding statementOf beginStep ended exit rank
+    statement-of-reads levels braces k n b x t m g e =
+        let R : Read Statement → Type 0 = SReads n b x t (suc (t .start)) in
+        let v : Token = tokenAfter edition s t in
+        let begins : (j : Kind) (y : State) → is j t ≡ true → beginStep edition n b j ≡ some y → step edition x (t .kind) ≡ some y =
+          λ j y q z. e ∙ known edition s (λ i. beginStep edition n b i ≡ some y) (t .kind) j q z in
+        let no-end : (j : Kind) → is j t ≡ true → same j text-end ≡ false → same (t .kind) text-end ≡ false = λ j q z. known edition s (λ i. same i text-end ≡ false) (t .kind) j q z in
+        by-test R (is semicolon t) (ok empty v) _
+        (λ q. record {
+          pending = n; state = list n false b; walk = list-pass x n false b semicolon t q (sym (ap (step edition x) (same-is (t .kind) semicolon q)) ∙ begins semicolon (list n false b) q refl);
+          good = after-in edition s t g; onward = omega (arith, onward-after edition s t g (no-end semicolon q refl)); stands = refl; own = inl refl;
+        })
+        (λ q1. by-test R (is open-brace t) (braces t) _ (λ q. k n b x t m g q (begins open-brace (list 0 false (nested n b)) q refl))
+        (λ q2. by-test R (is IF t) (ifAt edition s f levels v) _
+          (λ q. s-earlier n b x t (condition-next (suc n) b) v (suc (t .start)) (suc (v .start)) (ifAt edition s f levels v)
+            (pass edition s x t (condition-next (suc n) b) (begins IF (condition-next (suc n) b) q refl) (condition-ere edition (suc n) b))
+            (omega (arith, onward-after edition s t g (no-end IF q refl))) (if-reads levels n b v m (after-in edition s t g)))
+        (λ q3. by-test R (is WHILE t) (whileAt edition s f levels v) _
+          (λ q. s-earlier n b x t (condition-next n b) v (suc (t .start)) (suc (v .start)) (whileAt edition s f levels v)
+            (pass edition s x t (condition-next n b) (begins WHILE (condition-next n b) q refl) (condition-ere edition n b))
+            (omega (arith, onward-after edition s t g (no-end WHILE q refl))) (while-reads levels n b v m (after-in edition s t g)))
+        (λ q4. by-test R (is PRINT t) (printAt edition s levels (operandAfter edition s t)) _
+          (λ q. s-earlier n b x t (print-next n b) (operandAfter edition s t) (suc (t .start)) (operandAfter edition s t .start) (printAt edition s levels (operandAfter edition s t))
+            (pass-operand edition s x t (print-next n b) (after plain (listed n b)) (begins PRINT (print-next n b) q refl) (ere-print edition n b))
+            (omega (arith, onward-operand edition s t g (no-end PRINT q refl))) (print-reads levels n b (operandAfter edition s t) (operand-after-in edition s t g)))
+        (λ q5. by-test R (is EXIT t) (ok exit-tree v) _ (λ q. one-reads n b x t exit-tree refl g (no-end EXIT q refl) (begins EXIT (finished n b) q refl))
+        (λ q6. by-test R (is NEXT t && inMain) (ok next v) _
+          (λ q.
+            let two = and-true (is NEXT t) inMain q in
+            one-reads n b x t next refl g (no-end NEXT (two .0) refl) (begins NEXT (finished n b) (two .0) (next-begins n b (m ∙ two .1))))
+          (λ q7.
+            as-statement expression (λ a. refl) n b x t (suc (t .start)) (expressionAt edition s levels false t)
+            (expression-reads edition s levels false (value n b) x t refl g
+            (e ∙ value-begins n b (t .kind) q1 q2 q3 q4 q5 q6 (ap (λ (z : Bool). is NEXT t && z) m ∙ q7))))))))))
