@@ -21,7 +21,7 @@ use Rattle.program_reader.specs.Expressions.{closed, tier, inside, expressionAt
 use Rattle.program_reader.specs.Statements.{ended, noBody, listed as listed-of, printAt, conditionAt, elseAfter, bodyAt, elseAt, thenAt, ifAt, whileAt, statementOf, followed, statements, blockOf, statementAt}
 use Rattle.program_parser.specs.Reading.{Good as InText}
 use Rattle.program_parser.proofs.Tokens.{Slashes, good-operand}
-use Rattle.program_exact.specs.Machine.{Mode, fresh, plain, Blocks, action, nested, Context, condition, value, listed, State, between, operand, operand-line, after, condition-next, body, print-next, finished, list, mainOf, printed, closed as closed-state, elseStep, finishedStep, exit, operandStep, beginStep, listStep, step}
+use Rattle.program_exact.specs.Machine.{Mode, fresh, plain, Blocks, action, nested, Context, condition, value, listed, pattern, State, between, operand, operand-line, after, condition-next, body, print-next, finished, list, mainOf, printed, closed as closed-state, elseStep, finishedStep, exit, operandStep, beginStep, listStep, step}
 use Rattle.program_exact.proofs.Facts.{each, by-test, idle, idle-operand, operand-starts}
 use Rattle.program_exact.proofs.Walks.{Away, Walk, stay, go, walk-join, pass, pass-operand, walk-in, after-in, operand-in, operand-after-in, onward-after, onward-operand, at-end, operand-still, operand-test}
 use Rattle.program_exact.proofs.Readings.{ere-operand, ere-line, ere-body, ere-list, ere-print, ere-between, condition-ere, finished-ere, after-ere, Refusal, Arrived, Reads, refused, too-deep, later, earlier, reads-map, reads-weaken, reads-then, single, lines-in, lines-after}
@@ -417,3 +417,258 @@ module _ (edition : ℕ) (s : List ℕ) where
             as-statement expression (λ a. refl) n b x t (suc (t .start)) (expressionAt edition s levels false t)
             (expression-reads edition s levels false (value n b) x t refl g
             (e ∙ value-begins n b (t .kind) q1 q2 q3 q4 q5 q6 (ap (λ (z : Bool). is NEXT t && z) m ∙ q7))))))))))
+
+  -- ---- lists of statements
+
+  else-line : (j : ℕ) (z p : Bool) (t : Token) → is newline t ≡ true → elseAfter edition s (suc j) z p t ≡ elseAfter edition s j true p (tokenAfter edition s t)
+  unfolding elseAfter
+  else-line j z p t q = rw q
+
+  else-mark : (j : ℕ) (z : Bool) (t : Token) → is newline t ≡ false → is semicolon t ≡ true → elseAfter edition s (suc j) z false t ≡ elseAfter edition s j true true (tokenAfter edition s t)
+  unfolding elseAfter
+  else-mark j z t r q = rw (r, q)
+
+  else-here : (j : ℕ) (p : Bool) (t : Token) → is newline t ≡ false → is semicolon t ≡ false → is ELSE t ≡ true → elseAfter edition s (suc j) true p t ≡ some (tokenAfter edition s t)
+  unfolding elseAfter
+  else-here j p t a b q = rw (a, b, q)
+
+  -- no `if` can have an `else` here, or none follows
+  abbrev NoElse : ℕ → Bool → Token → Type 0
+  NoElse n p t = (n ≡ 0) ⊎ ((j : ℕ) × (length s ≤ j + t .start) × (elseAfter edition s j true p t ≡ none))
+
+  -- a token that is no text's end is found with one turn more
+  fuelled : (t : Token) (j : ℕ) → InText edition s 0 t → same (t .kind) text-end ≡ false → length s ≤ j + t .start → (i : ℕ) × (j ≡ suc i)
+  fuelled t zero g e h = absurd (clash (sym (at-end edition s t g (omega arith)) ∙ e))
+  fuelled t (suc i) g e h = (i, refl)
+
+  none-after-line : (n : ℕ) (p : Bool) (t : Token) → InText edition s 0 t → is newline t ≡ true → NoElse n p t → NoElse n p (tokenAfter edition s t)
+  unfolding rank
+  none-after-line n p t g q (inl e) = inl e
+  none-after-line n p t g q (inr h) =
+      let end : same (t .kind) text-end ≡ false = known edition s (λ k. same k text-end ≡ false) (t .kind) newline q refl in
+      let i = fuelled t (h .0) g end (h .1) in
+      inr (i .0, omega (arith, onward-after edition s t g end, h .1, i .1),
+        sym (else-line (i .0) true p t q) ∙ subst (λ (j : ℕ). elseAfter edition s j true p t ≡ none) (i .1) (h .2))
+
+  none-after-mark : (n : ℕ) (t : Token) → InText edition s 0 t → is semicolon t ≡ true → NoElse n false t → NoElse n true (tokenAfter edition s t)
+  unfolding rank
+  none-after-mark n t g q (inl e) = inl e
+  none-after-mark n t g q (inr h) =
+      let end : same (t .kind) text-end ≡ false = known edition s (λ k. same k text-end ≡ false) (t .kind) semicolon q refl in
+      let i = fuelled t (h .0) g end (h .1) in
+      inr (i .0, omega (arith, onward-after edition s t g end, h .1, i .1),
+        sym (else-mark (i .0) true t (known edition s (λ k. same k newline ≡ false) (t .kind) semicolon q refl) q) ∙ subst (λ (j : ℕ). elseAfter edition s j true false t ≡ none) (i .1) (h .2))
+
+  -- the same after a statement that needs an end
+  none-after-end : (n : ℕ) (k : Kind) (t : Token) → InText edition s 0 t → among enders (t .kind) ≡ true → (n ≡ 0) ⊎ (elseAfter edition s (length s) false false t ≡ none)
+      → NoElse n (same (t .kind) semicolon) (tokenAfter edition s t)
+  unfolding among rank
+  none-after-end n k t g q (inl e) = inl e
+  none-after-end n k t g q (inr h) =
+      let end : same (t .kind) text-end ≡ false = each (λ k. same k text-end ≡ false) enders (refl, (refl, tt)) (t .kind) q in
+      let i = fuelled t (length s) g end (omega arith) in
+      let on : t .start < tokenAfter edition s t .start = onward-after edition s t g end in
+      let found : elseAfter edition s (suc (i .0)) false false t ≡ none = subst (λ (j : ℕ). elseAfter edition s j false false t ≡ none) (i .1) h in
+      let counted : length s ≡ suc (i .0) = i .1 in
+      ⊎-elim
+      (λ e. inr (i .0, omega (arith, on, counted),
+        subst (λ (b : Bool). elseAfter edition s (i .0) true b (tokenAfter edition s t) ≡ none) (sym (known edition s (λ k. same k semicolon ≡ false) (t .kind) newline e refl))
+        (sym (else-line (i .0) false false t e) ∙ found)))
+      (λ e.
+        let f : is semicolon t ≡ true = sym (single edition s (t .kind) semicolon) ∙ e in
+        inr (i .0, omega (arith, on, counted),
+        subst (λ (b : Bool). elseAfter edition s (i .0) true b (tokenAfter edition s t) ≡ none) (sym f)
+        (sym (else-mark (i .0) false t (known edition s (λ k. same k newline ≡ false) (t .kind) semicolon f refl) f) ∙ found)))
+      (or-cases (same (t .kind) newline) (among (semicolon ∷ []) (t .kind)) q)
+
+  ere-closed : (b : Blocks) → (z : State) × (step edition (closed-state b) ERE ≡ some z)
+  ere-closed (action x) = (after plain pattern, ere-between edition)
+  ere-closed (nested n b) = (after plain (value 0 b), ere-list edition n false b)
+
+  list-close : (n : ℕ) (p : Bool) (b : Blocks) → step edition (list n p b) close-brace ≡ some (closed-state b)
+  unfolding step listStep rank
+  list-close n p b = refl
+
+  finished-close : (n : ℕ) (b : Blocks) → finishedStep n b close-brace ≡ some (closed-state b)
+  unfolding finishedStep among rank
+  finished-close n b = refl
+
+  no-else : (b : Blocks) → beginStep edition 0 b ELSE ≡ none
+  unfolding beginStep among rank
+  no-else b = idle-operand edition fresh (value 0 b) ELSE refl
+
+  list-begin : (n : ℕ) (p : Bool) (b : Blocks) (k : Kind) → same k newline ≡ false → same k close-brace ≡ false → same k semicolon ≡ false → (n ≡ 0) ⊎ (same k ELSE ≡ false)
+      → step edition (list n p b) k ≡ beginStep edition 0 b k
+  unfolding step listStep
+  list-begin n p b k a c d (inr e) = rw (a, c, d, e)
+  list-begin n p b k a c d (inl e) =
+      rw (a, c, d) (by-test (λ x. x ≡ beginStep edition 0 b k) (same k ELSE) _ _
+      (λ q. ap (λ m. elseStep m b) e ∙ sym (ap (beginStep edition 0 b) (same-is k ELSE q) ∙ no-else b)) (λ q. refl))
+
+  not-end : (k : Kind) → among enders k ≡ true → same k text-end ≡ false
+  unfolding among rank
+  not-end k q = each (λ k. same k text-end ≡ false) enders (refl, (refl, tt)) k q
+
+  ends-list : (n : ℕ) (b : Blocks) (k : Kind) → among enders k ≡ true → finishedStep n b k ≡ some (list n (same k semicolon) b)
+  unfolding finishedStep
+  ends-list n b k q = rw q
+
+  no-finish : (n : ℕ) (b : Blocks) (k : Kind) → among enders k ≡ false → same k close-brace ≡ false → finishedStep n b k ≡ none
+  unfolding finishedStep
+  no-finish n b k q r = rw (q, r)
+
+  no-slash-brace : among Slashes close-brace ≡ false
+  unfolding among rank
+  no-slash-brace = refl
+
+  no-slash-line : among Slashes newline ≡ false
+  unfolding among rank
+  no-slash-line = refl
+
+  no-slash-mark : among Slashes semicolon ≡ false
+  unfolding among rank
+  no-slash-mark = refl
+
+  list-lone : (n : ℕ) (b : Blocks) → step edition (list n true b) semicolon ≡ some (list 0 false b)
+  unfolding step listStep beginStep rank
+  list-lone n b = refl
+
+  lone-followed : (rest : Token → Read Statement) (z x : State) (o : Token) (l : ℕ) (v : Token) → Pauses z x o l (rest v) → Pauses z x o l (followed edition s rest (ok empty v))
+  unfolding followed ended
+  lone-followed rest z x o l v g = pauses-map (sequence empty) z x o l (rest v) g
+
+  module _ (inMain : Bool) (statement : Token → Read Statement) (h : StatementReads inMain statement)
+      (semi : (t : Token) → is semicolon t ≡ true → statement t ≡ ok empty (tokenAfter edition s t)) where
+    abbrev ListReads : ℕ → Type 0
+    ListReads i = (n : ℕ) (p : Bool) (b : Blocks) (x : State) (o : Token) (l : ℕ) (t : Token) → mainOf b ≡ inMain → suc (length s) ≤ i + t .start → NoElse n p t
+        → Paused (list n p b) x o l t → Pauses (closed-state b) x o l (statements edition s statement i t)
+
+    -- a `}` after a statement that needs an end
+    brace-reads : (i : ℕ) (b : Blocks) (x : State) (o : Token) (l : ℕ) (y : State) (t : Token) → suc (length s) ≤ i + t .start → InText edition s 0 t → l ≤ t .start → is close-brace t ≡ true
+        → Walk edition s x o y t → step edition y (t .kind) ≡ some (closed-state b) → Pauses (closed-state b) x o l (statements edition s statement i t)
+    unfolding statements rank
+    brace-reads zero b x o l y t f g a q w e = absurd (omega (arith, f, g .ordered, g .within))
+    brace-reads (suc i) b x o l y t f g a q w e =
+        by-test (Pauses (closed-state b) x o l) (is close-brace t) (ok empty (tokenAfter edition s t)) _
+        (λ q. record {
+          walk = walk-join edition s x o y t (closed-state b) (operandAfter edition s t) w (pass-operand edition s y t (closed-state b) (ere-closed b .0) e (ere-closed b .1));
+          good = after-in edition s t g;
+          onward = omega (arith, a, onward-after edition s t g (known edition s (λ k. same k text-end ≡ false) (t .kind) close-brace q refl));
+        })
+        (λ r. absurd (clash (sym q ∙ r)))
+
+    followed-reads : (i : ℕ) → ListReads i → (b : Blocks) (x : State) (o : Token) (l : ℕ) (t : Token) (r : Read Statement) → mainOf b ≡ inMain → suc (length s) ≤ suc i + t .start → l ≤ t .start
+        → SReads 0 b x o (suc (t .start)) r → Pauses (closed-state b) x o l (followed edition s (statements edition s statement i) r)
+    unfolding followed
+    followed-reads i rest b x o l t (no outcome place) m f a g = g
+    followed-reads i rest b x o l t (ok c u) m f a g =
+        let P : Read Statement → Type 0 = Pauses (closed-state b) x o l in
+        let v : Token = tokenAfter edition s u in
+        by-test P (ended c) (map (sequence c) (statements edition s statement i u)) _
+        (λ e.
+          let w : Walk edition s x o (g .state) (asOperand edition s u) = subst (λ (z : Bool). Walk edition s x o (g .state) (cond z (asOperand edition s u) u)) e (g .walk) in
+          let y : g .state ≡ list (g .pending) false b = subst (λ (z : Bool). Stands z (g .pending) b (g .state) (u .kind)) e (g .stands) in
+          let own : (g .pending ≡ 0) ⊎ (elseAfter edition s (length s) true false u ≡ none) = subst (λ (z : Bool). (g .pending ≡ 0) ⊎ (elseAfter edition s (length s) z false u ≡ none)) e (g .own) in
+          pauses-map (sequence c) (closed-state b) x o l (statements edition s statement i u)
+          (rest (g .pending) false b x o l u m (omega (arith, f, g .onward)) (⊎-elim (λ z. inl z) (λ z. inr (length s, omega arith, z)) own)
+          (record { walk = subst (λ (q : State). Walk edition s x o q (asOperand edition s u)) y w; good = g .good; onward = omega (arith, a, g .onward) })))
+        (λ e.
+          let w : Walk edition s x o (g .state) u = subst (λ (z : Bool). Walk edition s x o (g .state) (cond z (asOperand edition s u) u)) e (g .walk) in
+          let y : step edition (g .state) (u .kind) ≡ finishedStep (g .pending) b (u .kind) = subst (λ (z : Bool). Stands z (g .pending) b (g .state) (u .kind)) e (g .stands) in
+          let own : (g .pending ≡ 0) ⊎ (elseAfter edition s (length s) false false u ≡ none) = subst (λ (z : Bool). (g .pending ≡ 0) ⊎ (elseAfter edition s (length s) z false u ≡ none)) e (g .own) in
+          by-test P (isOneOf enders u) (map (sequence c) (statements edition s statement i v)) _
+          (λ q.
+            let on : u .start < v .start = onward-after edition s u (g .good) (not-end (u .kind) q) in
+            let z : State = list (g .pending) (same (u .kind) semicolon) b in
+            pauses-map (sequence c) (closed-state b) x o l (statements edition s statement i v)
+            (rest (g .pending) (same (u .kind) semicolon) b x o l v m (omega (arith, f, g .onward, on)) (none-after-end (g .pending) (u .kind) u (g .good) q own)
+            (record {
+              walk = walk-join edition s x o (g .state) u z (operandAfter edition s u) w
+                (pass-operand edition s (g .state) u z (after plain (value 0 b)) (y ∙ ends-list (g .pending) b (u .kind) q) (ere-list edition (g .pending) (same (u .kind) semicolon) b));
+              good = after-in edition s u (g .good);
+              onward = omega (arith, a, g .onward, on);
+            })))
+          (λ q. by-test P (is close-brace u) (map (sequence c) (statements edition s statement i u)) (no _ _)
+          (λ r. pauses-map (sequence c) (closed-state b) x o l (statements edition s statement i u)
+            (brace-reads i b x o l (g .state) u (omega (arith, f, g .onward)) (g .good) (omega (arith, a, g .onward)) r w
+            (y ∙ known edition s (λ k. finishedStep (g .pending) b k ≡ some (closed-state b)) (u .kind) close-brace r (finished-close (g .pending) b))))
+          (λ r. later edition s x o (g .state) u _ _ w (refused edition s (g .state) u (y ∙ no-finish (g .pending) b (u .kind) q r)))))
+
+    marked-reads : (i : ℕ) → ListReads i → (n : ℕ) (p : Bool) (b : Blocks) (x : State) (o : Token) (l : ℕ) (t : Token) → mainOf b ≡ inMain → suc (length s) ≤ suc i + t .start → NoElse n p t
+        → Walk edition s x o (list n p b) t → InText edition s 0 t → l ≤ t .start → is semicolon t ≡ true → Pauses (closed-state b) x o l (statements edition s statement i (tokenAfter edition s t))
+    unfolding rank
+    marked-reads i rest n false b x o l t m f e w g a q =
+        let on : t .start < tokenAfter edition s t .start = onward-after edition s t g (known edition s (λ k. same k text-end ≡ false) (t .kind) semicolon q refl) in
+        rest n true b x o l (tokenAfter edition s t) m (omega (arith, f, on)) (none-after-mark n t g q e)
+        (record {
+          walk = walk-join edition s x o (list n false b) t (list n true b) (operandAfter edition s t) w (list-pass (list n false b) n true b semicolon t q (list-mark n false b refl));
+          good = after-in edition s t g; onward = omega (arith, a, on);
+        })
+    marked-reads i rest n true b x o l t m f e w g a q =
+        let on : t .start < tokenAfter edition s t .start = onward-after edition s t g (known edition s (λ k. same k text-end ≡ false) (t .kind) semicolon q refl) in
+        rest 0 false b x o l (tokenAfter edition s t) m (omega (arith, f, on)) (inl refl)
+        (record {
+          walk = walk-join edition s x o (list n true b) t (list 0 false b) (operandAfter edition s t) w (list-pass (list n true b) 0 false b semicolon t q (list-lone n b));
+          good = after-in edition s t g; onward = omega (arith, a, on);
+        })
+
+    stated-reads : (i : ℕ) → ListReads i → (n : ℕ) (p : Bool) (b : Blocks) (x : State) (o : Token) (l : ℕ) (t : Token) → mainOf b ≡ inMain → suc (length s) ≤ suc i + t .start → NoElse n p t
+        → Paused (list n p b) x o l t → is close-brace t ≡ false → is newline t ≡ false → (c : Bool) → is semicolon t ≡ c
+        → Pauses (closed-state b) x o l (followed edition s (statements edition s statement i) (statement (asOperand edition s t)))
+    unfolding rank
+    stated-reads i rest n p b x o l t m f e g q1 q2 true q =
+        let v : Token = tokenAfter edition s t in
+        let same-token : asOperand edition s t ≡ t = unread semicolon t q no-slash-mark in
+        subst (λ (r : Read Statement). Pauses (closed-state b) x o l (followed edition s (statements edition s statement i) r)) (sym (ap statement same-token ∙ semi t q))
+        (lone-followed (statements edition s statement i) (closed-state b) x o l v (marked-reads i rest n p b x o l t m f e (subst (λ (w : Token). Walk edition s x o (list n p b) w) same-token (g .walk)) (g .good) (g .onward) q))
+    stated-reads i rest n p b x o l t m f e g q1 q2 false q =
+        let u : Token = asOperand edition s t in
+        followed-reads i rest b x o l t (statement u) m f (g .onward)
+        (s-earlier 0 b x o (list n p b) u (suc (t .start)) (suc (u .start)) (statement u) (g .walk) (omega (arith, operand-start t (g .good)))
+        (h 0 b (list n p b) u m (operand-in edition s t (g .good))
+        (list-begin n p b (u .kind) (operand-test edition s newline t (refl, refl, refl, refl, refl) ∙ q2) (operand-test edition s close-brace t (refl, refl, refl, refl, refl) ∙ q1)
+        (operand-test edition s semicolon t (refl, refl, refl, refl, refl) ∙ q) (elses e (is ELSE t) refl))))
+      where
+        elses : NoElse n p t → (c : Bool) → is ELSE t ≡ c → (n ≡ 0) ⊎ (same (asOperand edition s t .kind) ELSE ≡ false)
+        elses (inl z) c r = inl z
+        elses (inr z) false r = inr (operand-test edition s ELSE t (refl, refl, refl, refl, refl) ∙ r)
+        elses (inr z) true r =
+            let k = fuelled t (z .0) (g .good) (known edition s (λ c. same c text-end ≡ false) (t .kind) ELSE r refl) (z .1) in
+            absurd (none-some (sym (subst (λ (j : ℕ). elseAfter edition s j true p t ≡ none) (k .1) (z .2)) ∙ else-here (k .0) p t q2 q r))
+
+    statements-reads : (i : ℕ) → ListReads i
+    unfolding statements rank
+    statements-reads zero n p b x o l t m f e g = absurd (omega (arith, f, g .good .ordered, g .good .within))
+    statements-reads (suc i) n p b x o l t m f e g =
+        let P : Read Statement → Type 0 = Pauses (closed-state b) x o l in
+        let z : State = list n p b in
+        let v : Token = tokenAfter edition s t in
+        let from : (j : Kind) → is j t ≡ true → among Slashes j ≡ false → Walk edition s x o z t =
+          λ j q k. subst (λ (w : Token). Walk edition s x o z w) (unread j t q k) (g .walk) in
+        let on : (j : Kind) → is j t ≡ true → same j text-end ≡ false → t .start < v .start =
+          λ j q k. onward-after edition s t (g .good) (known edition s (λ c. same c text-end ≡ false) (t .kind) j q k) in
+        by-test P (is close-brace t) (ok empty v) _
+        (λ q. record {
+          walk = walk-join edition s x o z t (closed-state b) (operandAfter edition s t) (from close-brace q no-slash-brace)
+            (pass-operand edition s z t (closed-state b) (ere-closed b .0) (ap (step edition z) (same-is (t .kind) close-brace q) ∙ list-close n p b) (ere-closed b .1));
+          good = after-in edition s t (g .good);
+          onward = omega (arith, g .onward, on close-brace q refl);
+        })
+        (λ q1. by-test P (is newline t) (statements edition s statement i v) _
+        (λ q. statements-reads i n p b x o l v m (omega (arith, f, on newline q refl)) (none-after-line n p t (g .good) q e)
+          (record {
+            walk = walk-join edition s x o z t z (operandAfter edition s t) (from newline q no-slash-line) (list-pass z n p b newline t q (list-line n p b));
+            good = after-in edition s t (g .good);
+            onward = omega (arith, g .onward, on newline q refl);
+          }))
+        (λ q2. stated-reads i (statements-reads i) n p b x o l t m f e g q1 q2 (is semicolon t) refl))
+
+    -- a block from its `{` on
+    pub block-reads : (b : Blocks) (x : State) (t : Token) → mainOf b ≡ inMain → InText edition s 0 t → is open-brace t ≡ true → step edition x (t .kind) ≡ some (list 0 false b)
+        → Pauses (closed-state b) x t (suc (t .start)) (blockOf edition s statement t)
+    unfolding blockOf rank
+    block-reads b x t m g q e =
+        let on : t .start < tokenAfter edition s t .start = onward-after edition s t g (known edition s (λ c. same c text-end ≡ false) (t .kind) open-brace q refl) in
+        pauses-map block (closed-state b) x t (suc (t .start)) (statements edition s statement (suc (length s)) (tokenAfter edition s t))
+        (statements-reads (suc (length s)) 0 false b x t (suc (t .start)) (tokenAfter edition s t) m (omega arith) (inl refl)
+        (record { walk = pass-operand edition s x t (list 0 false b) (after plain (value 0 b)) e (ere-list edition 0 false b); good = after-in edition s t g; onward = omega (arith, on) }))
