@@ -15,19 +15,25 @@ use Rattle.program_tokens.specs.Tokens.{Token, is, isOneOf, tokenAfter, asOpera
 use Rattle.program_tokens.proofs.Ranks.{same-is}
 use Rattle.program_tree.specs.Tree.{Expression, Statement, expression, print, if, if-else, while, block, next, exit as exit-tree, empty, sequence}
 use Rattle.program_grammar.specs.Sets.{enders, startsExpression, startsStatement}
-use Rattle.program_reader.specs.Read.{Read, ok, no, map, bind, operandAfter, pastIn, pastNewlines}
+use Rattle.program_reader.specs.Read.{Read, ok, no, map, bind, tooDeep, operandAfter, pastIn, pastNewlines}
 use Rattle.program_reader.specs.Operators.{expressions}
 use Rattle.program_reader.specs.Expressions.{closed, tier, inside, expressionAt}
 use Rattle.program_reader.specs.Statements.{ended, noBody, listed as listed-of, printAt, conditionAt, elseAfter, bodyAt, elseAt, thenAt, ifAt, whileAt, statementOf, followed, statements, blockOf, statementAt}
 use Rattle.program_parser.specs.Reading.{Good as InText}
 use Rattle.program_parser.proofs.Tokens.{Slashes, good-operand}
 use Rattle.program_exact.specs.Machine.{Mode, fresh, plain, Blocks, action, nested, Context, condition, value, listed, pattern, State, between, operand, operand-line, after, condition-next, body, print-next, finished, list, mainOf, printed, closed as closed-state, elseStep, finishedStep, exit, operandStep, beginStep, listStep, step}
-use Rattle.program_exact.proofs.Facts.{each, by-test, idle, idle-operand, operand-starts}
+use Rattle.program_exact.proofs.Facts.{each, by-test, idle, idle-operand, operand-starts, nothing-starts}
 use Rattle.program_exact.proofs.Walks.{Away, Walk, stay, go, walk-join, pass, pass-operand, walk-in, after-in, operand-in, operand-after-in, onward-after, onward-operand, at-end, operand-still, operand-test}
 use Rattle.program_exact.proofs.Readings.{ere-operand, ere-line, ere-body, ere-list, ere-print, ere-between, condition-ere, finished-ere, after-ere, Refusal, Arrived, Reads, refused, too-deep, later, earlier, reads-map, reads-weaken, reads-then, single, lines-in, lines-after}
 use Rattle.program_exact.proofs.Operands.{Whole, Opened, known}
 use Rattle.program_exact.proofs.Tiers.{Enough, enough-map, enough-all, line-reads, inside-reads, expression-reads}
 use Rattle.program_exact.proofs.Operands.{InnerReads}
+
+and-swap : (a b : Bool) → (a && b) ≡ (b && a)
+and-swap true true = refl
+and-swap true false = refl
+and-swap false true = refl
+and-swap false false = refl
 
 module _ (edition : ℕ) (s : List ℕ) where
   -- a walk to a state where an operand may stand: the token after what was read is read again
@@ -537,6 +543,34 @@ module _ (edition : ℕ) (s : List ℕ) where
   unfolding followed ended
   lone-followed rest z x o l v g = pauses-map (sequence empty) z x o l (rest v) g
 
+  as-block : (n : ℕ) (b : Blocks) (x : State) (t : Token) (p : ℕ) (r : Read Statement) → Pauses (list n false b) x t p r → SReads n b x t p (map block r)
+  unfolding ended
+  as-block n b x t p (ok a u) g = record { pending = n; state = list n false b; walk = g .walk; good = g .good; onward = g .onward; stands = refl; own = inl refl }
+  as-block n b x t p (no outcome place) g = g
+
+  -- what begins no statement, and what begins an expression
+  begin-none : (inMain : Bool) (n : ℕ) (b : Blocks) (k : Kind) → mainOf b ≡ inMain → startsStatement edition inMain k ≡ false → beginStep edition n b k ≡ none
+  unfolding startsStatement beginStep among
+  begin-none inMain n b k m h =
+      let a = or-false (startsExpression edition k) _ h in
+      let d = or-false (among (semicolon ∷ open-brace ∷ IF ∷ WHILE ∷ PRINT ∷ EXIT ∷ []) k) (inMain && same k NEXT) (a .1) in
+      let e1 = or-false (same k semicolon) _ (d .0) in
+      let e2 = or-false (same k open-brace) _ (e1 .1) in
+      let e3 = or-false (same k IF) _ (e2 .1) in
+      let e4 = or-false (same k WHILE) _ (e3 .1) in
+      let e5 = or-false (same k PRINT) _ (e4 .1) in
+      let e6 = or-false (same k EXIT) _ (e5 .1) in
+      let e7 : (same k NEXT && mainOf b) ≡ false = ap (λ (z : Bool). same k NEXT && z) m ∙ (and-swap (same k NEXT) inMain ∙ d .1) in
+      rw (e1 .0, e2 .0, e3 .0, e4 .0, e5 .0, e6 .0, e7) (operand-starts edition fresh (value n b) k (a .0))
+
+  only-expression : (inMain : Bool) (b : Blocks) (k : Kind) → mainOf b ≡ inMain → same k semicolon ≡ false → same k open-brace ≡ false → same k IF ≡ false → same k WHILE ≡ false
+      → same k PRINT ≡ false → same k EXIT ≡ false → (same k NEXT && mainOf b) ≡ false → startsStatement edition inMain k ≡ true → startsExpression edition k ≡ true
+  unfolding startsStatement among
+  only-expression inMain b k m q1 q2 q3 q4 q5 q6 q7 h =
+      let last : (inMain && same k NEXT) ≡ false = sym (and-swap (same k NEXT) inMain) ∙ (ap (λ (z : Bool). same k NEXT && z) (sym m) ∙ q7) in
+      ⊎-elim (λ e. e) (λ e. absurd (clash (sym e ∙ rw (q1, q2, q3, q4, q5, q6, last))))
+      (or-cases (startsExpression edition k) (among (semicolon ∷ open-brace ∷ IF ∷ WHILE ∷ PRINT ∷ EXIT ∷ []) k || (inMain && same k NEXT)) h)
+
   module _ (inMain : Bool) (statement : Token → Read Statement) (h : StatementReads inMain statement)
       (semi : (t : Token) → is semicolon t ≡ true → statement t ≡ ok empty (tokenAfter edition s t)) where
     abbrev ListReads : ℕ → Type 0
@@ -664,11 +698,69 @@ module _ (edition : ℕ) (s : List ℕ) where
         (λ q2. stated-reads i (statements-reads i) n p b x o l t m f e g q1 q2 (is semicolon t) refl))
 
     -- a block from its `{` on
+    pub block-list : (b : Blocks) (x : State) (t : Token) → mainOf b ≡ inMain → InText edition s 0 t → is open-brace t ≡ true → step edition x (t .kind) ≡ some (list 0 false b)
+        → Pauses (closed-state b) x t (suc (t .start)) (statements edition s statement (suc (length s)) (tokenAfter edition s t))
+    unfolding rank
+    block-list b x t m g q e =
+        let on : t .start < tokenAfter edition s t .start = onward-after edition s t g (known edition s (λ c. same c text-end ≡ false) (t .kind) open-brace q refl) in
+        statements-reads (suc (length s)) 0 false b x t (suc (t .start)) (tokenAfter edition s t) m (omega arith) (inl refl)
+        (record { walk = pass-operand edition s x t (list 0 false b) (after plain (value 0 b)) e (ere-list edition 0 false b); good = after-in edition s t g; onward = omega (arith, on) })
+
     pub block-reads : (b : Blocks) (x : State) (t : Token) → mainOf b ≡ inMain → InText edition s 0 t → is open-brace t ≡ true → step edition x (t .kind) ≡ some (list 0 false b)
         → Pauses (closed-state b) x t (suc (t .start)) (blockOf edition s statement t)
-    unfolding blockOf rank
+    unfolding blockOf
     block-reads b x t m g q e =
-        let on : t .start < tokenAfter edition s t .start = onward-after edition s t g (known edition s (λ c. same c text-end ≡ false) (t .kind) open-brace q refl) in
-        pauses-map block (closed-state b) x t (suc (t .start)) (statements edition s statement (suc (length s)) (tokenAfter edition s t))
-        (statements-reads (suc (length s)) 0 false b x t (suc (t .start)) (tokenAfter edition s t) m (omega arith) (inl refl)
-        (record { walk = pass-operand edition s x t (list 0 false b) (after plain (value 0 b)) e (ere-list edition 0 false b); good = after-in edition s t g; onward = omega (arith, on) }))
+        pauses-map block (closed-state b) x t (suc (t .start)) (statements edition s statement (suc (length s)) (tokenAfter edition s t)) (block-list b x t m g q e)
+
+    braces-read : BracesRead inMain statement h (blockOf edition s statement)
+    unfolding blockOf
+    braces-read n b x t m g q e =
+        as-block n b x t (suc (t .start)) (statements edition s statement (suc (length s)) (tokenAfter edition s t)) (block-list (nested n b) x t m g q e)
+
+  -- ---- levels
+
+  operand-some : (m : Mode) (c : Context) (k : Kind) → startsExpression edition k ≡ true → (y : State) × (operandStep edition m c k ≡ some y)
+  operand-some m c k h = decide (operandStep edition m c k) refl
+    where
+      decide : (o : Option State) → operandStep edition m c k ≡ o → (y : State) × (operandStep edition m c k ≡ some y)
+      decide (some y) e = (y, e)
+      decide none e = absurd (clash (sym h ∙ nothing-starts edition m c k e))
+
+  begin-some : (inMain : Bool) (n : ℕ) (b : Blocks) (k : Kind) → mainOf b ≡ inMain → startsStatement edition inMain k ≡ true → (y : State) × (beginStep edition n b k ≡ some y)
+  unfolding beginStep
+  begin-some inMain n b k m h =
+      let P : Option State → Type 0 = λ o. (y : State) × (o ≡ some y) in
+      by-test P (same k semicolon) _ _ (λ q. (list n false b, refl))
+      (λ q1. by-test P (same k open-brace) _ _ (λ q. (list 0 false (nested n b), refl))
+      (λ q2. by-test P (same k IF) _ _ (λ q. (condition-next (suc n) b, refl))
+      (λ q3. by-test P (same k WHILE) _ _ (λ q. (condition-next n b, refl))
+      (λ q4. by-test P (same k PRINT) _ _ (λ q. (print-next n b, refl))
+      (λ q5. by-test P (same k EXIT) _ _ (λ q. (finished n b, refl))
+      (λ q6. by-test P (same k NEXT && mainOf b) _ _ (λ q. (finished n b, refl))
+      (λ q7. operand-some fresh (value n b) k (only-expression inMain b k m q1 q2 q3 q4 q5 q6 q7 h))))))))
+
+  no-body-reads : (inMain : Bool) → StatementReads inMain (noBody edition inMain)
+  unfolding noBody
+  no-body-reads inMain n b x t m g e =
+      by-test (SReads n b x t (suc (t .start))) (startsStatement edition inMain (t .kind)) (no _ _) (no _ _)
+      (λ q. let i = begin-some inMain n b (t .kind) m q in too-deep edition s x (i .0) t (e ∙ i .1))
+      (λ q. refused edition s x t (e ∙ begin-none inMain n b (t .kind) m q))
+
+  statement-semi : (inMain : Bool) (levels : ℕ) (t : Token) → is semicolon t ≡ true → statementAt edition s inMain levels t ≡ ok empty (tokenAfter edition s t)
+  unfolding statementAt statementOf
+  statement-semi inMain zero t q = rw q
+  statement-semi inMain (suc levels) t q = rw q
+
+  pub statement-reads : (inMain : Bool) (levels : ℕ) → StatementReads inMain (statementAt edition s inMain levels)
+  unfolding statementAt
+  statement-reads inMain zero n b x t m g e =
+      statement-of-reads inMain (noBody edition inMain) (no-body-reads inMain) zero tooDeep (λ n b x t m g q e. too-deep edition s x (list 0 false (nested n b)) t e) n b x t m g e
+  statement-reads inMain (suc levels) n b x t m g e =
+      statement-of-reads inMain (statementAt edition s inMain levels) (statement-reads inMain levels) (suc levels) (blockOf edition s (statementAt edition s inMain levels))
+      (braces-read inMain (statementAt edition s inMain levels) (statement-reads inMain levels) (statement-semi inMain levels)) n b x t m g e
+
+  -- an action's block
+  pub action-reads : (inMain : Bool) (levels : ℕ) (x : State) (t : Token) → InText edition s 0 t → is open-brace t ≡ true → step edition x (t .kind) ≡ some (list 0 false (action inMain))
+      → Pauses between x t (suc (t .start)) (blockOf edition s (statementAt edition s inMain levels) t)
+  action-reads inMain levels x t g q e =
+      block-reads inMain (statementAt edition s inMain levels) (statement-reads inMain levels) (statement-semi inMain levels) (action inMain) x t refl g q e

@@ -404,3 +404,37 @@ module _ (edition : ℕ) where
       let v = or-false (same k variable) _ (t .1) in
       let w = or-false (same k fixed-variable) _ (v .1) in
       no-operand m c k (rw (a .0, b .0, d .0, u .0, n .0, q .0, r .0, s .0, t .0, v .0, w .0)) (called-none k (y .1))
+
+  -- what begins no operand begins no expression
+  called-some : (m : Mode) (c : Context) (k : Kind) → callStep edition m c (functionOf edition k) ≡ none → functionOf edition k ≡ none
+  called-some m c k h = go (functionOf edition k) refl
+    where
+      go : (o : Option Function) → functionOf edition k ≡ o → functionOf edition k ≡ none
+      go none e = e
+      go (some f) e = absurd (none-some (sym (sym (ap (callStep edition m c) e) ∙ h)))
+
+  none-begins : (k : Kind) → among prefixes k ≡ false → same k dollar ≡ false → among (NUMBER ∷ STRING ∷ ERE ∷ fixed-variable ∷ []) k ≡ false → among targets k ≡ false
+      → same k open-paren ≡ false → functionOf edition k ≡ none → startsExpression edition k ≡ false
+  unfolding startsExpression startsJoined among
+  none-begins k q1 q2 q3 q4 q5 q6 =
+      let a = or-false (same k bang) _ q1 in
+      let b = or-false (same k plus) _ (a .1) in
+      let d = or-false (same k minus) _ (b .1) in
+      let n = or-false (same k NUMBER) _ q3 in
+      let t = or-false (same k STRING) _ (n .1) in
+      let e = or-false (same k ERE) _ (t .1) in
+      let f = or-false (same k fixed-variable) _ (e .1) in
+      let u = or-false (same k user-name) _ q4 in
+      let v = or-false (same k variable) _ (u .1) in
+      rw (a .0, b .0, d .0, q2, n .0, t .0, e .0, f .0, u .0, v .0, q5, q6)
+
+  pub nothing-starts : (m : Mode) (c : Context) (k : Kind) → operandStep edition m c k ≡ none → startsExpression edition k ≡ false
+  unfolding operandStep fieldStep primaryStep
+  nothing-starts m c k =
+      let P : Option State → Type 0 = λ o. o ≡ none → startsExpression edition k ≡ false in
+      by-test P (among prefixes k) _ _ (λ q e. absurd (none-some (sym e)))
+      (λ q1. by-test P (same k dollar) _ _ (λ q e. absurd (none-some (sym e)))
+      (λ q2. by-test P (among (NUMBER ∷ STRING ∷ ERE ∷ fixed-variable ∷ []) k) _ _ (λ q e. absurd (none-some (sym e)))
+      (λ q3. by-test P (among targets k) _ _ (λ q e. absurd (none-some (sym e)))
+      (λ q4. by-test P (same k open-paren) _ _ (λ q e. absurd (none-some (sym e)))
+      (λ q5 e. none-begins k q1 q2 q3 q4 q5 (called-some (settle m) c k e))))))
