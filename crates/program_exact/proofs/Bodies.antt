@@ -381,7 +381,7 @@ module _ (edition : ℕ) (s : List ℕ) where
         record {
           pending = n;
           state = finished n b;
-          walk = subst (λ (z : Bool). Walk edition s x t (finished n b) (cond z (asOperand edition s v) v)) (sym e) (pass edition s x t (finished n b) h (finished-ere edition n b));
+          walk = subst (λ (z : Bool). Walk edition s x t (finished n b) (cond z (asOperand edition s v) v)) (sym e) (pass edition s x t (finished n b) tt h (finished-ere edition n b));
           good = after-in edition s t g;
           onward = omega (arith, onward-after edition s t g q);
           stands = subst (λ (z : Bool). Stands z n b (finished n b) (v .kind)) (sym e) refl;
@@ -404,11 +404,11 @@ module _ (edition : ℕ) (s : List ℕ) where
         (λ q1. by-test R (is open-brace t) (braces t) _ (λ q. k n b x t m g q (begins open-brace (list 0 false (nested n b)) q refl))
         (λ q2. by-test R (is IF t) (ifAt edition s f levels v) _
           (λ q. s-earlier n b x t (condition-next (suc n) b) v (suc (t .start)) (suc (v .start)) (ifAt edition s f levels v)
-            (pass edition s x t (condition-next (suc n) b) (begins IF (condition-next (suc n) b) q refl) (condition-ere edition (suc n) b))
+            (pass edition s x t (condition-next (suc n) b) tt (begins IF (condition-next (suc n) b) q refl) (condition-ere edition (suc n) b))
             (omega (arith, onward-after edition s t g (no-end IF q refl))) (if-reads levels n b v m (after-in edition s t g)))
         (λ q3. by-test R (is WHILE t) (whileAt edition s f levels v) _
           (λ q. s-earlier n b x t (condition-next n b) v (suc (t .start)) (suc (v .start)) (whileAt edition s f levels v)
-            (pass edition s x t (condition-next n b) (begins WHILE (condition-next n b) q refl) (condition-ere edition n b))
+            (pass edition s x t (condition-next n b) tt (begins WHILE (condition-next n b) q refl) (condition-ere edition n b))
             (omega (arith, onward-after edition s t g (no-end WHILE q refl))) (while-reads levels n b v m (after-in edition s t g)))
         (λ q4. by-test R (is PRINT t) (printAt edition s levels (operandAfter edition s t)) _
           (λ q. s-earlier n b x t (print-next n b) (operandAfter edition s t) (suc (t .start)) (operandAfter edition s t .start) (printAt edition s levels (operandAfter edition s t))

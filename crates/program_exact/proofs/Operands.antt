@@ -36,7 +36,7 @@ use Rattle.program_exact.proofs.Facts.{each, by-test, words, NotTested,
 use Rattle.program_exact.proofs.Forms.{function-step}
 use Rattle.program_exact.proofs.Kept.{Tiered, no-operator, of-product, of-sum, of-join, of-compare, of-and, of-or, tiered, has-shapes}
 use Rattle.program_exact.proofs.Meaning.{NonEmpty}
-use Rattle.program_exact.proofs.Walks.{Walk, stay, go, walk-join, pass, pass-operand, walk-in, after-in, operand-after-in, onward-after, onward-operand}
+use Rattle.program_exact.proofs.Walks.{Live, Walk, stay, go, walk-join, pass, pass-operand, walk-in, after-in, operand-after-in, onward-after, onward-operand}
 use Rattle.program_exact.proofs.Readings.{ere-operand, ere-line, ere-field, ere-argument-takes, ere-argument-line, argument-end-ere, open-ere, after-ere, Refusal, Arrived, Reads, refused, too-deep, later, earlier, reads-map, reads-weaken, reads-then, lines-after}
 
 -- whether an option is something
@@ -166,18 +166,18 @@ module _ (edition : ℕ) where
 
     -- ---- what a `)` has to follow
 
-    pub closed-reads : (F : Expression → Type 0) (c : Context) (x z : State) (o : Token) (p : ℕ) (r : Read Expression) → ((k : Kind) → exit c k ≡ cond (same k close-paren) (some z) none)
+    pub closed-reads : (F : Expression → Type 0) (c : Context) (x z : State) (o : Token) (p : ℕ) (r : Read Expression) → Live z → ((k : Kind) → exit c k ≡ cond (same k close-paren) (some z) none)
         → step edition z ERE ≡ none → Reads edition s (λ e u y. (Whole c e u y) × (F e)) x o p r → Reads edition s (λ e u y. (y ≡ z) × (F e)) x o p (closed edition s r)
     unfolding closed rank
-    closed-reads F c x z o p (no outcome place) h n g = g
-    closed-reads F c x z o p (ok e t) h n g =
+    closed-reads F c x z o p (no outcome place) live h n g = g
+    closed-reads F c x z o p (ok e t) live h n g =
         let at : step edition (g .state) (t .kind) ≡ cond (same (t .kind) close-paren) (some z) none = g .fact .0 ∙ h (t .kind) in
         by-test (Reads edition s (λ e u y. (y ≡ z) × (F e)) x o p) (is close-paren t) (ok e (tokenAfter edition s t)) (no _ _)
         (λ q.
           let on : t .start < tokenAfter edition s t .start = onward-after edition s t (g .good) (known (λ k. same k text-end ≡ false) (t .kind) close-paren q refl) in
           record {
             state = z;
-            walk = walk-join edition s x o (g .state) t z (tokenAfter edition s t) (g .walk) (pass edition s (g .state) t z (at ∙ rw q) n);
+            walk = walk-join edition s x o (g .state) t z (tokenAfter edition s t) (g .walk) (pass edition s (g .state) t z live (at ∙ rw q) n);
             good = after-in edition s t (g .good);
             onward = omega (arith, g .onward, on);
             fact = (refl, g .fact .1);
@@ -245,7 +245,7 @@ module _ (edition : ℕ) where
           (λ q.
             let on : t .start < tokenAfter edition s t .start = onward-after edition s t (w .good) (known (λ k. same k text-end ≡ false) (t .kind) ERE q refl) in
             k (f (ereIn s t)) (a (ereIn s t)) (tokenAfter edition s t) (argument-end l m c)
-            (walk-join edition s x u y t (argument-end l m c) (tokenAfter edition s t) (w .walk) (pass edition s y t (argument-end l m c) (h ∙ rw q) (argument-end-ere edition l m c)))
+            (walk-join edition s x u y t (argument-end l m c) (tokenAfter edition s t) (w .walk) (pass edition s y t (argument-end l m c) tt (h ∙ rw q) (argument-end-ere edition l m c)))
             (after-in edition s t (w .good)) (omega (arith, b, on)) refl)
           (λ q. later edition s x u y t _ _ (w .walk) (refused edition s y t (h ∙ rw q)))
 
@@ -315,7 +315,7 @@ module _ (edition : ℕ) where
       unfolding call-of step exit argumentEnd rank
       call-reads f m c u z a g =
           by-test (Reads edition s (Called-to m c) (open-next (f .shapes) m c) u (suc (u .start))) (is open-paren u) (closed edition s (arguments edition s inner u true (f .shapes) (f .tree) u)) (no _ _)
-          (λ q. closed-reads (λ e. assignable e ≡ false) (call [] m c) (open-next (f .shapes) m c) (after m c) u (suc (u .start)) (arguments edition s inner u true (f .shapes) (f .tree) u) (λ k. refl) (after-ere edition m c)
+          (λ q. closed-reads (λ e. assignable e ≡ false) (call [] m c) (open-next (f .shapes) m c) (after m c) u (suc (u .start)) (arguments edition s inner u true (f .shapes) (f .tree) u) tt (λ k. refl) (after-ere edition m c)
             (all-arguments (f .shapes) (f .tree) m c u z a q g))
           (λ q. refused edition s (open-next (f .shapes) m c) u (rw q))
 
@@ -330,7 +330,7 @@ module _ (edition : ℕ) where
           let no-end : same (t .kind) text-end ≡ false = each (λ k. same k text-end ≡ false) words (refl, (refl, (refl, (refl, tt)))) (t .kind) (function-word edition (t .kind) f e) in
           let on : t .start < u .start = onward-after edition s t g no-end in
           earlier edition s (Called-to m c) x t (open-next (f .shapes) m c) u (suc (t .start)) (suc (u .start)) (call-of edition s inner f u)
-          (pass edition s x t (open-next (f .shapes) m c) h (open-ere edition (f .shapes) m c)) (omega (arith, on))
+          (pass edition s x t (open-next (f .shapes) m c) tt h (open-ere edition (f .shapes) m c)) (omega (arith, on))
           (call-reads f m c u (has-shapes edition (t .kind) f e) (function-free (t .kind) f e) (after-in edition s t g))
 
       -- one token that is an operand
@@ -339,7 +339,7 @@ module _ (edition : ℕ) where
       token-reads Q n c x t e g b h q =
           record {
             state = after n c;
-            walk = pass edition s x t (after n c) h (after-ere edition n c);
+            walk = pass edition s x t (after n c) tt h (after-ere edition n c);
             good = after-in edition s t g;
             onward = omega (arith, onward-after edition s t g b);
             fact = q;
@@ -398,7 +398,7 @@ module _ (edition : ℕ) where
               let on : t .start < v .start = onward-operand edition s t g e in
               let r : Read Expression = inner false expressions t v in
               reads-map edition s (λ e u y. (y ≡ after m c) × Unit) (Field c n m) parentheses x t (suc (t .start)) (closed edition s r) (λ a u y f. f .0)
-              (closed-reads (λ e. Unit) (group m c) x (after m c) t (suc (t .start)) r (λ k. refl) (after-ere edition m c)
+              (closed-reads (λ e. Unit) (group m c) x (after m c) t (suc (t .start)) r tt (λ k. refl) (after-ere edition m c)
               (reads-weaken edition s (Whole (group m c)) (λ e u y. (Whole (group m c) e u y) × Unit) x t (suc (t .start)) (suc (v .start)) r (λ a u y f. (f, tt)) (omega (arith, on))
               (i .whole false (group m c) x t y v refl w refl)))
 

@@ -290,7 +290,7 @@ module _ (edition : ℕ) where
           let n : same (u .kind) text-end ≡ false = known edition s (λ k. same k text-end ≡ false) (u .kind) ERE q refl in
           record {
             state = after tested c;
-            walk = pass edition s (ere-next c) u (after tested c) (rw q) (after-ere edition tested c);
+            walk = pass edition s (ere-next c) u (after tested c) tt (rw q) (after-ere edition tested c);
             good = after-in edition s u g;
             onward = omega (arith, onward-after edition s u g n);
             fact = (tested, refl, sym (ap (λ b. isFresh m && b) (unassigned (is tilde t)) ∙ and-none (isFresh m)), (λ h. refl), tested-after (tierOf edition (printed c) (tokenAfter edition s u .kind)));

@@ -19,10 +19,31 @@ use Rattle.program_grammar.specs.Viable.{Viable, Taken, operand as taken-operan
 use Rattle.program_reader.specs.Read.{operandAfter, pastIn, past, pastNewlines}
 use Rattle.program_parser.specs.Reading.{refusedBy, Good as InText}
 use Rattle.program_parser.proofs.Tokens.{ere-kind, Slashes, Again, good-at, good-after, good-operand}
-use Rattle.program_exact.specs.Machine.{State, start, step, stepIn, run}
+use Rattle.program_exact.specs.Machine.{State, start, between, done, action-next, operand, operand-line, operand-field, ere-next, after, open-next, ere-argument, argument-line, argument-end, condition-next, body, print-next, finished, list, step, stepIn, run}
 use Rattle.program_exact.proofs.Facts.{each, by-test, run-append}
 use Rattle.program_exact.proofs.Sentences.{not-viable}
 use Rattle.program_exact.proofs.Viability.{run-viable}
+
+-- a state that is not after the text's end
+abbrev pub Live : State → Type 0
+Live start = Unit
+Live between = Unit
+Live done = ⊥
+Live action-next = Unit
+Live (operand m c) = Unit
+Live (operand-line m c) = Unit
+Live (operand-field m c) = Unit
+Live (ere-next c) = Unit
+Live (after m c) = Unit
+Live (open-next l m c) = Unit
+Live (ere-argument l m c) = Unit
+Live (argument-line x l m c) = Unit
+Live (argument-end l m c) = Unit
+Live (condition-next n b) = Unit
+Live (body n b) = Unit
+Live (print-next n b) = Unit
+Live (finished n b) = Unit
+Live (list n p b) = Unit
 
 -- a kind that no ERE that is read again has, and no slash
 abbrev pub Away : Kind → Type 0
@@ -32,7 +53,7 @@ module _ (edition : ℕ) (s : List ℕ) where
   -- a token as the machine reads it
   pub data Next (x : State) (t : Token) : Token → Type 0 where
     read-again : (y : State) → step edition x ERE ≡ some y → Next x t (asOperand edition s t)
-    as-it-is : step edition x ERE ≡ none → Next x t t
+    as-it-is : Live x → step edition x ERE ≡ none → Next x t t
 
   pub data Walk : State → Token → State → Token → Type 0 where
     stay : (x : State) (t : Token) → Walk x t x t
@@ -44,8 +65,8 @@ module _ (edition : ℕ) (s : List ℕ) where
   walk-join x t y u z v (go a b c d e f h n w) q = go a b c d z v h n (walk-join c d e f z v w q)
 
   -- one token, and the next as it is, or read again
-  pub pass : (x : State) (t : Token) (y : State) → step edition x (t .kind) ≡ some y → step edition y ERE ≡ none → Walk x t y (tokenAfter edition s t)
-  pass x t y h e = go x t y (tokenAfter edition s t) y (tokenAfter edition s t) h (as-it-is e) (stay y (tokenAfter edition s t))
+  pub pass : (x : State) (t : Token) (y : State) → Live y → step edition x (t .kind) ≡ some y → step edition y ERE ≡ none → Walk x t y (tokenAfter edition s t)
+  pass x t y live h e = go x t y (tokenAfter edition s t) y (tokenAfter edition s t) h (as-it-is live e) (stay y (tokenAfter edition s t))
 
   pub pass-operand : (x : State) (t : Token) (y z : State) → step edition x (t .kind) ≡ some y → step edition y ERE ≡ some z → Walk x t y (operandAfter edition s t)
   pass-operand x t y z h e = go x t y (operandAfter edition s t) y (operandAfter edition s t) h (read-again z e) (stay y (operandAfter edition s t))
@@ -74,7 +95,7 @@ module _ (edition : ℕ) (s : List ℕ) where
 
   next-after : (x : State) (t u : Token) → InText edition s 0 t → Next x (tokenAfter edition s t) u → InText edition s (t .stop) u
   next-after x t u g (read-again y e) = good-operand edition s (t .stop) (tokenAfter edition s t) (good-after edition s 0 t g)
-  next-after x t u g (as-it-is e) = good-after edition s 0 t g
+  next-after x t u g (as-it-is live e) = good-after edition s 0 t g
 
   pub walk-in : (x : State) (t : Token) (y : State) (u : Token) → InText edition s 0 t → Walk x t y u → (InText edition s 0 u) × (t .start ≤ u .start)
   walk-in x t y u g (stay a b) = (g, omega arith)
@@ -114,7 +135,7 @@ module _ (edition : ℕ) (s : List ℕ) where
   taken : (l : List Kind) (x : State) (t u : Token) → run edition l (some start) ≡ some x → Next x t u → Taken edition s l t u
   unfolding run
   taken l x t u h (read-again y e) = taken-operand (run-viable edition (l ++ (ERE ∷ [])) y (run-append edition l (ERE ∷ []) (some start) ∙ (ap (λ o. stepIn edition o ERE) h ∙ e)))
-  taken l x t u h (as-it-is e) = taken-operator (not-viable edition (l ++ (ERE ∷ [])) (run-append edition l (ERE ∷ []) (some start) ∙ (ap (λ o. stepIn edition o ERE) h ∙ e)))
+  taken l x t u h (as-it-is live e) = taken-operator (not-viable edition (l ++ (ERE ∷ [])) (run-append edition l (ERE ∷ []) (some start) ∙ (ap (λ o. stepIn edition o ERE) h ∙ e)))
 
   pub reaches : (x : State) (t : Token) (y : State) (u : Token) → Here x t → Walk x t y u → Here y u
   unfolding run
@@ -123,6 +144,36 @@ module _ (edition : ℕ) (s : List ℕ) where
       let l : List Kind = (p .before) ++ ((b .kind) ∷ []) in
       let ran : run edition l (some start) ≡ some c = run-append edition (p .before) ((b .kind) ∷ []) (some start) ∙ (ap (λ o. stepIn edition o (b .kind)) (p .ran) ∙ h) in
       reaches c d e f (record { before = l; reached = reached-after (p .reached) (taken l c (tokenAfter edition s b) d ran n); ran = ran }) w
+
+  next-live : (x : State) (t u : Token) → Next x t u → Live x
+  unfolding step
+  next-live x t u (as-it-is live e) = live
+  next-live x t u (read-again y e) = alive x y e
+    where
+      alive : (x y : State) → step edition x ERE ≡ some y → Live x
+      alive start y e = tt
+      alive between y e = tt
+      alive done y e = absurd (none-some e)
+      alive action-next y e = tt
+      alive (operand m c) y e = tt
+      alive (operand-line m c) y e = tt
+      alive (operand-field m c) y e = tt
+      alive (ere-next c) y e = tt
+      alive (after m c) y e = tt
+      alive (open-next l m c) y e = tt
+      alive (ere-argument l m c) y e = tt
+      alive (argument-line a l m c) y e = tt
+      alive (argument-end l m c) y e = tt
+      alive (condition-next n b) y e = tt
+      alive (body n b) y e = tt
+      alive (print-next n b) y e = tt
+      alive (finished n b) y e = tt
+      alive (list n p b) y e = tt
+
+  -- no walk goes on after the text's end
+  pub walk-live : (x : State) (t : Token) (y : State) (u : Token) → Live x → Walk x t y u → Live y
+  walk-live x t y u l (stay a b) = l
+  walk-live x t y u l (go a b c d e f h n w) = walk-live c d e f (next-live c (tokenAfter edition s b) d n) w
 
   pub begins : (t : Token) → Next start (tokenAt edition s 0) t → Here start t
   unfolding run
