@@ -443,7 +443,7 @@ module _ (edition : ℕ) (s : List ℕ) where
   NoElse n p t = (n ≡ 0) ⊎ ((j : ℕ) × (length s ≤ j + t .start) × (elseAfter edition s j true p t ≡ none))
 
   -- a token that is no text's end is found with one turn more
-  fuelled : (t : Token) (j : ℕ) → InText edition s 0 t → same (t .kind) text-end ≡ false → length s ≤ j + t .start → (i : ℕ) × (j ≡ suc i)
+  pub fuelled : (t : Token) (j : ℕ) → InText edition s 0 t → same (t .kind) text-end ≡ false → length s ≤ j + t .start → (i : ℕ) × (j ≡ suc i)
   fuelled t zero g e h = absurd (clash (sym (at-end edition s t g (omega arith)) ∙ e))
   fuelled t (suc i) g e h = (i, refl)
 
@@ -511,7 +511,7 @@ module _ (edition : ℕ) (s : List ℕ) where
       rw (a, c, d) (by-test (λ x. x ≡ beginStep edition 0 b k) (same k ELSE) _ _
       (λ q. ap (λ m. elseStep m b) e ∙ sym (ap (beginStep edition 0 b) (same-is k ELSE q) ∙ no-else b)) (λ q. refl))
 
-  not-end : (k : Kind) → among enders k ≡ true → same k text-end ≡ false
+  pub not-end : (k : Kind) → among enders k ≡ true → same k text-end ≡ false
   unfolding among rank
   not-end k q = each (λ k. same k text-end ≡ false) enders (refl, (refl, tt)) k q
 

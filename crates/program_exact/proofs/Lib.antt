@@ -11,3 +11,4 @@ pub mod Readings
 pub mod Operands
 pub mod Tiers
 pub mod Bodies
+pub mod Whole
