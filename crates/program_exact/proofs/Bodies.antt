@@ -81,8 +81,13 @@ module _ (edition : ℕ) (s : List ℕ) where
   s-earlier : (n : ℕ) (b : Blocks) (x : State) (t : Token) (y : State) (u : Token) (p q : ℕ) (r : Read Statement) → Walk edition s x t y u → p ≤ q → SReads n b y u q r → SReads n b x t p r
   s-earlier n b x t y u p q (ok a v) w h g =
       record {
-        pending = g .pending; state = g .state; walk = walk-join edition s x t y u (g .state) (cond (ended a) (asOperand edition s v) v) w (g .walk);
-        good = g .good; onward = omega (arith, g .onward); stands = g .stands; own = g .own;
+        pending = g .pending;
+        state = g .state;
+        walk = walk-join edition s x t y u (g .state) (cond (ended a) (asOperand edition s v) v) w (g .walk);
+        good = g .good;
+        onward = omega (arith, g .onward);
+        stands = g .stands;
+        own = g .own;
       }
   s-earlier n b x t y u p q (no outcome place) w h g = later edition s x t y u outcome place w g
 
@@ -114,12 +119,12 @@ module _ (edition : ℕ) (s : List ℕ) where
       let more : Read (List Expression) = map (λ e. es ++ (e ∷ [])) (below v) in
       by-test (Reads edition s (Listing n b) x t p) (is comma u) (listed-of edition s levels i more) (ok es u)
       (λ q.
-        let element : Reads edition s (Whole edition s (listed n b)) (g .state) u (suc (u .start)) (below v) =
-          line-reads edition s (Whole edition s (listed n b)) (g .state) fresh (listed n b) u below (g .good) (known edition s (λ k. same k text-end ≡ false) (u .kind) comma q refl)
-          (g .fact ∙ comma-step n b (u .kind) q) (λ w k z. expression-reads edition s levels true (listed n b) (operand-line fresh (listed n b)) w refl k z) in
-        listed-reads levels n b i x t p more (enough-map edition s (Whole edition s (listed n b)) (λ e. es ++ (e ∷ [])) i (g .state) u (below v) h element)
-        (earlier edition s (λ es u y. step edition y (u .kind) ≡ exit (listed n b) (u .kind)) x t (g .state) u p (suc (u .start)) more (g .walk) (omega (arith, g .onward))
-        (reads-map edition s (Whole edition s (listed n b)) (λ es u y. step edition y (u .kind) ≡ exit (listed n b) (u .kind)) (λ e. es ++ (e ∷ [])) (g .state) u (suc (u .start)) (below v) (λ a v y f. f) element)))
+      let element : Reads edition s (Whole edition s (listed n b)) (g .state) u (suc (u .start)) (below v) =
+      line-reads edition s (Whole edition s (listed n b)) (g .state) fresh (listed n b) u below (g .good) (known edition s (λ k. same k text-end ≡ false) (u .kind) comma q refl)
+      (g .fact ∙ comma-step n b (u .kind) q) (λ w k z. expression-reads edition s levels true (listed n b) (operand-line fresh (listed n b)) w refl k z) in
+      listed-reads levels n b i x t p more (enough-map edition s (Whole edition s (listed n b)) (λ e. es ++ (e ∷ [])) i (g .state) u (below v) h element)
+      (earlier edition s (λ es u y. step edition y (u .kind) ≡ exit (listed n b) (u .kind)) x t (g .state) u p (suc (u .start)) more (g .walk) (omega (arith, g .onward))
+      (reads-map edition s (Whole edition s (listed n b)) (λ es u y. step edition y (u .kind) ≡ exit (listed n b) (u .kind)) (λ e. es ++ (e ∷ [])) (g .state) u (suc (u .start)) (below v) (λ a v y f. f) element)))
       (λ q. record { state = g .state; walk = g .walk; good = g .good; onward = g .onward; fact = g .fact ∙ whole-finished n b (u .kind) q })
 
   print-starts : (n : ℕ) (b : Blocks) (k : Kind) → startsExpression edition k ≡ true → step edition (print-next n b) k ≡ operandStep edition fresh (listed n b) k
@@ -150,11 +155,11 @@ module _ (edition : ℕ) (s : List ℕ) where
       let one : Read (List Expression) = map (λ e. e ∷ []) (expressionAt edition s levels true u) in
       by-test (SReads n b (print-next n b) u (u .start)) (startsExpression edition (u .kind)) (map print (listed-of edition s levels (length s) one)) (ok (print []) u)
       (λ q.
-        as-statement print (λ a. refl) n b (print-next n b) u (u .start) (listed-of edition s levels (length s) one)
-        (listed-reads levels n b (length s) (print-next n b) u (u .start) one (enough-all edition s one)
-        (reads-map edition s (Whole edition s (listed n b)) (λ es v y. step edition y (v .kind) ≡ exit (listed n b) (v .kind)) (λ e. e ∷ []) (print-next n b) u (u .start) (expressionAt edition s levels true u) (λ a v y f. f)
-        (reads-weaken edition s (Whole edition s (listed n b)) (Whole edition s (listed n b)) (print-next n b) u (u .start) (suc (u .start)) (expressionAt edition s levels true u) (λ a v y f. f) (omega arith)
-        (expression-reads edition s levels true (listed n b) (print-next n b) u refl g (print-starts n b (u .kind) q))))))
+      as-statement print (λ a. refl) n b (print-next n b) u (u .start) (listed-of edition s levels (length s) one)
+      (listed-reads levels n b (length s) (print-next n b) u (u .start) one (enough-all edition s one)
+      (reads-map edition s (Whole edition s (listed n b)) (λ es v y. step edition y (v .kind) ≡ exit (listed n b) (v .kind)) (λ e. e ∷ []) (print-next n b) u (u .start) (expressionAt edition s levels true u) (λ a v y f. f)
+      (reads-weaken edition s (Whole edition s (listed n b)) (Whole edition s (listed n b)) (print-next n b) u (u .start) (suc (u .start)) (expressionAt edition s levels true u) (λ a v y f. f) (omega arith)
+      (expression-reads edition s levels true (listed n b) (print-next n b) u refl g (print-starts n b (u .kind) q))))))
       (λ q. record { pending = n; state = print-next n b; walk = stay (print-next n b) u; good = g; onward = omega arith; stands = print-ends n b (u .kind) q; own = inl refl })
 
   -- ---- conditions and bodies
@@ -171,12 +176,12 @@ module _ (edition : ℕ) (s : List ℕ) where
       let at : step edition (g .state) (t .kind) ≡ cond (same (t .kind) close-paren) (some z) none = g .fact ∙ h (t .kind) in
       by-test (Pauses z x o p) (is close-paren t) (ok e (tokenAfter edition s t)) (no _ _)
       (λ q.
-        let on : t .start < tokenAfter edition s t .start = onward-after edition s t (g .good) (known edition s (λ k. same k text-end ≡ false) (t .kind) close-paren q refl) in
-        record {
-          walk = walk-join edition s x o (g .state) t z (operandAfter edition s t) (g .walk) (pass-operand edition s (g .state) t z v (at ∙ rw q) n);
-          good = after-in edition s t (g .good);
-          onward = omega (arith, g .onward, on);
-        })
+      let on : t .start < tokenAfter edition s t .start = onward-after edition s t (g .good) (known edition s (λ k. same k text-end ≡ false) (t .kind) close-paren q refl) in
+      record {
+        walk = walk-join edition s x o (g .state) t z (operandAfter edition s t) (g .walk) (pass-operand edition s (g .state) t z v (at ∙ rw q) n);
+        good = after-in edition s t (g .good);
+        onward = omega (arith, g .onward, on);
+      })
       (λ q. later edition s x o (g .state) t _ _ (g .walk) (refused edition s (g .state) t (at ∙ rw q)))
 
   pub condition-reads : (levels n : ℕ) (b : Blocks) (u : Token) → InText edition s 0 u → Pauses (body n b) (condition-next n b) u (suc (u .start)) (conditionAt edition s levels u)
@@ -188,12 +193,12 @@ module _ (edition : ℕ) (s : List ℕ) where
       let r : Read Expression = inside edition s levels false expressions u v in
       by-test (Pauses (body n b) x u (suc (u .start))) (is open-paren u) (closed edition s r) (no _ _)
       (λ q.
-        let o : step edition x (u .kind) ≡ some y = rw q in
-        let on : u .start < v .start = onward-operand edition s u g (known edition s (λ k. same k text-end ≡ false) (u .kind) open-paren q refl) in
-        closed-pauses (condition n b) x (body n b) (after plain (value n b)) u (suc (u .start)) r (λ k. refl) (ere-body edition n b)
-        (reads-weaken edition s (Whole edition s (condition n b)) (Whole edition s (condition n b)) x u (suc (u .start)) (suc (v .start)) r (λ a w z f. f) (omega (arith, on))
-        (inside-reads edition s levels .whole false (condition n b) x u y v refl
-        (record { next = y; opens = o; walk = pass-operand edition s x u y (after plain (condition n b)) o (ere-operand edition fresh (condition n b)); opener = g; good = operand-after-in edition s u g }) refl)))
+      let o : step edition x (u .kind) ≡ some y = rw q in
+      let on : u .start < v .start = onward-operand edition s u g (known edition s (λ k. same k text-end ≡ false) (u .kind) open-paren q refl) in
+      closed-pauses (condition n b) x (body n b) (after plain (value n b)) u (suc (u .start)) r (λ k. refl) (ere-body edition n b)
+      (reads-weaken edition s (Whole edition s (condition n b)) (Whole edition s (condition n b)) x u (suc (u .start)) (suc (v .start)) r (λ a w z f. f) (omega (arith, on))
+      (inside-reads edition s levels .whole false (condition n b) x u y v refl
+      (record { next = y; opens = o; walk = pass-operand edition s x u y (after plain (condition n b)) o (ere-operand edition fresh (condition n b)); opener = g; good = operand-after-in edition s u g }) refl)))
       (λ q. refused edition s x u (rw q))
 
   body-first : (n : ℕ) (b : Blocks) (k : Kind) → same k newline ≡ false → step edition (body n b) k ≡ beginStep edition n b k
@@ -242,27 +247,31 @@ module _ (edition : ℕ) (s : List ℕ) where
       let E : Option Token → Type 0 = λ o. o ≡ some w → Elses x (asOperand edition s t) n b w in
       let v : Token = tokenAfter edition s t in
       let back : (j : Kind) → is j t ≡ true → among Slashes j ≡ false → Elses x t n b w → Elses x (asOperand edition s t) n b w =
-        λ j q e k. subst (λ (z : Token). Elses x z n b w) (sym (unread j t q e)) k in
+      λ j q e k. subst (λ (z : Token). Elses x z n b w) (sym (unread j t q e)) k in
       let on : (j : Kind) → is j t ≡ true → same j text-end ≡ false → t .start < operandAfter edition s t .start =
-        λ j q e. onward-operand edition s t g (known edition s (λ k. same k text-end ≡ false) (t .kind) j q e) in
+      λ j q e. onward-operand edition s t g (known edition s (λ k. same k text-end ≡ false) (t .kind) j q e) in
       by-test E (is newline t) (elseAfter edition s i true p v) _
       (λ q e.
-        let r = else-found i n p b v w (after-in edition s t g) e in
-        back newline q refl (walk-join edition s x t x (asOperand edition s v) (body n b) (asOperand edition s w) (list-pass x (suc n) p b newline t q (list-line (suc n) p b)) (r .0), r .1, omega (arith, r .2, on newline q refl)))
+      let r = else-found i n p b v w (after-in edition s t g) e in
+      back newline q refl (walk-join edition s x t x (asOperand edition s v) (body n b) (asOperand edition s w) (list-pass x (suc n) p b newline t q (list-line (suc n) p b)) (r .0), r .1, omega (arith, r .2, on newline q refl)))
       (λ q. by-test E (is semicolon t && not p) (elseAfter edition s i true true v) _
       (λ q e.
-        let two = and-true (is semicolon t) (not p) q in
-        let r = else-found i n true b v w (after-in edition s t g) e in
-        back semicolon (two .0) refl
-        (walk-join edition s x t (list (suc n) true b) (asOperand edition s v) (body n b) (asOperand edition s w) (list-pass x (suc n) true b semicolon t (two .0) (list-mark (suc n) p b (two .1))) (r .0), r .1,
-          omega (arith, r .2, on semicolon (two .0) refl)))
+      let two = and-true (is semicolon t) (not p) q in
+      let r = else-found i n true b v w (after-in edition s t g) e in
+      back semicolon (two .0) refl (
+        walk-join edition s x t (list (suc n) true b) (asOperand edition s v) (body n b) (asOperand edition s w) (list-pass x (suc n) true b semicolon t (two .0) (list-mark (suc n) p b (two .1))) (r .0),
+        r .1,
+        omega (arith, r .2, on semicolon (two .0) refl),
+      ))
       (λ q. by-test E (is ELSE t && true) (some v) none
       (λ q e.
-        let f : is ELSE t ≡ true = and-true (is ELSE t) true q .0 in
-        let same-token : v ≡ w = some-one refl e in
-        back ELSE f refl (subst (λ (z : Token). Elses x t n b z) same-token
-        (pass-operand edition s x t (body n b) (after plain (value n b)) (ap (step edition x) (same-is (t .kind) ELSE f) ∙ list-else n p b) (ere-body edition n b), after-in edition s t g,
-          omega (arith, onward-after edition s t g (known edition s (λ k. same k text-end ≡ false) (t .kind) ELSE f refl)))))
+      let f : is ELSE t ≡ true = and-true (is ELSE t) true q .0 in
+      let same-token : v ≡ w = some-one refl e in
+      back ELSE f refl (subst (λ (z : Token). Elses x t n b z) same-token (
+        pass-operand edition s x t (body n b) (after plain (value n b)) (ap (step edition x) (same-is (t .kind) ELSE f) ∙ list-else n p b) (ere-body edition n b),
+        after-in edition s t g,
+        omega (arith, onward-after edition s t g (known edition s (λ k. same k text-end ≡ false) (t .kind) ELSE f refl)),
+      )))
       (λ q e. absurd (none-some e))))
 
   finished-line : (n : ℕ) (b : Blocks) → finishedStep n b newline ≡ some (list n false b)
@@ -281,20 +290,24 @@ module _ (edition : ℕ) (s : List ℕ) where
       let E : Option Token → Type 0 = λ o. o ≡ some w → Elses y t n b w in
       let v : Token = tokenAfter edition s t in
       let on : (j : Kind) → is j t ≡ true → same j text-end ≡ false → t .start < operandAfter edition s t .start =
-        λ j q e. onward-operand edition s t g (known edition s (λ k. same k text-end ≡ false) (t .kind) j q e) in
+      λ j q e. onward-operand edition s t g (known edition s (λ k. same k text-end ≡ false) (t .kind) j q e) in
       let goes : (j : Kind) (p : Bool) → is j t ≡ true → finishedStep (suc n) b j ≡ some (list (suc n) p b) → step edition y j ≡ some (list (suc n) p b) =
-        λ j p q e. sym (ap (step edition y) (same-is (t .kind) j q)) ∙ (h ∙ (ap (finishedStep (suc n) b) (same-is (t .kind) j q) ∙ e)) in
+      λ j p q e. sym (ap (step edition y) (same-is (t .kind) j q)) ∙ (h ∙ (ap (finishedStep (suc n) b) (same-is (t .kind) j q) ∙ e)) in
       by-test E (is newline t) (elseAfter edition s i true false v) _
       (λ q e.
-        let r = else-found i n false b v w (after-in edition s t g) e in
-        (walk-join edition s y t (list (suc n) false b) (asOperand edition s v) (body n b) (asOperand edition s w) (list-pass y (suc n) false b newline t q (goes newline false q (finished-line (suc n) b))) (r .0), r .1,
-          omega (arith, r .2, on newline q refl)))
+      let r = else-found i n false b v w (after-in edition s t g) e in (
+        walk-join edition s y t (list (suc n) false b) (asOperand edition s v) (body n b) (asOperand edition s w) (list-pass y (suc n) false b newline t q (goes newline false q (finished-line (suc n) b))) (r .0),
+        r .1,
+        omega (arith, r .2, on newline q refl),
+      ))
       (λ q. by-test E (is semicolon t && true) (elseAfter edition s i true true v) _
       (λ q e.
-        let f : is semicolon t ≡ true = and-true (is semicolon t) true q .0 in
-        let r = else-found i n true b v w (after-in edition s t g) e in
-        (walk-join edition s y t (list (suc n) true b) (asOperand edition s v) (body n b) (asOperand edition s w) (list-pass y (suc n) true b semicolon t f (goes semicolon true f (finished-mark (suc n) b))) (r .0), r .1,
-          omega (arith, r .2, on semicolon f refl)))
+      let f : is semicolon t ≡ true = and-true (is semicolon t) true q .0 in
+      let r = else-found i n true b v w (after-in edition s t g) e in (
+        walk-join edition s y t (list (suc n) true b) (asOperand edition s v) (body n b) (asOperand edition s w) (list-pass y (suc n) true b semicolon t f (goes semicolon true f (finished-mark (suc n) b))) (r .0),
+        r .1,
+        omega (arith, r .2, on semicolon f refl),
+      ))
       (λ q. by-test E (is ELSE t && false) (some v) none (λ q e. absurd (clash (sym (and-true (is ELSE t) false q .1)))) (λ q e. absurd (none-some e))))
 
   -- an `else` after a statement
@@ -394,35 +407,40 @@ module _ (edition : ℕ) (s : List ℕ) where
         let R : Read Statement → Type 0 = SReads n b x t (suc (t .start)) in
         let v : Token = tokenAfter edition s t in
         let begins : (j : Kind) (y : State) → is j t ≡ true → beginStep edition n b j ≡ some y → step edition x (t .kind) ≡ some y =
-          λ j y q z. e ∙ known edition s (λ i. beginStep edition n b i ≡ some y) (t .kind) j q z in
+        λ j y q z. e ∙ known edition s (λ i. beginStep edition n b i ≡ some y) (t .kind) j q z in
         let no-end : (j : Kind) → is j t ≡ true → same j text-end ≡ false → same (t .kind) text-end ≡ false = λ j q z. known edition s (λ i. same i text-end ≡ false) (t .kind) j q z in
         by-test R (is semicolon t) (ok empty v) _
         (λ q. record {
-          pending = n; state = list n false b; walk = list-pass x n false b semicolon t q (sym (ap (step edition x) (same-is (t .kind) semicolon q)) ∙ begins semicolon (list n false b) q refl);
-          good = after-in edition s t g; onward = omega (arith, onward-after edition s t g (no-end semicolon q refl)); stands = refl; own = inl refl;
+          pending = n;
+          state = list n false b;
+          walk = list-pass x n false b semicolon t q (sym (ap (step edition x) (same-is (t .kind) semicolon q)) ∙ begins semicolon (list n false b) q refl);
+          good = after-in edition s t g;
+          onward = omega (arith, onward-after edition s t g (no-end semicolon q refl));
+          stands = refl;
+          own = inl refl;
         })
         (λ q1. by-test R (is open-brace t) (braces t) _ (λ q. k n b x t m g q (begins open-brace (list 0 false (nested n b)) q refl))
         (λ q2. by-test R (is IF t) (ifAt edition s f levels v) _
-          (λ q. s-earlier n b x t (condition-next (suc n) b) v (suc (t .start)) (suc (v .start)) (ifAt edition s f levels v)
-            (pass edition s x t (condition-next (suc n) b) tt (begins IF (condition-next (suc n) b) q refl) (condition-ere edition (suc n) b))
-            (omega (arith, onward-after edition s t g (no-end IF q refl))) (if-reads levels n b v m (after-in edition s t g)))
+        (λ q. s-earlier n b x t (condition-next (suc n) b) v (suc (t .start)) (suc (v .start)) (ifAt edition s f levels v)
+        (pass edition s x t (condition-next (suc n) b) tt (begins IF (condition-next (suc n) b) q refl) (condition-ere edition (suc n) b))
+        (omega (arith, onward-after edition s t g (no-end IF q refl))) (if-reads levels n b v m (after-in edition s t g)))
         (λ q3. by-test R (is WHILE t) (whileAt edition s f levels v) _
-          (λ q. s-earlier n b x t (condition-next n b) v (suc (t .start)) (suc (v .start)) (whileAt edition s f levels v)
-            (pass edition s x t (condition-next n b) tt (begins WHILE (condition-next n b) q refl) (condition-ere edition n b))
-            (omega (arith, onward-after edition s t g (no-end WHILE q refl))) (while-reads levels n b v m (after-in edition s t g)))
+        (λ q. s-earlier n b x t (condition-next n b) v (suc (t .start)) (suc (v .start)) (whileAt edition s f levels v)
+        (pass edition s x t (condition-next n b) tt (begins WHILE (condition-next n b) q refl) (condition-ere edition n b))
+        (omega (arith, onward-after edition s t g (no-end WHILE q refl))) (while-reads levels n b v m (after-in edition s t g)))
         (λ q4. by-test R (is PRINT t) (printAt edition s levels (operandAfter edition s t)) _
-          (λ q. s-earlier n b x t (print-next n b) (operandAfter edition s t) (suc (t .start)) (operandAfter edition s t .start) (printAt edition s levels (operandAfter edition s t))
-            (pass-operand edition s x t (print-next n b) (after plain (listed n b)) (begins PRINT (print-next n b) q refl) (ere-print edition n b))
-            (omega (arith, onward-operand edition s t g (no-end PRINT q refl))) (print-reads levels n b (operandAfter edition s t) (operand-after-in edition s t g)))
+        (λ q. s-earlier n b x t (print-next n b) (operandAfter edition s t) (suc (t .start)) (operandAfter edition s t .start) (printAt edition s levels (operandAfter edition s t))
+        (pass-operand edition s x t (print-next n b) (after plain (listed n b)) (begins PRINT (print-next n b) q refl) (ere-print edition n b))
+        (omega (arith, onward-operand edition s t g (no-end PRINT q refl))) (print-reads levels n b (operandAfter edition s t) (operand-after-in edition s t g)))
         (λ q5. by-test R (is EXIT t) (ok exit-tree v) _ (λ q. one-reads n b x t exit-tree refl g (no-end EXIT q refl) (begins EXIT (finished n b) q refl))
         (λ q6. by-test R (is NEXT t && inMain) (ok next v) _
-          (λ q.
-            let two = and-true (is NEXT t) inMain q in
-            one-reads n b x t next refl g (no-end NEXT (two .0) refl) (begins NEXT (finished n b) (two .0) (next-begins n b (m ∙ two .1))))
-          (λ q7.
-            as-statement expression (λ a. refl) n b x t (suc (t .start)) (expressionAt edition s levels false t)
-            (expression-reads edition s levels false (value n b) x t refl g
-            (e ∙ value-begins n b (t .kind) q1 q2 q3 q4 q5 q6 (ap (λ (z : Bool). is NEXT t && z) m ∙ q7))))))))))
+        (λ q.
+        let two = and-true (is NEXT t) inMain q in
+        one-reads n b x t next refl g (no-end NEXT (two .0) refl) (begins NEXT (finished n b) (two .0) (next-begins n b (m ∙ two .1))))
+        (λ q7.
+        as-statement expression (λ a. refl) n b x t (suc (t .start)) (expressionAt edition s levels false t)
+        (expression-reads edition s levels false (value n b) x t refl g
+        (e ∙ value-begins n b (t .kind) q1 q2 q3 q4 q5 q6 (ap (λ (z : Bool). is NEXT t && z) m ∙ q7))))))))))
 
   -- ---- lists of statements
 
@@ -453,8 +471,11 @@ module _ (edition : ℕ) (s : List ℕ) where
   none-after-line n p t g q (inr h) =
       let end : same (t .kind) text-end ≡ false = known edition s (λ k. same k text-end ≡ false) (t .kind) newline q refl in
       let i = fuelled t (h .0) g end (h .1) in
-      inr (i .0, omega (arith, onward-after edition s t g end, h .1, i .1),
-        sym (else-line (i .0) true p t q) ∙ subst (λ (j : ℕ). elseAfter edition s j true p t ≡ none) (i .1) (h .2))
+      inr (
+        i .0,
+        omega (arith, onward-after edition s t g end, h .1, i .1),
+        sym (else-line (i .0) true p t q) ∙ subst (λ (j : ℕ). elseAfter edition s j true p t ≡ none) (i .1) (h .2),
+      )
 
   none-after-mark : (n : ℕ) (t : Token) → InText edition s 0 t → is semicolon t ≡ true → NoElse n false t → NoElse n true (tokenAfter edition s t)
   unfolding rank
@@ -462,8 +483,11 @@ module _ (edition : ℕ) (s : List ℕ) where
   none-after-mark n t g q (inr h) =
       let end : same (t .kind) text-end ≡ false = known edition s (λ k. same k text-end ≡ false) (t .kind) semicolon q refl in
       let i = fuelled t (h .0) g end (h .1) in
-      inr (i .0, omega (arith, onward-after edition s t g end, h .1, i .1),
-        sym (else-mark (i .0) true t (known edition s (λ k. same k newline ≡ false) (t .kind) semicolon q refl) q) ∙ subst (λ (j : ℕ). elseAfter edition s j true false t ≡ none) (i .1) (h .2))
+      inr (
+        i .0,
+        omega (arith, onward-after edition s t g end, h .1, i .1),
+        sym (else-mark (i .0) true t (known edition s (λ k. same k newline ≡ false) (t .kind) semicolon q refl) q) ∙ subst (λ (j : ℕ). elseAfter edition s j true false t ≡ none) (i .1) (h .2),
+      )
 
   -- the same after a statement that needs an end
   none-after-end : (n : ℕ) (k : Kind) (t : Token) → InText edition s 0 t → among enders (t .kind) ≡ true → (n ≡ 0) ⊎ (elseAfter edition s (length s) false false t ≡ none)
@@ -477,14 +501,20 @@ module _ (edition : ℕ) (s : List ℕ) where
       let found : elseAfter edition s (suc (i .0)) false false t ≡ none = subst (λ (j : ℕ). elseAfter edition s j false false t ≡ none) (i .1) h in
       let counted : length s ≡ suc (i .0) = i .1 in
       ⊎-elim
-      (λ e. inr (i .0, omega (arith, on, counted),
+      (λ e. inr (
+        i .0,
+        omega (arith, on, counted),
         subst (λ (b : Bool). elseAfter edition s (i .0) true b (tokenAfter edition s t) ≡ none) (sym (known edition s (λ k. same k semicolon ≡ false) (t .kind) newline e refl))
-        (sym (else-line (i .0) false false t e) ∙ found)))
+            (sym (else-line (i .0) false false t e) ∙ found),
+      ))
       (λ e.
-        let f : is semicolon t ≡ true = sym (single edition s (t .kind) semicolon) ∙ e in
-        inr (i .0, omega (arith, on, counted),
+      let f : is semicolon t ≡ true = sym (single edition s (t .kind) semicolon) ∙ e in
+      inr (
+        i .0,
+        omega (arith, on, counted),
         subst (λ (b : Bool). elseAfter edition s (i .0) true b (tokenAfter edition s t) ≡ none) (sym f)
-        (sym (else-mark (i .0) false t (known edition s (λ k. same k newline ≡ false) (t .kind) semicolon f refl) f) ∙ found)))
+            (sym (else-mark (i .0) false t (known edition s (λ k. same k newline ≡ false) (t .kind) semicolon f refl) f) ∙ found),
+      ))
       (or-cases (same (t .kind) newline) (among (semicolon ∷ []) (t .kind)) q)
 
   ere-closed : (b : Blocks) → (z : State) × (step edition (closed-state b) ERE ≡ some z)
@@ -600,33 +630,33 @@ module _ (edition : ℕ) (s : List ℕ) where
         let v : Token = tokenAfter edition s u in
         by-test P (ended c) (map (sequence c) (statements edition s statement i u)) _
         (λ e.
-          let w : Walk edition s x o (g .state) (asOperand edition s u) = subst (λ (z : Bool). Walk edition s x o (g .state) (cond z (asOperand edition s u) u)) e (g .walk) in
-          let y : g .state ≡ list (g .pending) false b = subst (λ (z : Bool). Stands z (g .pending) b (g .state) (u .kind)) e (g .stands) in
-          let own : (g .pending ≡ 0) ⊎ (elseAfter edition s (length s) true false u ≡ none) = subst (λ (z : Bool). (g .pending ≡ 0) ⊎ (elseAfter edition s (length s) z false u ≡ none)) e (g .own) in
-          pauses-map (sequence c) (closed-state b) x o l (statements edition s statement i u)
-          (rest (g .pending) false b x o l u m (omega (arith, f, g .onward)) (⊎-elim (λ z. inl z) (λ z. inr (length s, omega arith, z)) own)
-          (record { walk = subst (λ (q : State). Walk edition s x o q (asOperand edition s u)) y w; good = g .good; onward = omega (arith, a, g .onward) })))
+        let w : Walk edition s x o (g .state) (asOperand edition s u) = subst (λ (z : Bool). Walk edition s x o (g .state) (cond z (asOperand edition s u) u)) e (g .walk) in
+        let y : g .state ≡ list (g .pending) false b = subst (λ (z : Bool). Stands z (g .pending) b (g .state) (u .kind)) e (g .stands) in
+        let own : (g .pending ≡ 0) ⊎ (elseAfter edition s (length s) true false u ≡ none) = subst (λ (z : Bool). (g .pending ≡ 0) ⊎ (elseAfter edition s (length s) z false u ≡ none)) e (g .own) in
+        pauses-map (sequence c) (closed-state b) x o l (statements edition s statement i u)
+        (rest (g .pending) false b x o l u m (omega (arith, f, g .onward)) (⊎-elim (λ z. inl z) (λ z. inr (length s, omega arith, z)) own)
+        (record { walk = subst (λ (q : State). Walk edition s x o q (asOperand edition s u)) y w; good = g .good; onward = omega (arith, a, g .onward) })))
         (λ e.
-          let w : Walk edition s x o (g .state) u = subst (λ (z : Bool). Walk edition s x o (g .state) (cond z (asOperand edition s u) u)) e (g .walk) in
-          let y : step edition (g .state) (u .kind) ≡ finishedStep (g .pending) b (u .kind) = subst (λ (z : Bool). Stands z (g .pending) b (g .state) (u .kind)) e (g .stands) in
-          let own : (g .pending ≡ 0) ⊎ (elseAfter edition s (length s) false false u ≡ none) = subst (λ (z : Bool). (g .pending ≡ 0) ⊎ (elseAfter edition s (length s) z false u ≡ none)) e (g .own) in
-          by-test P (isOneOf enders u) (map (sequence c) (statements edition s statement i v)) _
-          (λ q.
-            let on : u .start < v .start = onward-after edition s u (g .good) (not-end (u .kind) q) in
-            let z : State = list (g .pending) (same (u .kind) semicolon) b in
-            pauses-map (sequence c) (closed-state b) x o l (statements edition s statement i v)
-            (rest (g .pending) (same (u .kind) semicolon) b x o l v m (omega (arith, f, g .onward, on)) (none-after-end (g .pending) (u .kind) u (g .good) q own)
-            (record {
-              walk = walk-join edition s x o (g .state) u z (operandAfter edition s u) w
-                (pass-operand edition s (g .state) u z (after plain (value 0 b)) (y ∙ ends-list (g .pending) b (u .kind) q) (ere-list edition (g .pending) (same (u .kind) semicolon) b));
-              good = after-in edition s u (g .good);
-              onward = omega (arith, a, g .onward, on);
-            })))
-          (λ q. by-test P (is close-brace u) (map (sequence c) (statements edition s statement i u)) (no _ _)
-          (λ r. pauses-map (sequence c) (closed-state b) x o l (statements edition s statement i u)
-            (brace-reads i b x o l (g .state) u (omega (arith, f, g .onward)) (g .good) (omega (arith, a, g .onward)) r w
-            (y ∙ known edition s (λ k. finishedStep (g .pending) b k ≡ some (closed-state b)) (u .kind) close-brace r (finished-close (g .pending) b))))
-          (λ r. later edition s x o (g .state) u _ _ w (refused edition s (g .state) u (y ∙ no-finish (g .pending) b (u .kind) q r)))))
+        let w : Walk edition s x o (g .state) u = subst (λ (z : Bool). Walk edition s x o (g .state) (cond z (asOperand edition s u) u)) e (g .walk) in
+        let y : step edition (g .state) (u .kind) ≡ finishedStep (g .pending) b (u .kind) = subst (λ (z : Bool). Stands z (g .pending) b (g .state) (u .kind)) e (g .stands) in
+        let own : (g .pending ≡ 0) ⊎ (elseAfter edition s (length s) false false u ≡ none) = subst (λ (z : Bool). (g .pending ≡ 0) ⊎ (elseAfter edition s (length s) z false u ≡ none)) e (g .own) in
+        by-test P (isOneOf enders u) (map (sequence c) (statements edition s statement i v)) _
+        (λ q.
+        let on : u .start < v .start = onward-after edition s u (g .good) (not-end (u .kind) q) in
+        let z : State = list (g .pending) (same (u .kind) semicolon) b in
+        pauses-map (sequence c) (closed-state b) x o l (statements edition s statement i v)
+        (rest (g .pending) (same (u .kind) semicolon) b x o l v m (omega (arith, f, g .onward, on)) (none-after-end (g .pending) (u .kind) u (g .good) q own)
+        (record {
+          walk = walk-join edition s x o (g .state) u z (operandAfter edition s u) w
+              (pass-operand edition s (g .state) u z (after plain (value 0 b)) (y ∙ ends-list (g .pending) b (u .kind) q) (ere-list edition (g .pending) (same (u .kind) semicolon) b));
+          good = after-in edition s u (g .good);
+          onward = omega (arith, a, g .onward, on);
+        })))
+        (λ q. by-test P (is close-brace u) (map (sequence c) (statements edition s statement i u)) (no _ _)
+        (λ r. pauses-map (sequence c) (closed-state b) x o l (statements edition s statement i u)
+        (brace-reads i b x o l (g .state) u (omega (arith, f, g .onward)) (g .good) (omega (arith, a, g .onward)) r w
+        (y ∙ known edition s (λ k. finishedStep (g .pending) b k ≡ some (closed-state b)) (u .kind) close-brace r (finished-close (g .pending) b))))
+        (λ r. later edition s x o (g .state) u _ _ w (refused edition s (g .state) u (y ∙ no-finish (g .pending) b (u .kind) q r)))))
 
     marked-reads : (i : ℕ) → ListReads i → (n : ℕ) (p : Bool) (b : Blocks) (x : State) (o : Token) (l : ℕ) (t : Token) → mainOf b ≡ inMain → suc (length s) ≤ suc i + t .start → NoElse n p t
         → Walk edition s x o (list n p b) t → InText edition s 0 t → l ≤ t .start → is semicolon t ≡ true → Pauses (closed-state b) x o l (statements edition s statement i (tokenAfter edition s t))
@@ -636,14 +666,16 @@ module _ (edition : ℕ) (s : List ℕ) where
         rest n true b x o l (tokenAfter edition s t) m (omega (arith, f, on)) (none-after-mark n t g q e)
         (record {
           walk = walk-join edition s x o (list n false b) t (list n true b) (operandAfter edition s t) w (list-pass (list n false b) n true b semicolon t q (list-mark n false b refl));
-          good = after-in edition s t g; onward = omega (arith, a, on);
+          good = after-in edition s t g;
+          onward = omega (arith, a, on);
         })
     marked-reads i rest n true b x o l t m f e w g a q =
         let on : t .start < tokenAfter edition s t .start = onward-after edition s t g (known edition s (λ k. same k text-end ≡ false) (t .kind) semicolon q refl) in
         rest 0 false b x o l (tokenAfter edition s t) m (omega (arith, f, on)) (inl refl)
         (record {
           walk = walk-join edition s x o (list n true b) t (list 0 false b) (operandAfter edition s t) w (list-pass (list n true b) 0 false b semicolon t q (list-lone n b));
-          good = after-in edition s t g; onward = omega (arith, a, on);
+          good = after-in edition s t g;
+          onward = omega (arith, a, on);
         })
 
     stated-reads : (i : ℕ) → ListReads i → (n : ℕ) (p : Bool) (b : Blocks) (x : State) (o : Token) (l : ℕ) (t : Token) → mainOf b ≡ inMain → suc (length s) ≤ suc i + t .start → NoElse n p t
@@ -678,23 +710,23 @@ module _ (edition : ℕ) (s : List ℕ) where
         let z : State = list n p b in
         let v : Token = tokenAfter edition s t in
         let from : (j : Kind) → is j t ≡ true → among Slashes j ≡ false → Walk edition s x o z t =
-          λ j q k. subst (λ (w : Token). Walk edition s x o z w) (unread j t q k) (g .walk) in
+        λ j q k. subst (λ (w : Token). Walk edition s x o z w) (unread j t q k) (g .walk) in
         let on : (j : Kind) → is j t ≡ true → same j text-end ≡ false → t .start < v .start =
-          λ j q k. onward-after edition s t (g .good) (known edition s (λ c. same c text-end ≡ false) (t .kind) j q k) in
+        λ j q k. onward-after edition s t (g .good) (known edition s (λ c. same c text-end ≡ false) (t .kind) j q k) in
         by-test P (is close-brace t) (ok empty v) _
         (λ q. record {
           walk = walk-join edition s x o z t (closed-state b) (operandAfter edition s t) (from close-brace q no-slash-brace)
-            (pass-operand edition s z t (closed-state b) (ere-closed b .0) (ap (step edition z) (same-is (t .kind) close-brace q) ∙ list-close n p b) (ere-closed b .1));
+              (pass-operand edition s z t (closed-state b) (ere-closed b .0) (ap (step edition z) (same-is (t .kind) close-brace q) ∙ list-close n p b) (ere-closed b .1));
           good = after-in edition s t (g .good);
           onward = omega (arith, g .onward, on close-brace q refl);
         })
         (λ q1. by-test P (is newline t) (statements edition s statement i v) _
         (λ q. statements-reads i n p b x o l v m (omega (arith, f, on newline q refl)) (none-after-line n p t (g .good) q e)
-          (record {
-            walk = walk-join edition s x o z t z (operandAfter edition s t) (from newline q no-slash-line) (list-pass z n p b newline t q (list-line n p b));
-            good = after-in edition s t (g .good);
-            onward = omega (arith, g .onward, on newline q refl);
-          }))
+        (record {
+          walk = walk-join edition s x o z t z (operandAfter edition s t) (from newline q no-slash-line) (list-pass z n p b newline t q (list-line n p b));
+          good = after-in edition s t (g .good);
+          onward = omega (arith, g .onward, on newline q refl);
+        }))
         (λ q2. stated-reads i (statements-reads i) n p b x o l t m f e g q1 q2 (is semicolon t) refl))
 
     -- a block from its `{` on

@@ -12,3 +12,4 @@ pub mod Operands
 pub mod Tiers
 pub mod Bodies
 pub mod Whole
+pub mod Exactly

@@ -174,14 +174,14 @@ module _ (edition : ℕ) where
         let at : step edition (g .state) (t .kind) ≡ cond (same (t .kind) close-paren) (some z) none = g .fact .0 ∙ h (t .kind) in
         by-test (Reads edition s (λ e u y. (y ≡ z) × (F e)) x o p) (is close-paren t) (ok e (tokenAfter edition s t)) (no _ _)
         (λ q.
-          let on : t .start < tokenAfter edition s t .start = onward-after edition s t (g .good) (known (λ k. same k text-end ≡ false) (t .kind) close-paren q refl) in
-          record {
-            state = z;
-            walk = walk-join edition s x o (g .state) t z (tokenAfter edition s t) (g .walk) (pass edition s (g .state) t z live (at ∙ rw q) n);
-            good = after-in edition s t (g .good);
-            onward = omega (arith, g .onward, on);
-            fact = (refl, g .fact .1);
-          })
+        let on : t .start < tokenAfter edition s t .start = onward-after edition s t (g .good) (known (λ k. same k text-end ≡ false) (t .kind) close-paren q refl) in
+        record {
+          state = z;
+          walk = walk-join edition s x o (g .state) t z (tokenAfter edition s t) (g .walk) (pass edition s (g .state) t z live (at ∙ rw q) n);
+          good = after-in edition s t (g .good);
+          onward = omega (arith, g .onward, on);
+          fact = (refl, g .fact .1);
+        })
         (λ q. later edition s x o (g .state) t _ _ (g .walk) (refused edition s (g .state) t (at ∙ rw q)))
 
     -- ---- calls
@@ -243,10 +243,10 @@ module _ (edition : ℕ) where
       argument-reads an-ere l f m c x u y t p rest a w b h k =
           by-test (Reads edition s (Done m c) x u p) (is ERE t) (rest (f (ereIn s t)) (tokenAfter edition s t)) (no _ _)
           (λ q.
-            let on : t .start < tokenAfter edition s t .start = onward-after edition s t (w .good) (known (λ k. same k text-end ≡ false) (t .kind) ERE q refl) in
-            k (f (ereIn s t)) (a (ereIn s t)) (tokenAfter edition s t) (argument-end l m c)
-            (walk-join edition s x u y t (argument-end l m c) (tokenAfter edition s t) (w .walk) (pass edition s y t (argument-end l m c) tt (h ∙ rw q) (argument-end-ere edition l m c)))
-            (after-in edition s t (w .good)) (omega (arith, b, on)) refl)
+          let on : t .start < tokenAfter edition s t .start = onward-after edition s t (w .good) (known (λ k. same k text-end ≡ false) (t .kind) ERE q refl) in
+          k (f (ereIn s t)) (a (ereIn s t)) (tokenAfter edition s t) (argument-end l m c)
+          (walk-join edition s x u y t (argument-end l m c) (tokenAfter edition s t) (w .walk) (pass edition s y t (argument-end l m c) tt (h ∙ rw q) (argument-end-ere edition l m c)))
+          (after-in edition s t (w .good)) (omega (arith, b, on)) refl)
           (λ q. later edition s x u y t _ _ (w .walk) (refused edition s y t (h ∙ rw q)))
 
       -- after a comma and newlines, an argument is read as the machine takes it
@@ -263,13 +263,13 @@ module _ (edition : ℕ) where
       more-arguments (a ∷ l) f m c x u n y t p free o d w g b h =
           by-test (Reads edition s (Done m c) x u p) (is comma t) (argument edition s inner u a l f (pastNewlines edition s (tokenAfter edition s t)) (arguments edition s inner u false l)) (no _ _)
           (λ q.
-            let e = ere-argument-line edition a l m c in
-            let j = lines-after edition s y (argument-line a l m c) (e .0) t (h ∙ rw q) refl (e .1) g (known (λ k. same k text-end ≡ false) (t .kind) comma q refl) in
-            let v : Token = pastNewlines edition s (tokenAfter edition s t) in
-            argument-reads a l f m c x u (argument-line a l m c) v p (arguments edition s inner u false l) free
-            (record { next = n; opens = o; walk = walk-join edition s x u y t (argument-line a l m c) v w (j .0); opener = d; good = j .1 })
-            (omega (arith, b, j .2)) (line-argument a l m c (v .kind) (j .3))
-            (λ g r v y w k b h. more-arguments l g m c x u n y v p r o d w k b h))
+          let e = ere-argument-line edition a l m c in
+          let j = lines-after edition s y (argument-line a l m c) (e .0) t (h ∙ rw q) refl (e .1) g (known (λ k. same k text-end ≡ false) (t .kind) comma q refl) in
+          let v : Token = pastNewlines edition s (tokenAfter edition s t) in
+          argument-reads a l f m c x u (argument-line a l m c) v p (arguments edition s inner u false l) free
+          (record { next = n; opens = o; walk = walk-join edition s x u y t (argument-line a l m c) v w (j .0); opener = d; good = j .1 })
+          (omega (arith, b, j .2)) (line-argument a l m c (v .kind) (j .3))
+          (λ g r v y w k b h. more-arguments l g m c x u n y v p r o d w k b h))
           (λ q. later edition s x u y t _ _ w (refused edition s y t (h ∙ rw q)))
 
       -- a call from its `(` on
@@ -316,7 +316,7 @@ module _ (edition : ℕ) where
       call-reads f m c u z a g =
           by-test (Reads edition s (Called-to m c) (open-next (f .shapes) m c) u (suc (u .start))) (is open-paren u) (closed edition s (arguments edition s inner u true (f .shapes) (f .tree) u)) (no _ _)
           (λ q. closed-reads (λ e. assignable e ≡ false) (call [] m c) (open-next (f .shapes) m c) (after m c) u (suc (u .start)) (arguments edition s inner u true (f .shapes) (f .tree) u) tt (λ k. refl) (after-ere edition m c)
-            (all-arguments (f .shapes) (f .tree) m c u z a q g))
+          (all-arguments (f .shapes) (f .tree) m c u z a q g))
           (λ q. refused edition s (open-next (f .shapes) m c) u (rw q))
 
       -- ---- primaries
@@ -373,21 +373,21 @@ module _ (edition : ℕ) where
       primary-reads n m c x t g h =
           let R : Read Expression → Type 0 = Reads edition s (Field c n m) x t (suc (t .start)) in
           let plainly : (j : Kind) → is j t ≡ true → primaryStep edition n m c j ≡ some (after m c) → step edition x (t .kind) ≡ some (after m c) =
-            λ j q e. h ∙ known (λ k. primaryStep edition n m c k ≡ some (after m c)) (t .kind) j q e in
+          λ j q e. h ∙ known (λ k. primaryStep edition n m c k ≡ some (after m c)) (t .kind) j q e in
           let no-end : (j : Kind) → is j t ≡ true → same j text-end ≡ false → same (t .kind) text-end ≡ false = λ j q e. known (λ k. same k text-end ≡ false) (t .kind) j q e in
           by-test R (is NUMBER t) _ _ (λ q. token-reads (Field c n m) m c x t (constant (number (numberIn s t))) g (no-end NUMBER q refl) (plainly NUMBER q refl) refl)
           (λ q1. by-test R (is STRING t) _ _ (λ q. token-reads (Field c n m) m c x t (constant (text (stringIn s t))) g (no-end STRING q refl) (plainly STRING q refl) refl)
           (λ q2. by-test R (is ERE t) _ _ (λ q. token-reads (Field c n m) m c x t (ere (ereIn s t)) g (no-end ERE q refl) (plainly ERE q refl) refl)
           (λ q3. by-test R (isOneOf names t) _ _
-            (λ q. token-reads (Field c n m) (cond (same (t .kind) fixed-variable) m n) c x t (variable (spelling s t)) g
-              (each (λ k. same k text-end ≡ false) names (refl, (refl, (refl, tt))) (t .kind) q)
-              (h ∙ each (λ k. primaryStep edition n m c k ≡ some (after (cond (same k fixed-variable) m n) c)) names (refl, (refl, (refl, tt))) (t .kind) q)
-              (ap (λ z. after z c) (name-mode n m (t .kind) (spelling s t) (named t g q))))
+          (λ q. token-reads (Field c n m) (cond (same (t .kind) fixed-variable) m n) c x t (variable (spelling s t)) g
+          (each (λ k. same k text-end ≡ false) names (refl, (refl, (refl, tt))) (t .kind) q)
+          (h ∙ each (λ k. primaryStep edition n m c k ≡ some (after (cond (same k fixed-variable) m n) c)) names (refl, (refl, (refl, tt))) (t .kind) q)
+          (ap (λ z. after z c) (name-mode n m (t .kind) (spelling s t) (named t g q))))
           (λ q4. by-test R (is open-paren t) _ _
-            (λ q. grouped (no-end open-paren q refl) (h ∙ known (λ k. primaryStep edition n m c k ≡ some (operand fresh (group m c))) (t .kind) open-paren q refl))
-            (λ q5. reads-weaken edition s (Called-to m c) (Field c n m) x t (suc (t .start)) (suc (t .start)) (calling edition s inner t (functionOf edition (t .kind)))
-              (λ e u y f. f .0 ∙ ap (λ b. after (cond b n m) c) (sym (f .1))) (omega arith)
-              (calling-reads m c x t (functionOf edition (t .kind)) refl g (h ∙ primary-call n m c (t .kind) q1 q2 q3 q4 q5)))))))
+          (λ q. grouped (no-end open-paren q refl) (h ∙ known (λ k. primaryStep edition n m c k ≡ some (operand fresh (group m c))) (t .kind) open-paren q refl))
+          (λ q5. reads-weaken edition s (Called-to m c) (Field c n m) x t (suc (t .start)) (suc (t .start)) (calling edition s inner t (functionOf edition (t .kind)))
+          (λ e u y f. f .0 ∙ ap (λ b. after (cond b n m) c) (sym (f .1))) (omega arith)
+          (calling-reads m c x t (functionOf edition (t .kind)) refl g (h ∙ primary-call n m c (t .kind) q1 q2 q3 q4 q5)))))))
         where
           grouped : same (t .kind) text-end ≡ false → step edition x (t .kind) ≡ some (operand fresh (group m c))
               → Reads edition s (Field c n m) x t (suc (t .start)) (map parentheses (closed edition s (inner false expressions t (operandAfter edition s t))))
@@ -410,15 +410,15 @@ module _ (edition : ℕ) where
       field-reads n m c x t g h =
           by-test (Reads edition s (Field c n m) x t (suc (t .start))) (is dollar t) (map field (inner false fields t (operandAfter edition s t))) (primary edition s inner t)
           (λ q.
-            let y : State = operand-field n c in
-            let v : Token = operandAfter edition s t in
-            let o : step edition x (t .kind) ≡ some y = h ∙ rw q in
-            let w : Opened x t y v = record { next = y; opens = o; walk = pass-operand edition s x t y (after n c) o (ere-field edition n c); opener = g; good = operand-after-in edition s t g } in
-            let on : t .start < v .start = onward-operand edition s t g (known (λ k. same k text-end ≡ false) (t .kind) dollar q refl) in
-            let r : Read Expression = inner false fields t v in
-            reads-map edition s (λ e u y. y ≡ after n c) (Field c n m) field x t (suc (t .start)) r (λ a u y f. f)
-            (reads-weaken edition s (Field c n n) (λ e u y. y ≡ after n c) x t (suc (t .start)) (suc (v .start)) r (λ a u y f. f ∙ ap (λ z. after z c) (either-way (assignable a) n)) (omega (arith, on))
-            (i .field-part n c x t y v w refl)))
+          let y : State = operand-field n c in
+          let v : Token = operandAfter edition s t in
+          let o : step edition x (t .kind) ≡ some y = h ∙ rw q in
+          let w : Opened x t y v = record { next = y; opens = o; walk = pass-operand edition s x t y (after n c) o (ere-field edition n c); opener = g; good = operand-after-in edition s t g } in
+          let on : t .start < v .start = onward-operand edition s t g (known (λ k. same k text-end ≡ false) (t .kind) dollar q refl) in
+          let r : Read Expression = inner false fields t v in
+          reads-map edition s (λ e u y. y ≡ after n c) (Field c n m) field x t (suc (t .start)) r (λ a u y f. f)
+          (reads-weaken edition s (Field c n n) (λ e u y. y ≡ after n c) x t (suc (t .start)) (suc (v .start)) r (λ a u y f. f ∙ ap (λ z. after z c) (either-way (assignable a) n)) (omega (arith, on))
+          (i .field-part n c x t y v w refl)))
           (λ q. primary-reads n m c x t g (h ∙ rw q))
         where
           either-way : (b : Bool) (n : Mode) → cond b n n ≡ n
@@ -440,6 +440,7 @@ module _ (edition : ℕ) where
           fresh-of against false = refl
           fresh-of tested true = refl
           fresh-of tested false = refl
+
           settle-of : (m : Mode) (b : Bool) → settle (cond b m (settle m)) ≡ settle m
           settle-of m true = refl
           settle-of m false = settle-twice m
@@ -450,18 +451,18 @@ module _ (edition : ℕ) where
       prefix-reads m c x t n g h =
           by-test (Reads edition s (Tight 1 c m) x t (suc (t .start))) (isOneOf prefixes t) (map (prefix (prefixOf (t .kind))) (inner false prefixed t (operandAfter edition s t))) (fieldForm edition s inner t)
           (λ q.
-            let y : State = operand (settle m) c in
-            let v : Token = operandAfter edition s t in
-            let o : step edition x (t .kind) ≡ some y = h ∙ each (λ k. operandStep edition m c k ≡ some y) prefixes (refl, (refl, (refl, tt))) (t .kind) q in
-            let w : Opened x t y v = record { next = y; opens = o; walk = pass-operand edition s x t y (after (settle (settle m)) c) o (ere-operand edition (settle m) c); opener = g; good = operand-after-in edition s t g } in
-            let on : t .start < v .start = onward-operand edition s t g (each (λ k. same k text-end ≡ false) prefixes (refl, (refl, (refl, tt))) (t .kind) q) in
-            let r : Read Expression = inner false prefixed t v in
-            reads-map edition s (Tight 1 c (settle m)) (Tight 1 c m) (prefix (prefixOf (t .kind))) x t (suc (t .start)) r
-            (λ a u y f. (f .0, f .1, f .2 ∙ (not-fresh m (assignable a) ∙ sym (and-none (isFresh m))), f .3 ∙ settle-twice m, f .4))
-            (reads-weaken edition s (Tight 1 c (settle m)) (Tight 1 c (settle m)) x t (suc (t .start)) (suc (v .start)) r (λ a u y f. f) (omega (arith, on))
-            (i .prefix-part (settle m) c x t y v (settled m n) w refl)))
+          let y : State = operand (settle m) c in
+          let v : Token = operandAfter edition s t in
+          let o : step edition x (t .kind) ≡ some y = h ∙ each (λ k. operandStep edition m c k ≡ some y) prefixes (refl, (refl, (refl, tt))) (t .kind) q in
+          let w : Opened x t y v = record { next = y; opens = o; walk = pass-operand edition s x t y (after (settle (settle m)) c) o (ere-operand edition (settle m) c); opener = g; good = operand-after-in edition s t g } in
+          let on : t .start < v .start = onward-operand edition s t g (each (λ k. same k text-end ≡ false) prefixes (refl, (refl, (refl, tt))) (t .kind) q) in
+          let r : Read Expression = inner false prefixed t v in
+          reads-map edition s (Tight 1 c (settle m)) (Tight 1 c m) (prefix (prefixOf (t .kind))) x t (suc (t .start)) r
+          (λ a u y f. (f .0, f .1, f .2 ∙ (not-fresh m (assignable a) ∙ sym (and-none (isFresh m))), f .3 ∙ settle-twice m, f .4))
+          (reads-weaken edition s (Tight 1 c (settle m)) (Tight 1 c (settle m)) x t (suc (t .start)) (suc (v .start)) r (λ a u y f. f) (omega (arith, on))
+          (i .prefix-part (settle m) c x t y v (settled m n) w refl)))
           (λ q. reads-weaken edition s (Field c m (settle m)) (Tight 1 c m) x t (suc (t .start)) (suc (t .start)) (fieldForm edition s inner t) (tight-field m c) (omega arith)
-            (field-reads m (settle m) c x t g (h ∙ unprefixed m c (t .kind) q)))
+          (field-reads m (settle m) c x t g (h ∙ unprefixed m c (t .kind) q)))
         where
           not-fresh : (m : Mode) (b : Bool) → (isFresh (settle m) && b) ≡ false
           not-fresh fresh b = refl

@@ -202,14 +202,14 @@ module _ (edition : ℕ) where
         let r = lines-in x y a e n (tokenAfter edition s t) (after-in edition s t g) in
         by-test (λ u. Line x (asOperand edition s t) (asOperand edition s u)) (isOneOf (newline ∷ []) t) (pastIn edition s (newline ∷ []) n (tokenAfter edition s t)) t
         (λ q.
-          let f : is newline t ≡ true = sym (single (t .kind) newline) ∙ q in
-          let k : t .kind ≡ newline = same-is (t .kind) newline f in
-          let on : t .start < tokenAfter edition s t .start = onward-after edition s t g (ap (λ (j : Kind). same j text-end) k) in
-          let i = r (omega (arith, on)) in
-          let v : Token = asOperand edition s (pastIn edition s (newline ∷ []) n (tokenAfter edition s t)) in
-          let from : t .start < operandAfter edition s t .start = onward-operand edition s t g (ap (λ (j : Kind). same j text-end) k) in
-          subst (λ (w : Token). Line x w v) (sym (newline-operand t f))
-          (go x t x (operandAfter edition s t) x v (ap (step edition x) k ∙ a) (read-again y e) (i .0), i .1, omega (arith, i .2, from), i .3))
+        let f : is newline t ≡ true = sym (single (t .kind) newline) ∙ q in
+        let k : t .kind ≡ newline = same-is (t .kind) newline f in
+        let on : t .start < tokenAfter edition s t .start = onward-after edition s t g (ap (λ (j : Kind). same j text-end) k) in
+        let i = r (omega (arith, on)) in
+        let v : Token = asOperand edition s (pastIn edition s (newline ∷ []) n (tokenAfter edition s t)) in
+        let from : t .start < operandAfter edition s t .start = onward-operand edition s t g (ap (λ (j : Kind). same j text-end) k) in
+        subst (λ (w : Token). Line x w v) (sym (newline-operand t f))
+        (go x t x (operandAfter edition s t) x v (ap (step edition x) k ∙ a) (read-again y e) (i .0), i .1, omega (arith, i .2, from), i .3))
         (λ q. (stay x (asOperand edition s t), operand-in edition s t g, omega arith, operand-test edition s newline t (refl, refl, refl, refl, refl) ∙ (sym (single (t .kind) newline) ∙ q)))
 
     -- a token, and the newlines after it

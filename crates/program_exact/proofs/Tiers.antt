@@ -158,7 +158,10 @@ module _ (edition : ℕ) where
     more-tight n p below turn m c pc nt zero x t b (ok e u) h g =
         let f = g .fact in
         record {
-          state = g .state; walk = g .walk; good = g .good; onward = g .onward;
+          state = g .state;
+          walk = g .walk;
+          good = g .good;
+          onward = g .onward;
           fact = (f .0, f .1, f .2, f .3, stops-end (suc n) (f .0) c (u .kind) (at-end edition s u (g .good) (omega (arith, h))));
         }
     more-tight n p below turn m c pc nt (suc i) x t b (no outcome place) h g = g
@@ -168,15 +171,18 @@ module _ (edition : ℕ) where
         let r : Read Expression = below (rightOf edition s (suc n) u) in
         by-test (Reads edition s (Tight edition s (suc n) c m) x t b) (eqb (tierOf edition p (u .kind)) (suc n)) (more edition s p (suc n) below i (map (treeOf (u .kind) e) r)) (ok e u)
         (λ q.
-          let tier : tierOf edition (printed c) (u .kind) ≡ suc n = ap (λ b. tierOf edition b (u .kind)) pc ∙ eqb-true (tierOf edition p (u .kind)) (suc n) q in
-          let next = turn k c u pc (keep m k (f .3) nt) (g .good) tier in
-          let w : Walk edition s x t (after k c) u = subst (λ (y : State). Walk edition s x t y u) (f .1) (g .walk) in
-          more-tight n p below turn m c pc nt i x t b (map (treeOf (u .kind) e) r) (enough-map (Tight edition s n c (settle k)) (treeOf (u .kind) e) i (after k c) u r h next)
-          (earlier edition s (Tight edition s n c m) x t (after k c) u b (suc (u .start)) (map (treeOf (u .kind) e) r) w (omega (arith, g .onward))
-          (reads-map edition s (Tight edition s n c (settle k)) (Tight edition s n c m) (treeOf (u .kind) e) (after k c) u (suc (u .start)) r
-          (λ a v y z. (z .0, z .1, z .2 ∙ (not-fresh k (assignable edition a) ∙ sym (ap (λ b. isFresh m && b) (tree-free (u .kind) e a) ∙ and-none (isFresh m))), z .3 ∙ (settle-twice k ∙ f .3), z .4)) next)))
+        let tier : tierOf edition (printed c) (u .kind) ≡ suc n = ap (λ b. tierOf edition b (u .kind)) pc ∙ eqb-true (tierOf edition p (u .kind)) (suc n) q in
+        let next = turn k c u pc (keep m k (f .3) nt) (g .good) tier in
+        let w : Walk edition s x t (after k c) u = subst (λ (y : State). Walk edition s x t y u) (f .1) (g .walk) in
+        more-tight n p below turn m c pc nt i x t b (map (treeOf (u .kind) e) r) (enough-map (Tight edition s n c (settle k)) (treeOf (u .kind) e) i (after k c) u r h next)
+        (earlier edition s (Tight edition s n c m) x t (after k c) u b (suc (u .start)) (map (treeOf (u .kind) e) r) w (omega (arith, g .onward))
+        (reads-map edition s (Tight edition s n c (settle k)) (Tight edition s n c m) (treeOf (u .kind) e) (after k c) u (suc (u .start)) r
+        (λ a v y z. (z .0, z .1, z .2 ∙ (not-fresh k (assignable edition a) ∙ sym (ap (λ b. isFresh m && b) (tree-free (u .kind) e a) ∙ and-none (isFresh m))), z .3 ∙ (settle-twice k ∙ f .3), z .4)) next)))
         (λ q. record {
-          state = g .state; walk = g .walk; good = g .good; onward = g .onward;
+          state = g .state;
+          walk = g .walk;
+          good = g .good;
+          onward = g .onward;
           fact = (k, f .1, f .2, f .3, stops-more n k c (u .kind) (λ z. eqb-false (tierOf edition p (u .kind)) (suc n) q (sym (ap (λ b. tierOf edition b (u .kind)) pc) ∙ z)) (f .4));
         })
 
@@ -251,20 +257,24 @@ module _ (edition : ℕ) where
         let v : Token = operandAfter edition s u in
         by-test (Reads edition s (Compared c m) x t l) (eqb (tierOf edition p (u .kind)) 5) (map (treeOf (u .kind) e) (below v)) (ok e u)
         (λ q.
-          let tier : tierOf edition (printed c) (u .kind) ≡ 5 = ap (λ b. tierOf edition b (u .kind)) pc ∙ eqb-true (tierOf edition p (u .kind)) 5 q in
-          let w : Walk edition s x t (after k c) u = subst (λ (y : State). Walk edition s x t y u) (f .1) (g .walk) in
-          earlier edition s (Compared c m) x t (after k c) u l (suc (u .start)) (map (treeOf (u .kind) e) (below v)) w (omega (arith, g .onward))
-          (reads-map edition s (Tight edition s 4 c against) (Compared c m) (treeOf (u .kind) e) (after k c) u (suc (u .start)) (below v)
-          (λ a v y z. (z .0, z .1, z .2 ∙ sym (ap (λ b. isFresh m && b) (tree-free (u .kind) e a) ∙ and-none (isFresh m)), keep against (z .0) (z .3) tt, right-stops (z .0) c (v .kind) (settle-against (z .0) (z .3)) (z .4)))
-          (right-reads (Tight edition s 4 c against) (after k c) against c u (below v) (g .good) (no-end (printed c) (u .kind) 4 tier) (compare-step k c (u .kind) (keep-loose m k (f .3) lo) tier)
-          (b against c (operand against c) v pc tt (operand-after-in edition s u (g .good)) (at-operand against c (v .kind))))))
+        let tier : tierOf edition (printed c) (u .kind) ≡ 5 = ap (λ b. tierOf edition b (u .kind)) pc ∙ eqb-true (tierOf edition p (u .kind)) 5 q in
+        let w : Walk edition s x t (after k c) u = subst (λ (y : State). Walk edition s x t y u) (f .1) (g .walk) in
+        earlier edition s (Compared c m) x t (after k c) u l (suc (u .start)) (map (treeOf (u .kind) e) (below v)) w (omega (arith, g .onward))
+        (reads-map edition s (Tight edition s 4 c against) (Compared c m) (treeOf (u .kind) e) (after k c) u (suc (u .start)) (below v)
+        (λ a v y z. (z .0, z .1, z .2 ∙ sym (ap (λ b. isFresh m && b) (tree-free (u .kind) e a) ∙ and-none (isFresh m)), keep against (z .0) (z .3) tt, right-stops (z .0) c (v .kind) (settle-against (z .0) (z .3)) (z .4)))
+        (right-reads (Tight edition s 4 c against) (after k c) against c u (below v) (g .good) (no-end (printed c) (u .kind) 4 tier) (compare-step k c (u .kind) (keep-loose m k (f .3) lo) tier)
+        (b against c (operand against c) v pc tt (operand-after-in edition s u (g .good)) (at-operand against c (v .kind))))))
         (λ q. record {
-          state = g .state; walk = g .walk; good = g .good; onward = g .onward;
+          state = g .state;
+          walk = g .walk;
+          good = g .good;
+          onward = g .onward;
           fact = (k, f .1, f .2, keep m k (f .3) (loose-not m lo), stops-more 4 k c (u .kind) (λ z. eqb-false (tierOf edition p (u .kind)) 5 q (sym (ap (λ b. tierOf edition b (u .kind)) pc) ∙ z)) (f .4));
         })
       where
         larger : (x : ℕ) → (x ≡ 5 → ⊥) → 4 < x → 5 < x
         larger x a b = omega (arith, a)
+
         right-stops : (k : Mode) (c : Context) (j : Kind) → k ≡ against → Stops edition 4 k c j → Stops edition 5 k c j
         right-stops k c j e (inl z) = inl z
         right-stops k c j e (inr z) = inr (larger (tierAfter k (tierOf edition (printed c) j)) (λ h. against-not (tierOf edition (printed c) j) (ap (λ m. tierAfter m (tierOf edition (printed c) j)) (sym e) ∙ h)) z)
@@ -287,14 +297,14 @@ module _ (edition : ℕ) where
     match-with m c e t u g =
         by-test (Reads edition s (Loosely 6 c m) (ere-next c) u (suc (u .start))) (is ERE u) (ok (cond (is tilde t) (matches e (ereIn s u)) (no-match e (ereIn s u))) (tokenAfter edition s u)) (no _ _)
         (λ q.
-          let n : same (u .kind) text-end ≡ false = known edition s (λ k. same k text-end ≡ false) (u .kind) ERE q refl in
-          record {
-            state = after tested c;
-            walk = pass edition s (ere-next c) u (after tested c) tt (rw q) (after-ere edition tested c);
-            good = after-in edition s u g;
-            onward = omega (arith, onward-after edition s u g n);
-            fact = (tested, refl, sym (ap (λ b. isFresh m && b) (unassigned (is tilde t)) ∙ and-none (isFresh m)), (λ h. refl), tested-after (tierOf edition (printed c) (tokenAfter edition s u .kind)));
-          })
+        let n : same (u .kind) text-end ≡ false = known edition s (λ k. same k text-end ≡ false) (u .kind) ERE q refl in
+        record {
+          state = after tested c;
+          walk = pass edition s (ere-next c) u (after tested c) tt (rw q) (after-ere edition tested c);
+          good = after-in edition s u g;
+          onward = omega (arith, onward-after edition s u g n);
+          fact = (tested, refl, sym (ap (λ b. isFresh m && b) (unassigned (is tilde t)) ∙ and-none (isFresh m)), (λ h. refl), tested-after (tierOf edition (printed c) (tokenAfter edition s u .kind)));
+        })
         (λ q. refused edition s (ere-next c) u (rw q))
       where
         unassigned : (b : Bool) → assignable edition (cond b (matches e (ereIn s u)) (no-match e (ereIn s u))) ≡ false
@@ -311,14 +321,17 @@ module _ (edition : ℕ) where
         let v : Token = operandAfter edition s u in
         by-test (Reads edition s (Loosely 6 c m) x t b) (isOneOf (tilde ∷ no-match-kind ∷ []) u) (matchWith edition s e u v) (ok e u)
         (λ q.
-          let n : same (u .kind) text-end ≡ false = each (λ k. same k text-end ≡ false) (tilde ∷ no-match-kind ∷ []) (refl, (refl, tt)) (u .kind) q in
-          let w : Walk edition s x t (after k c) u = subst (λ (y : State). Walk edition s x t y u) (f .1) (g .walk) in
-          let on : u .start < v .start = onward-operand edition s u (g .good) n in
-          earlier edition s (Loosely 6 c m) x t (ere-next c) v b (suc (v .start)) (matchWith edition s e u v)
-          (walk-join edition s x t (after k c) u (ere-next c) v w (pass-operand edition s (after k c) u (ere-next c) (after tested c) (match-step k c (u .kind) (f .3) q) (ere-next-takes edition c)))
-          (omega (arith, on, g .onward)) (match-with m c e u v (operand-after-in edition s u (g .good))))
+        let n : same (u .kind) text-end ≡ false = each (λ k. same k text-end ≡ false) (tilde ∷ no-match-kind ∷ []) (refl, (refl, tt)) (u .kind) q in
+        let w : Walk edition s x t (after k c) u = subst (λ (y : State). Walk edition s x t y u) (f .1) (g .walk) in
+        let on : u .start < v .start = onward-operand edition s u (g .good) n in
+        earlier edition s (Loosely 6 c m) x t (ere-next c) v b (suc (v .start)) (matchWith edition s e u v)
+        (walk-join edition s x t (after k c) u (ere-next c) v w (pass-operand edition s (after k c) u (ere-next c) (after tested c) (match-step k c (u .kind) (f .3) q) (ere-next-takes edition c)))
+        (omega (arith, on, g .onward)) (match-with m c e u v (operand-after-in edition s u (g .good))))
         (λ q. record {
-          state = g .state; walk = g .walk; good = g .good; onward = g .onward;
+          state = g .state;
+          walk = g .walk;
+          good = g .good;
+          onward = g .onward;
           fact = (k, f .1, f .2, (λ h. absurd (clash (sym h ∙ q))), six k c (u .kind) (f .4));
         })
 
@@ -387,7 +400,10 @@ module _ (edition : ℕ) where
     more-loose n p below turn m c pc zero x t b (ok e u) h g =
         let f = g .fact in
         record {
-          state = g .state; walk = g .walk; good = g .good; onward = g .onward;
+          state = g .state;
+          walk = g .walk;
+          good = g .good;
+          onward = g .onward;
           fact = (f .0, f .1, f .2, f .3, stops-end (suc n) (f .0) c (u .kind) (at-end edition s u (g .good) (omega (arith, h))));
         }
     more-loose n p below turn m c pc (suc i) x t b (no outcome place) h g = g
@@ -397,15 +413,18 @@ module _ (edition : ℕ) where
         let r : Read Expression = below (rightOf edition s (suc n) u) in
         by-test (Reads edition s (Loosely (suc n) c m) x t b) (eqb (tierOf edition p (u .kind)) (suc n)) (more edition s p (suc n) below i (map (treeOf (u .kind) e) r)) (ok e u)
         (λ q.
-          let tier : tierOf edition (printed c) (u .kind) ≡ suc n = ap (λ b. tierOf edition b (u .kind)) pc ∙ eqb-true (tierOf edition p (u .kind)) (suc n) q in
-          let next = turn k c u pc (g .good) tier in
-          let w : Walk edition s x t (after k c) u = subst (λ (y : State). Walk edition s x t y u) (f .1) (g .walk) in
-          more-loose n p below turn m c pc i x t b (map (treeOf (u .kind) e) r) (enough-map (Loosely n c plain) (treeOf (u .kind) e) i (after k c) u r h next)
-          (earlier edition s (Loosely n c m) x t (after k c) u b (suc (u .start)) (map (treeOf (u .kind) e) r) w (omega (arith, g .onward))
-          (reads-map edition s (Loosely n c plain) (Loosely n c m) (treeOf (u .kind) e) (after k c) u (suc (u .start)) r
-          (λ a v y z. (z .0, z .1, z .2 ∙ sym (ap (λ b. isFresh m && b) (tree-free (u .kind) e a) ∙ and-none (isFresh m)), z .3, z .4)) next)))
+        let tier : tierOf edition (printed c) (u .kind) ≡ suc n = ap (λ b. tierOf edition b (u .kind)) pc ∙ eqb-true (tierOf edition p (u .kind)) (suc n) q in
+        let next = turn k c u pc (g .good) tier in
+        let w : Walk edition s x t (after k c) u = subst (λ (y : State). Walk edition s x t y u) (f .1) (g .walk) in
+        more-loose n p below turn m c pc i x t b (map (treeOf (u .kind) e) r) (enough-map (Loosely n c plain) (treeOf (u .kind) e) i (after k c) u r h next)
+        (earlier edition s (Loosely n c m) x t (after k c) u b (suc (u .start)) (map (treeOf (u .kind) e) r) w (omega (arith, g .onward))
+        (reads-map edition s (Loosely n c plain) (Loosely n c m) (treeOf (u .kind) e) (after k c) u (suc (u .start)) r
+        (λ a v y z. (z .0, z .1, z .2 ∙ sym (ap (λ b. isFresh m && b) (tree-free (u .kind) e a) ∙ and-none (isFresh m)), z .3, z .4)) next)))
         (λ q. record {
-          state = g .state; walk = g .walk; good = g .good; onward = g .onward;
+          state = g .state;
+          walk = g .walk;
+          good = g .good;
+          onward = g .onward;
           fact = (k, f .1, f .2, f .3, stops-more n k c (u .kind) (λ z. eqb-false (tierOf edition p (u .kind)) (suc n) q (sym (ap (λ b. tierOf edition b (u .kind)) pc) ∙ z)) (f .4));
         })
 
@@ -529,11 +548,11 @@ module _ (edition : ℕ) where
         let i = inside-reads levels in
         record {
           whole = λ p c x o y t pc w h. earlier edition s (Whole edition s c) x o y t (suc (t .start)) (suc (t .start)) (tier edition s inner p expressions t) (w .walk) (omega arith)
-            (whole-reads inner i p c y t pc (w .good) h);
+              (whole-reads inner i p c y t pc (w .good) h);
           prefix-part = λ m c x o y t n w h. earlier edition s (Tight edition s 1 c m) x o y t (suc (t .start)) (suc (t .start)) (tier edition s inner false 1 t) (w .walk) (omega arith)
-            (prefix-reads edition s inner i m c y t n (w .good) h);
+              (prefix-reads edition s inner i m c y t n (w .good) h);
           field-part = λ m c x o y t w h. earlier edition s (Field edition s c m m) x o y t (suc (t .start)) (suc (t .start)) (tier edition s inner false 0 t) (w .walk) (omega arith)
-            (field-reads edition s inner i m m c y t (w .good) h);
+              (field-reads edition s inner i m m c y t (w .good) h);
         }
 
     pub expression-reads : (levels : ℕ) (p : Bool) (c : Context) (x : State) (t : Token) → printed c ≡ p → InText edition s 0 t → step edition x (t .kind) ≡ operandStep edition fresh c (t .kind)

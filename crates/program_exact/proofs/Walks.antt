@@ -123,7 +123,7 @@ module _ (edition : ℕ) (s : List ℕ) where
   operand-test j t h =
       by-test (λ u. is j u ≡ is j t) (isOneOf Slashes t) (Again edition s t) t
       (λ e. ere-kind (λ (k : Kind). same k j ≡ false) (h .1) (h .2) (h .0) edition (t .start) (drop (suc (t .start)) s) (ereLength false (drop (suc (t .start)) s))
-        ∙ sym (each (λ k. same k j ≡ false) Slashes (h .3, (h .4, tt)) (t .kind) e)) (λ e. refl)
+      ∙ sym (each (λ k. same k j ≡ false) Slashes (h .3, (h .4, tt)) (t .kind) e)) (λ e. refl)
 
   -- ---- what is reached
 

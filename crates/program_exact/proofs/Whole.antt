@@ -81,7 +81,7 @@ module _ (edition : ℕ) (s : List ℕ) where
   pattern-reads x t p (ok e u) g =
       by-test (ItemReads x t p) (is open-brace u) (map (main (some e)) (actionAt edition s true u)) _
       (λ q. item-earlier x t (g .state) u p (suc (u .start)) (map (main (some e)) (actionAt edition s true u)) (g .walk) (omega (arith, g .onward))
-        (paused-item (main (some e)) (g .state) u (suc (u .start)) (actionAt edition s true u) (brace-step true (g .state) u (g .good) (g .fact ∙ pattern-brace (u .kind) q))))
+      (paused-item (main (some e)) (g .state) u (suc (u .start)) (actionAt edition s true u) (brace-step true (g .state) u (g .good) (g .fact ∙ pattern-brace (u .kind) q))))
       (λ q. by-test (ItemReads x t p) (isOneOf (text-end ∷ enders) u) (ok (main (some e) (print [])) u) (no _ _)
       (λ r. inr (record { state = g .state; walk = g .walk; good = g .good; onward = g .onward; leaves = g .fact; ends = r }))
       (λ r. later edition s x t (g .state) u _ _ (g .walk) (refused edition s (g .state) u (g .fact ∙ pattern-none (u .kind) q r))))
@@ -120,9 +120,9 @@ module _ (edition : ℕ) (s : List ℕ) where
       by-test R (is BEGIN t) (map begin (actionAt edition s false (tokenAfter edition s t))) _ (λ q. section-reads begin BEGIN x t g q refl refl e)
       (λ q1. by-test R (is END t) (map end (actionAt edition s false (tokenAfter edition s t))) _ (λ q. section-reads end END x t g q refl refl e)
       (λ q2. by-test R (is open-brace t) (map (main none) (actionAt edition s true t)) _
-        (λ q. paused-item (main none) x t (suc (t .start)) (actionAt edition s true t) (brace-step true x t g (e ∙ item-brace (t .kind) q)))
-        (λ q3. pattern-reads x t (suc (t .start)) (expressionAt edition s nestingDepth false t)
-          (expression-reads edition s nestingDepth false pattern x t refl g (e ∙ item-pattern (t .kind) n q1 q2 q3)))))
+      (λ q. paused-item (main none) x t (suc (t .start)) (actionAt edition s true t) (brace-step true x t g (e ∙ item-brace (t .kind) q)))
+      (λ q3. pattern-reads x t (suc (t .start)) (expressionAt edition s nestingDepth false t)
+      (expression-reads edition s nestingDepth false pattern x t refl g (e ∙ item-pattern (t .kind) n q1 q2 q3)))))
 
   -- ---- newlines and `;` after an item
 
@@ -158,12 +158,15 @@ module _ (edition : ℕ) (s : List ℕ) where
       let v : Token = asOperand edition s (pastIn edition s enders n (tokenAfter edition s t)) in
       by-test (λ u. Past (asOperand edition s t) (asOperand edition s u)) (isOneOf enders t) (pastIn edition s enders n (tokenAfter edition s t)) t
       (λ q.
-        let on : t .start < tokenAfter edition s t .start = onward-after edition s t g (not-end edition s (t .kind) q) in
-        let from : t .start < operandAfter edition s t .start = onward-operand edition s t g (not-end edition s (t .kind) q) in
-        let i = past-reads n (tokenAfter edition s t) (after-in edition s t g) (omega (arith, h, on)) in
-        subst (λ (w : Token). Past w v) (sym (ender-operand t q))
-        (walk-join edition s between t between (operandAfter edition s t) between v (pass-operand edition s between t between (after plain pattern) (between-stays (t .kind) q) (ere-between edition)) (i .0),
-          i .1, omega (arith, i .2, from), i .3))
+      let on : t .start < tokenAfter edition s t .start = onward-after edition s t g (not-end edition s (t .kind) q) in
+      let from : t .start < operandAfter edition s t .start = onward-operand edition s t g (not-end edition s (t .kind) q) in
+      let i = past-reads n (tokenAfter edition s t) (after-in edition s t g) (omega (arith, h, on)) in
+      subst (λ (w : Token). Past w v) (sym (ender-operand t q)) (
+        walk-join edition s between t between (operandAfter edition s t) between v (pass-operand edition s between t between (after plain pattern) (between-stays (t .kind) q) (ere-between edition)) (i .0),
+        i .1,
+        omega (arith, i .2, from),
+        i .3,
+      ))
       (λ q. (stay between (asOperand edition s t), operand-in edition s t g, omega arith, operand-enders t ∙ q))
 
   past-still : (n : ℕ) (t : Token) → isOneOf enders t ≡ false → pastIn edition s enders n t ≡ t
@@ -211,25 +214,25 @@ module _ (edition : ℕ) (s : List ℕ) where
   alone-reads i rest x o l u f g =
       ⊎-elim
       (λ q.
-        let k : u .kind ≡ text-end = same-is (u .kind) text-end q in
-        subst (λ (w : Token). Finishes x o (items edition s i w)) (sym (end-still u q))
-        (rest x o (g .state) u (g .walk) (g .good) (g .leaves ∙ (ap (exit pattern) k ∙ (leave-end ∙ sym (ap (itemStep edition) k ∙ item-end)))) (omega (arith, f, g .onward))))
+      let k : u .kind ≡ text-end = same-is (u .kind) text-end q in
+      subst (λ (w : Token). Finishes x o (items edition s i w)) (sym (end-still u q))
+      (rest x o (g .state) u (g .walk) (g .good) (g .leaves ∙ (ap (exit pattern) k ∙ (leave-end ∙ sym (ap (itemStep edition) k ∙ item-end)))) (omega (arith, f, g .onward))))
       (λ q.
-        let end : same (u .kind) text-end ≡ false = not-end edition s (u .kind) q in
-        let j = fuelled edition s u (length s) (g .good) end (omega arith) in
-        let v : Token = tokenAfter edition s u in
-        let w : Token = pastIn edition s enders (j .0) v in
-        let on : u .start < v .start = onward-after edition s u (g .good) end in
-        let counted : length s ≡ suc (j .0) = j .1 in
-        let i2 = past-reads (j .0) v (after-in edition s u (g .good)) (omega (arith, counted, on)) in
-        let same-token : past edition s enders u ≡ w = ap (λ (n : ℕ). pastIn edition s enders n u) counted ∙ past-turn (j .0) u q in
-        let from : u .start < operandAfter edition s u .start = onward-operand edition s u (g .good) end in
-        subst (λ (z : Token). Finishes x o (items edition s i (asOperand edition s z))) (sym same-token)
-        (rest x o between (asOperand edition s w)
-        (walk-join edition s x o (g .state) u between (asOperand edition s w) (g .walk)
-        (walk-join edition s (g .state) u between (operandAfter edition s u) between (asOperand edition s w)
-        (pass-operand edition s (g .state) u between (after plain pattern) (g .leaves ∙ leave-ender (u .kind) q) (ere-between edition)) (i2 .0)))
-        (i2 .1) (between-item (asOperand edition s w .kind) (i2 .3)) (omega (arith, f, g .onward, from, i2 .2))))
+      let end : same (u .kind) text-end ≡ false = not-end edition s (u .kind) q in
+      let j = fuelled edition s u (length s) (g .good) end (omega arith) in
+      let v : Token = tokenAfter edition s u in
+      let w : Token = pastIn edition s enders (j .0) v in
+      let on : u .start < v .start = onward-after edition s u (g .good) end in
+      let counted : length s ≡ suc (j .0) = j .1 in
+      let i2 = past-reads (j .0) v (after-in edition s u (g .good)) (omega (arith, counted, on)) in
+      let same-token : past edition s enders u ≡ w = ap (λ (n : ℕ). pastIn edition s enders n u) counted ∙ past-turn (j .0) u q in
+      let from : u .start < operandAfter edition s u .start = onward-operand edition s u (g .good) end in
+      subst (λ (z : Token). Finishes x o (items edition s i (asOperand edition s z))) (sym same-token)
+      (rest x o between (asOperand edition s w)
+      (walk-join edition s x o (g .state) u between (asOperand edition s w) (g .walk)
+      (walk-join edition s (g .state) u between (operandAfter edition s u) between (asOperand edition s w)
+      (pass-operand edition s (g .state) u between (after plain pattern) (g .leaves ∙ leave-ender (u .kind) q) (ere-between edition)) (i2 .0)))
+      (i2 .1) (between-item (asOperand edition s w .kind) (i2 .3)) (omega (arith, f, g .onward, from, i2 .2))))
       (or-cases (same (u .kind) text-end) (among enders (u .kind)) (g .ends))
 
   after-item : (i : ℕ) → ItemsRead i → (x : State) (o : Token) (l : ℕ) (r : Read Item) → suc (length s) ≤ i + l → ItemReads x o l r

@@ -1,2 +1,4 @@
--- The grammar of programs as a machine that takes one kind of token at a time.
+-- What is claimed of the reader of programs beside the grammar, and the grammar as a machine that takes one kind of
+-- token at a time.
+pub mod Claims
 pub mod Machine
