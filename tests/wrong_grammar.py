@@ -1,0 +1,89 @@
+#!/usr/bin/env python3
+"""Tries wrong rules of the grammar and of the reader of programs, one at a time: each must be refused by a proof.
+
+    tests/wrong_grammar.py [WORD..]
+
+The script copies crates.txt, crates/ and what is proved of them in target/ to a temporary folder, applies one wrong rule
+there and runs `rt check program_exact`: that proves the rule's crate, those above it, and that the reader means what the
+grammar says. It prints which crate refuses the rule, and where first. Exit status: 0 if each is refused; 1 if one is
+accepted, or is no definition at all; 2 if a text to be replaced is not there, or the crates don't pass as they are.
+
+WORD.. tries only those whose description has one of the words.
+"""
+import re
+import shutil
+import subprocess
+import sys
+
+from wrong_definitions import ROOT, copied, edited, read, specs, write
+
+GRAMMAR = ('program_grammar', 'Grammar.antt')
+EXPRESSIONS = ('program_reader', 'Expressions.antt')
+STATEMENTS = ('program_reader', 'Statements.antt')
+PROGRAMS = ('program_reader', 'Programs.antt')
+
+# what is wrong; the file; the texts, and what replaces them: [(old, new), ..]
+WRONG = [
+    # ---- the relation
+    ('grammar: no lone `;`', GRAMMAR,
+     [('empty : Statement inMain ended whole (semicolon ∷ [])',
+       'empty : Statement inMain ended whole (semicolon ∷ semicolon ∷ [])')]),
+    ('grammar: `next` in BEGIN and END', GRAMMAR, [('next : inMain ≡ true →', 'next : inMain ≡ inMain →')]),
+    ('grammar: a chain of comparisons', GRAMMAR,
+     [('Form concatenation l → Compares p k → Form concatenation r',
+       'Form (comparison p) l → Compares p k → Form concatenation r')]),
+    ('grammar: an `else` of the outer `if`', GRAMMAR,
+     [('→ Statement inMain e whole a → BeforeElse e b', '→ Statement inMain e takes-else a → BeforeElse e b')]),
+    # ---- the reader
+    ('reader: no pattern before a newline', PROGRAMS,
+     [('isOneOf (text-end ∷ enders) t', 'isOneOf (text-end ∷ []) t')]),
+    ('reader: `next` in BEGIN and END', STATEMENTS, [('(cond (is NEXT t && inMain)', '(cond (is NEXT t && true)')]),
+    ('reader: a chain of comparisons', EXPRESSIONS,
+     [('turns s tier = cond (eqb tier compared) 1 (length s)', 'turns s tier = cond (eqb tier compared) 2 (length s)')]),
+    ('reader: an `else` after two `;`', STATEMENTS,
+     [('(cond (is semicolon t && not semicolons) mark', '(cond (is semicolon t && not false) mark')]),
+]
+
+
+def checked(scratch):
+    """What `rt check program_exact` says: None if all is proved, else the crate that refuses and its first error."""
+    done = subprocess.run(['rt', 'check', 'program_exact'], cwd=scratch, stdout=subprocess.PIPE, stderr=subprocess.STDOUT)
+    answer = done.stdout.decode('utf-8', 'replace')
+    if done.returncode == 0:
+        return None
+    crate = re.search(r'^rt: (\S+) NOT PROVED \(', answer, re.M)
+    error = re.search(r'crates/[^/\s]+/((?:specs|proofs)/\S+?\.antt:\d+):\d+: (?:error: )?`([^`]+)`', answer)
+    return (crate.group(1) if crate else '?', '%s %s' % (error.group(1), error.group(2)) if error else answer[-300:])
+
+
+def main():
+    words = sys.argv[1:]
+    chosen = [row for row in WRONG if not words or any(word in row[0] for word in words)]
+    stale = [what for what, place, edits in chosen if edited(read(specs(ROOT, *place)), edits) is None]
+    if stale:
+        print('wrong_grammar.py: the text to be replaced is not there: ' + '; '.join(stale))
+        sys.exit(2)
+    scratch = copied(False)
+    failed = []
+    try:
+        first = checked(scratch)
+        if first:
+            print('wrong_grammar.py: without an edit, %s is refused: %s' % first)
+            sys.exit(2)
+        for what, (crate, name), edits in chosen:
+            path = specs(scratch, crate, name)
+            right = read(path)
+            write(path, edited(right, edits))
+            refusal = checked(scratch)
+            write(path, right)
+            if refusal is None or refusal[1].startswith('specs/'):
+                failed.append(what)
+            print('%-45s %-16s %s' % (what, crate, 'ACCEPTED' if refusal is None else '%s, %s' % refusal), flush=True)
+    finally:
+        shutil.rmtree(scratch)
+    print('%d wrong rules, %d refused by a proof' % (len(chosen), len(chosen) - len(failed)))
+    sys.exit(1 if failed else 0)
+
+
+if __name__ == '__main__':
+    main()
