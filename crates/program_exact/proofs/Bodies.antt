@@ -4,30 +4,28 @@ use mathlib.Core.Bool.{Bool, true, false, not, cond, _&&_, _||_}
 use mathlib.Core.List.{List, [], _∷_, _++_}
 use mathlib.Core.Option.{Option, some, none}
 use mathlib.Core.Logic.{_⊎_, inl, inr, ⊎-elim}
-use Prim.Native.Nat.{ℕ, zero, suc, _+_, _-_, _≤_, _<_}
+use Prim.Native.Nat.{ℕ, zero, suc, _+_, _≤_, _<_}
 use native.Mathlib.Omega.{arith}
 use lib.ListN.{length}
-use lib.Dec.{eqb, leb}
-use Rattle.lists.proofs.Tests.{clash, and-true, and-false as and-none, or-false, or-cases}
+use Rattle.lists.proofs.Tests.{clash, and-true, or-false, or-cases}
 use Rattle.lists.proofs.Options.{none-some, some-one}
 use Rattle.program_tokens.specs.Kinds.{Kind, text-end, newline, ERE, IF, ELSE, WHILE, PRINT, NEXT, EXIT, open-brace, close-brace, open-paren, close-paren, comma, semicolon, same, among, rank}
 use Rattle.program_tokens.specs.Tokens.{Token, is, isOneOf, tokenAfter, asOperand}
 use Rattle.program_tokens.proofs.Ranks.{same-is}
-use Rattle.program_tree.specs.Tree.{Expression, Statement, expression, print, if, if-else, while, block, next, exit as exit-tree, empty, sequence}
+use Rattle.program_tree.specs.Tree.{Expression, Statement, expression, print, if-else, while, block, next, exit as exit-tree, empty, sequence}
 use Rattle.program_grammar.specs.Sets.{enders, startsExpression, startsStatement}
-use Rattle.program_reader.specs.Read.{Read, ok, no, map, bind, tooDeep, operandAfter, pastIn, pastNewlines}
+use Rattle.program_reader.specs.Read.{Read, ok, no, map, bind, tooDeep, operandAfter, pastNewlines}
 use Rattle.program_reader.specs.Operators.{expressions}
-use Rattle.program_reader.specs.Expressions.{closed, tier, inside, expressionAt}
+use Rattle.program_reader.specs.Expressions.{closed, inside, expressionAt}
 use Rattle.program_reader.specs.Statements.{ended, noBody, listed as listed-of, printAt, conditionAt, elseAfter, bodyAt, elseAt, thenAt, ifAt, whileAt, statementOf, followed, statements, blockOf, statementAt}
 use Rattle.program_parser.specs.Reading.{Good as InText}
 use Rattle.program_parser.proofs.Tokens.{Slashes, good-operand}
-use Rattle.program_exact.specs.Machine.{Mode, fresh, plain, Blocks, action, nested, Context, condition, value, listed, pattern, State, between, operand, operand-line, after, condition-next, body, print-next, finished, list, mainOf, printed, closed as closed-state, elseStep, finishedStep, exit, operandStep, beginStep, listStep, step}
-use Rattle.program_exact.proofs.Facts.{each, by-test, idle, idle-operand, operand-starts, nothing-starts}
-use Rattle.program_exact.proofs.Walks.{Away, Walk, stay, go, walk-join, pass, pass-operand, walk-in, after-in, operand-in, operand-after-in, onward-after, onward-operand, at-end, operand-still, operand-test}
-use Rattle.program_exact.proofs.Readings.{ere-operand, ere-line, ere-body, ere-list, ere-print, ere-between, condition-ere, finished-ere, after-ere, Refusal, Arrived, Reads, refused, too-deep, later, earlier, reads-map, reads-weaken, reads-then, single, lines-in, lines-after}
-use Rattle.program_exact.proofs.Operands.{Whole, Opened, known}
+use Rattle.program_exact.specs.Machine.{Mode, fresh, plain, Blocks, action, nested, Context, condition, value, listed, pattern, State, between, operand, operand-line, after, condition-next, body, print-next, finished, list, mainOf, closed as closed-state, elseStep, finishedStep, exit, operandStep, beginStep, listStep, step}
+use Rattle.program_exact.proofs.Facts.{each, by-test, idle-operand, operand-starts, nothing-starts}
+use Rattle.program_exact.proofs.Walks.{Walk, stay, walk-join, pass, pass-operand, after-in, operand-in, operand-after-in, onward-after, onward-operand, at-end, operand-still, operand-test}
+use Rattle.program_exact.proofs.Readings.{ere-operand, ere-body, ere-list, ere-print, ere-between, condition-ere, finished-ere, Refusal, Reads, refused, too-deep, later, earlier, reads-map, reads-weaken, single, lines-in}
+use Rattle.program_exact.proofs.Operands.{Whole, known}
 use Rattle.program_exact.proofs.Tiers.{Enough, enough-map, enough-all, line-reads, inside-reads, expression-reads}
-use Rattle.program_exact.proofs.Operands.{InnerReads}
 
 and-swap : (a b : Bool) → (a && b) ≡ (b && a)
 and-swap true true = refl

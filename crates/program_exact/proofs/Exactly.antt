@@ -5,7 +5,7 @@ use mathlib.Core.Bool.{Bool, true, false, cond}
 use mathlib.Core.List.{List, [], _∷_, _++_, append-assoc, append-nil}
 use mathlib.Core.Option.{Option, some, none}
 use mathlib.Core.Logic.{_⊎_, inl, inr, ⊎-elim}
-use Prim.Native.Nat.{ℕ, zero, suc, _+_, _-_, _≤_, _<_}
+use Prim.Native.Nat.{ℕ, zero, suc, _+_, _-_, _<_}
 use native.Mathlib.Omega.{arith}
 use lib.Dec.{ltb}
 use lib.ListN.{length}
@@ -25,7 +25,7 @@ use Rattle.program_exact.specs.Machine.{plain, pattern, State, start, do
 use Rattle.program_exact.proofs.Facts.{by-test, run-none, run-append}
 use Rattle.program_exact.proofs.Sentences.{sentence-run, not-viable}
 use Rattle.program_exact.proofs.Viability.{run-viable, viable-run, run-sentence}
-use Rattle.program_exact.proofs.Walks.{Live, Walk, read-again, Here, reaches, begins, walk-live}
+use Rattle.program_exact.proofs.Walks.{Live, read-again, Here, reaches, begins, walk-live}
 use Rattle.program_exact.proofs.Readings.{ere-start, Refusal}
 use Rattle.program_exact.proofs.Operands.{isSome}
 use Rattle.program_exact.proofs.Whole.{Finishes, program-reads}

@@ -1,19 +1,19 @@
 -- Small laws: kinds in lists, functions, and runs of the machine.
 use mathlib.Core.Path.{_≡_, refl, sym, ap, subst, _∙_}
-use mathlib.Core.Bool.{Bool, true, false, not, cond, _&&_, _||_}
+use mathlib.Core.Bool.{Bool, true, false, cond}
 use mathlib.Core.List.{List, [], _∷_, _++_}
 use mathlib.Core.Option.{Option, some, none}
 use mathlib.Core.Logic.{_⊎_, inl, inr, ⊎-elim}
-use Prim.Native.Nat.{ℕ, zero, suc}
-use lib.Dec.{eqb, leb}
-use Rattle.lists.proofs.Tests.{clash, and-true, and-false, or-cases, or-false}
+use Prim.Native.Nat.{ℕ}
+use lib.Dec.{eqb}
+use Rattle.lists.proofs.Tests.{clash, and-false, or-cases, or-false}
 use Rattle.lists.proofs.Options.{none-some}
 use Rattle.program_tokens.specs.Kinds.{Kind, text-end, newline, NUMBER, STRING, ERE, fixed-variable, BEGIN, END, IF, ELSE, WHILE, PRINT, NEXT, EXIT, LENGTH, INDEX, SUBSTR, MATCH, open-brace, close-brace, user-name, variable, open-paren, close-paren, comma, semicolon, plus, minus, star, slash, percent, bang, dollar, tilde, no-match, assign, or-or, and-and, greater, same, among, rank}
 use Rattle.program_tokens.proofs.Ranks.{same-is}
-use Rattle.program_tree.specs.Functions.{Function, functions, functionIn, functionOf}
+use Rattle.program_tree.specs.Functions.{Function, functionIn, functionOf}
 use Rattle.program_grammar.specs.Sets.{targets, prefixes, comparisons, startsJoined, startsExpression, isFunction}
-use Rattle.program_reader.specs.Operators.{fields, products, sums, concatenations, compared, conjunctions, disjunctions, Operator, binary, operatorIn, tierOf}
-use Rattle.program_exact.specs.Machine.{Mode, fresh, plain, against, tested, Context, State, operand, operand-line, operand-field, ere-next, after, settle, printed, tierAfter, exit, callStep, primaryStep, fieldStep, operandStep, operatorStep, otherStep, afterStep, step, stepIn, run}
+use Rattle.program_reader.specs.Operators.{fields, products, sums, concatenations, compared, conjunctions, disjunctions, binary, operatorIn, tierOf}
+use Rattle.program_exact.specs.Machine.{Mode, fresh, plain, against, tested, Context, State, operand, operand-line, operand-field, ere-next, settle, printed, tierAfter, exit, callStep, primaryStep, fieldStep, operandStep, operatorStep, otherStep, afterStep, step, stepIn, run}
 
 -- ---- kinds in lists
 

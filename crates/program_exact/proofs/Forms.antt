@@ -1,20 +1,19 @@
 -- The machine takes every form that the grammar has: from before an operand to after it.
-use mathlib.Core.Path.{_≡_, refl, sym, ap, subst, _∙_}
-use mathlib.Core.Bool.{Bool, true, false, not, cond, _&&_, _||_}
+use mathlib.Core.Path.{_≡_, refl, sym, ap, _∙_}
+use mathlib.Core.Bool.{true, false}
 use mathlib.Core.List.{List, [], _∷_, _++_}
 use mathlib.Core.Option.{Option, some, none}
 use mathlib.Core.Logic.{_⊎_, inl, inr, ⊎-elim}
-use Prim.Native.Nat.{ℕ, zero, suc}
-use Rattle.lists.proofs.Tests.{clash}
+use Prim.Native.Nat.{ℕ}
 use Rattle.lists.proofs.Options.{none-some}
 use Rattle.program_tokens.specs.Kinds.{Kind, newline, NUMBER, STRING, ERE, fixed-variable, close-paren, open-paren, comma, dollar, assign, or-or, and-and, same, among, rank}
 use Rattle.program_tokens.proofs.Ranks.{same-is}
 use Rattle.program_tree.specs.Functions.{Shape, an-expression, an-ere, Function, functionOf}
-use Rattle.program_grammar.specs.Sets.{names, targets, prefixes, comparisons}
+use Rattle.program_grammar.specs.Sets.{names, targets, prefixes}
 use Rattle.program_grammar.specs.Grammar.{OneOf, one, Newlines, none as no-newline, more as newline-more, Place, in-print, elsewhere, Compares, any, no-greater, Part, expression, disjunction, conjunction, matching, comparison, concatenation, sum, product, prefixed, field, primary, argument, arguments, Form, to-name, to-field, value as value-form, or, no-or, and, no-and, match, no-ere, compare, no-compare, join, no-join, add, no-add, multiply, no-multiply, prefix, no-prefix, of-field, no-field, one-token, parentheses, call as call-form, last-argument, next-argument, expression-argument, ere-argument as ere-form}
-use Rattle.program_reader.specs.Operators.{concatenations, compared, tierOf}
-use Rattle.program_exact.specs.Machine.{Mode, fresh, plain, against, tested, Context, group, call, State, operand, operand-line, operand-field, ere-next, after, open-next, ere-argument, argument-line, argument-end, settle, printed, exit, argumentEnd, callStep, primaryStep, fieldStep, operandStep, afterStep, argumentStep, step, stepIn, run}
-use Rattle.program_exact.proofs.Facts.{each, by-test, words, quiet, idle, NotTested, Loose, no-function, function-word, tier-compared, tier-printed, run-none, run-append, from, from-then, after-product, after-sum, after-joined, after-compared, after-and, after-or, after-quiet, idle-operand, Begins, begun, from-operand, from-line, from-field, joins, settle-twice, keep, keep-loose, loose-not, after-match, after-assign}
+use Rattle.program_reader.specs.Operators.{compared, tierOf}
+use Rattle.program_exact.specs.Machine.{Mode, fresh, plain, against, tested, Context, group, call, State, operand, operand-line, operand-field, ere-next, after, open-next, ere-argument, argument-line, settle, printed, exit, argumentEnd, callStep, primaryStep, fieldStep, operandStep, afterStep, argumentStep, step, stepIn, run}
+use Rattle.program_exact.proofs.Facts.{each, by-test, words, quiet, NotTested, Loose, no-function, function-word, tier-compared, tier-printed, run-none, run-append, from, from-then, after-product, after-sum, after-joined, after-compared, after-and, after-or, after-quiet, idle-operand, Begins, begun, from-operand, from-line, from-field, joins, settle-twice, keep, keep-loose, loose-not, after-match, after-assign}
 
 abbrev pub At : Place → Context → Type 0
 At in-print c = printed c ≡ true

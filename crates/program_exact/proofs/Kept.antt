@@ -1,20 +1,18 @@
 -- What the states say of an expression is kept by each step.
 use mathlib.Core.Path.{_≡_, refl, sym, ap, subst, _∙_}
-use mathlib.Core.Bool.{Bool, true, false, not, cond, _&&_, _||_}
-use mathlib.Core.List.{List, [], _∷_, _++_, append-assoc, append-nil}
+use mathlib.Core.Bool.{Bool, true, false, cond, _&&_}
+use mathlib.Core.List.{List, [], _∷_, _++_, append-assoc}
 use mathlib.Core.Option.{Option, some, none}
-use mathlib.Core.Logic.{_⊎_, inl, inr, ⊎-elim}
-use Prim.Native.Nat.{ℕ, zero, suc}
+use Prim.Native.Nat.{ℕ}
 use lib.Dec.{eqb, leb}
 use Rattle.lists.proofs.Tests.{clash, and-true, or-false}
-use Rattle.lists.proofs.Options.{none-some}
-use Rattle.program_tokens.specs.Kinds.{Kind, NUMBER, STRING, ERE, fixed-variable, user-name, variable, open-paren, close-paren, comma, plus, minus, star, slash, percent, bang, dollar, tilde, no-match, assign, or-or, and-and, greater, less, at-most, equal, different, at-least, same, among, rank}
+use Rattle.program_tokens.specs.Kinds.{Kind, NUMBER, STRING, ERE, fixed-variable, open-paren, close-paren, plus, minus, star, slash, percent, bang, dollar, tilde, no-match, assign, or-or, and-and, greater, less, at-most, equal, different, at-least, same, among, rank}
 use Rattle.program_tokens.proofs.Ranks.{same-is}
-use Rattle.program_tree.specs.Functions.{Shape, an-expression, an-ere, Function, functions, functionIn, functionOf}
-use Rattle.program_grammar.specs.Sets.{names, targets, prefixes, comparisons, startsJoined, isFunction}
-use Rattle.program_grammar.specs.Grammar.{OneOf, one, Newlines, Place, in-print, elsewhere, Compares, any, no-greater, expression, disjunction, conjunction, matching, comparison, concatenation, sum, product, prefixed, field, primary, argument, arguments, Form, to-name, to-field, value as value-form, or, no-or, and, no-and, match, no-ere, compare, no-compare, join, no-join, add, no-add, multiply, no-multiply, prefix, no-prefix, of-field, no-field, one-token, parentheses, call as call-form}
-use Rattle.program_reader.specs.Operators.{fields, concatenations, compared, conjunctions, Operator, binary, operatorIn, tierIn, tierOf}
-use Rattle.program_exact.specs.Machine.{Mode, fresh, plain, against, tested, Context, group, State, operand, operand-line, operand-field, ere-next, after, open-next, settle, isFresh, isTested, tight, tierAfter, printed, exit, callStep, primaryStep, fieldStep, operandStep, operatorStep, otherStep, afterStep}
+use Rattle.program_tree.specs.Functions.{Function, functions, functionIn, functionOf}
+use Rattle.program_grammar.specs.Sets.{names, targets, prefixes, comparisons, startsJoined}
+use Rattle.program_grammar.specs.Grammar.{one, Newlines, Place, elsewhere, Compares, any, no-greater, expression, disjunction, conjunction, matching, comparison, concatenation, sum, product, prefixed, field, primary, Form, to-name, to-field, value as value-form, or, no-or, and, no-and, match, no-ere, compare, no-compare, join, no-join, add, no-add, multiply, no-multiply, prefix, no-prefix, of-field, no-field, one-token, parentheses, call as call-form}
+use Rattle.program_reader.specs.Operators.{fields, concatenations, Operator, binary, operatorIn, tierIn, tierOf}
+use Rattle.program_exact.specs.Machine.{Mode, fresh, plain, against, tested, Context, operand-line, operand-field, settle, tierAfter, printed, exit, callStep, primaryStep, fieldStep, operandStep, operatorStep, otherStep, afterStep}
 use Rattle.program_exact.proofs.Facts.{each, by-test, words, joined, NotTested, no-function, settle-twice, after-tier}
 use Rattle.program_exact.proofs.Meaning.{placeOf, Opens, Split, NonEmpty, HoleOr, HoleAnd, HoleMatch, HoleJoin, HoleSum, HoleProduct, After, Prefixed, Operand, Leaves, AfterIn, OperandIn, Means, Kept}
 

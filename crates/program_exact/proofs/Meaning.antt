@@ -5,9 +5,9 @@ use mathlib.Core.List.{List, [], _∷_, _++_}
 use mathlib.Core.Option.{Option, some, none}
 use Prim.Native.Nat.{ℕ, zero, suc}
 use Rattle.program_tokens.specs.Kinds.{Kind, text-end, ERE, ELSE, open-paren, close-paren, close-brace, comma, assign, among}
-use Rattle.program_tree.specs.Functions.{Shape, an-expression, an-ere}
+use Rattle.program_tree.specs.Functions.{Shape, an-ere}
 use Rattle.program_grammar.specs.Sets.{prefixes, enders}
-use Rattle.program_grammar.specs.Grammar.{Newlines, Separators, Place, in-print, elsewhere, expression, disjunction, conjunction, matching, comparison, concatenation, sum, product, prefixed, field, argument, arguments, Form, Expression, PrintList, End, needs-end, ended, Else, takes-else, whole, BeforeElse, Statement, Block, Statements, Items, Sentence}
+use Rattle.program_grammar.specs.Grammar.{Newlines, Separators, Place, in-print, elsewhere, expression, disjunction, conjunction, matching, comparison, concatenation, sum, product, prefixed, field, arguments, Form, Expression, PrintList, End, needs-end, ended, Else, takes-else, whole, BeforeElse, Statement, Block, Statements, Items, Sentence}
 use Rattle.program_exact.specs.Machine.{Mode, fresh, plain, against, tested, Blocks, action, nested, Context, group, call, condition, value, listed, pattern, State, start, between, done, action-next, operand, operand-line, operand-field, ere-next, after, open-next, ere-argument, argument-line, argument-end, condition-next, body, print-next, finished, list, mainOf, printed}
 
 abbrev pub placeOf : Bool → Place

@@ -4,7 +4,7 @@ use mathlib.Core.Bool.{Bool, true, false, not, cond, _&&_, _||_}
 use mathlib.Core.List.{List, [], _∷_}
 use mathlib.Core.Option.{Option, some, none}
 use mathlib.Core.Logic.{_⊎_, inl, inr, ⊎-elim}
-use Prim.Native.Nat.{ℕ, zero, suc, _+_, _-_, _≤_, _<_}
+use Prim.Native.Nat.{ℕ, suc, _+_, _-_, _≤_, _<_}
 use native.Mathlib.Omega.{arith}
 use lib.ListN.{length, take, drop}
 use lib.Dec.{eqb, leb, ltb}
@@ -12,18 +12,17 @@ use borrow.Author.Tests.{not-true}
 use Rattle.lists.specs.Elements.{leading}
 use Rattle.lists.specs.Parsing.{Parsed}
 use Rattle.lists.proofs.Tests.{clash, and-true, and-false as and-none, or-false}
-use Rattle.lists.proofs.Options.{none-some}
 use Rattle.edition.specs.Limits.{numberBound}
 use Rattle.numeral.specs.Form.{isDigit}
 use Rattle.numeral.specs.Judgement.{digitsValue}
 use Rattle.image_format.specs.Image.{number, text}
 use Rattle.program_tokens.specs.Kinds.{Kind, text-end, newline, bad, NUMBER, STRING, ERE, user-name, variable as variable-kind, fixed-variable, open-paren, close-paren, comma, dollar, same, among, rank}
 use Rattle.program_tokens.specs.Words.{wordKind, operatorKind}
-use Rattle.program_tokens.specs.Tokens.{Token, token, is, isOneOf, isLetter, isWordByte, beginsWith, numberToken, wordToken, readString, stringToken, operatorToken, tokenOf, tokenAfter, asOperand, spelling, numberIn, stringIn, ereIn}
+use Rattle.program_tokens.specs.Tokens.{Token, token, is, isOneOf, isLetter, isWordByte, beginsWith, numberToken, wordToken, readString, stringToken, operatorToken, tokenOf, tokenAfter, spelling, numberIn, stringIn, ereIn}
 use Rattle.program_tokens.proofs.Ranks.{same-is}
-use Rattle.program_tree.specs.Tree.{Expression, constant, ere, variable, parentheses, length-of, index, substr, match, field, prefix, arithmetic, join, compare, matches, no-match, both, either, assign, assign-field}
+use Rattle.program_tree.specs.Tree.{Expression, constant, ere, variable, parentheses, field, prefix, assign}
 use Rattle.program_tree.specs.Functions.{Shape, an-expression, an-ere, Call, Function, functions, functionIn, functionOf}
-use Rattle.program_grammar.specs.Sets.{names, targets, prefixes}
+use Rattle.program_grammar.specs.Sets.{names, prefixes}
 use Rattle.program_reader.specs.Read.{Read, ok, no, map, bind, operandAfter, pastNewlines}
 use Rattle.program_reader.specs.Operators.{fields, prefixed, expressions, tierOf, prefixOf}
 use Rattle.program_reader.specs.Expressions.{Inner, assignTo, closed, argument, arguments, call as call-of, calling, primary, fieldForm, prefixForm}
@@ -33,11 +32,10 @@ use Rattle.program_parser.specs.Reading.{Good as InText}
 use Rattle.program_parser.proofs.Places.{value-own}
 use Rattle.program_exact.specs.Machine.{Mode, fresh, plain, against, tested, Context, group, call, State, operand, operand-field, after, open-next, ere-argument, argument-line, argument-end, settle, isFresh, tierAfter, printed, opened, argumentEnd, exit, callStep, primaryStep, fieldStep, operandStep, argumentStep, step}
 use Rattle.program_exact.proofs.Facts.{each, by-test, words, NotTested, function-word, settle-twice, settled}
-use Rattle.program_exact.proofs.Forms.{function-step}
 use Rattle.program_exact.proofs.Kept.{Tiered, no-operator, of-product, of-sum, of-join, of-compare, of-and, of-or, tiered, has-shapes}
 use Rattle.program_exact.proofs.Meaning.{NonEmpty}
-use Rattle.program_exact.proofs.Walks.{Live, Walk, stay, go, walk-join, pass, pass-operand, walk-in, after-in, operand-after-in, onward-after, onward-operand}
-use Rattle.program_exact.proofs.Readings.{ere-operand, ere-line, ere-field, ere-argument-takes, ere-argument-line, argument-end-ere, open-ere, after-ere, Refusal, Arrived, Reads, refused, too-deep, later, earlier, reads-map, reads-weaken, reads-then, lines-after}
+use Rattle.program_exact.proofs.Walks.{Live, Walk, stay, walk-join, pass, pass-operand, after-in, operand-after-in, onward-after, onward-operand}
+use Rattle.program_exact.proofs.Readings.{ere-operand, ere-field, ere-argument-takes, ere-argument-line, argument-end-ere, open-ere, after-ere, Arrived, Reads, refused, later, earlier, reads-map, reads-weaken, lines-after}
 
 -- whether an option is something
 abbrev pub isSome : {A : Type 0} → Option A → Bool

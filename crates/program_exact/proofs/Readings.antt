@@ -1,31 +1,28 @@
 -- What is shown of each reader: where it ends well the machine walks over what it read, and where it refuses the machine
 -- walks to a token that it does not take, or that opens a level too many.
 use mathlib.Core.Path.{_≡_, refl, sym, ap, subst, _∙_}
-use mathlib.Core.Bool.{Bool, true, false, not, cond, _&&_, _||_}
+use mathlib.Core.Bool.{Bool, true, false, cond}
 use mathlib.Core.List.{List, [], _∷_}
-use mathlib.Core.Option.{Option, some, none}
-use mathlib.Core.Logic.{_⊎_, inl, inr, ⊎-elim}
+use mathlib.Core.Option.{some, none}
+use mathlib.Core.Logic.{_⊎_, inl, inr}
 use Prim.Native.Nat.{ℕ, zero, suc, _+_, _≤_, _<_}
 use native.Mathlib.Omega.{arith}
-use lib.ListN.{length, take, drop}
-use lib.Dec.{eqb, leb}
-use Rattle.lists.proofs.Tests.{clash, and-false, or-right, or-none}
-use Rattle.lists.proofs.Options.{none-some}
+use lib.ListN.{length}
+use lib.Dec.{eqb}
+use Rattle.lists.proofs.Tests.{or-right, or-none}
 use Rattle.edition.specs.Outcomes.{sizePassed}
-use Rattle.program_tokens.specs.Kinds.{Kind, text-end, newline, ERE, NEXT, close-paren, comma, semicolon, same, among, rank}
+use Rattle.program_tokens.specs.Kinds.{Kind, text-end, newline, ERE, same, among, rank}
 use Rattle.program_tokens.specs.Tokens.{Token, is, isOneOf, tokenAfter, asOperand}
 use Rattle.program_tokens.proofs.Ranks.{same-is}
 use Rattle.program_tree.specs.Functions.{Shape, an-expression, an-ere}
-use Rattle.program_tree.specs.Tree.{Expression}
 use Rattle.program_grammar.specs.Sets.{startsJoined, startsExpression}
 use Rattle.program_reader.specs.Read.{Read, ok, no, map, bind, operandAfter, pastIn, pastNewlines}
-use Rattle.program_reader.specs.Expressions.{closed}
 use Rattle.program_reader.specs.Operators.{operatorIn}
 use Rattle.program_parser.specs.Reading.{refusedBy, Good as InText}
 use Rattle.program_parser.proofs.Tokens.{Slashes}
-use Rattle.program_exact.specs.Machine.{Mode, fresh, plain, against, tested, Blocks, Context, group, call, condition, value, listed, pattern, State, start, between, operand, operand-line, operand-field, ere-next, after, open-next, ere-argument, argument-line, argument-end, condition-next, body, print-next, finished, list, settle, isFresh, isTested, tierAfter, printed, argumentEnd, finishedStep, exit, primaryStep, fieldStep, operandStep, operatorStep, otherStep, afterStep, argumentStep, beginStep, listStep, itemStep, step}
-use Rattle.program_exact.proofs.Facts.{each, by-test, words, joined, after-tier, tier-still}
-use Rattle.program_exact.proofs.Walks.{Away, Next, Walk, stay, go, walk-join, read-again, walk-in, after-in, operand-in, operand-after-in, onward-after, onward-operand, at-end, operand-still, operand-test}
+use Rattle.program_exact.specs.Machine.{Mode, fresh, plain, against, tested, Blocks, Context, group, call, condition, value, listed, pattern, State, start, between, operand, operand-line, operand-field, ere-next, after, open-next, ere-argument, argument-line, argument-end, condition-next, body, print-next, finished, list, settle, tierAfter, printed, argumentEnd, finishedStep, exit, primaryStep, fieldStep, operandStep, operatorStep, otherStep, argumentStep, beginStep, listStep, itemStep, step}
+use Rattle.program_exact.proofs.Facts.{by-test, after-tier, tier-still}
+use Rattle.program_exact.proofs.Walks.{Walk, stay, go, walk-join, read-again, after-in, operand-in, onward-after, onward-operand, at-end, operand-still, operand-test}
 
 module _ (edition : ℕ) where
   -- ---- where the machine takes an ERE, and where not

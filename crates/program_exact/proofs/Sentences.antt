@@ -1,20 +1,20 @@
 -- The machine takes every sentence of the grammar.
 use mathlib.Core.Path.{_≡_, refl, sym, ap, subst, _∙_}
-use mathlib.Core.Bool.{Bool, true, false, not, cond, _&&_, _||_}
+use mathlib.Core.Bool.{Bool, true, false, not, _&&_}
 use mathlib.Core.List.{List, [], _∷_, _++_}
 use mathlib.Core.Option.{Option, some, none}
 use mathlib.Core.Logic.{_⊎_, inl, inr, ⊎-elim}
-use Prim.Native.Nat.{ℕ, zero, suc}
+use Prim.Native.Nat.{ℕ, suc}
 use Rattle.lists.proofs.Tests.{clash, and-true}
 use Rattle.lists.proofs.Options.{none-some}
 use Rattle.program_tokens.specs.Kinds.{Kind, text-end, newline, BEGIN, END, IF, ELSE, WHILE, PRINT, NEXT, EXIT, open-brace, close-brace, open-paren, close-paren, comma, semicolon, same, among, rank}
 use Rattle.program_tokens.proofs.Ranks.{same-is}
 use Rattle.program_grammar.specs.Sets.{enders, startsExpression}
-use Rattle.program_grammar.specs.Grammar.{OneOf, one, Newlines, none as no-newline, more as newline-more, Separators, none as no-separator, more as separator-more, in-print, elsewhere, expression, Form, PrintList, last as last-element, next as next-element, End, needs-end, ended, Else, takes-else, whole, BeforeElse, newlines, ending-newline, one-semicolon, Statement, value as value-statement, print, print-list, if, if-else, while, block, next, exit as exit-statement, empty, Block, braces, Statements, none as no-statement, blank-line, after-ended, after-end, last, Item, begin, end, pattern as pattern-block, always, Items, none as no-item, item, pattern as pattern-item, last-pattern, Sentence, program}
+use Rattle.program_grammar.specs.Grammar.{Newlines, none as no-newline, more as newline-more, Separators, none as no-separator, more as separator-more, elsewhere, expression, Form, PrintList, last as last-element, next as next-element, End, needs-end, ended, Else, takes-else, whole, BeforeElse, newlines, ending-newline, one-semicolon, value as value-statement, print, print-list, if, if-else, while, block, next, exit as exit-statement, empty, Block, braces, none as no-statement, blank-line, after-ended, after-end, last, Item, begin, end, pattern as pattern-block, always, Items, none as no-item, item, pattern as pattern-item, last-pattern, Sentence, program}
 use Rattle.program_grammar.specs.Viable.{Viable}
-use Rattle.program_exact.specs.Machine.{Mode, fresh, plain, Blocks, action, nested, Context, condition, value, listed, pattern, State, start, between, done, action-next, operand, operand-line, after, condition-next, body, print-next, finished, list, mainOf, closed, finishedStep, exit, operandStep, afterStep, beginStep, listStep, itemStep, step, stepIn, run}
-use Rattle.program_exact.proofs.Facts.{each, by-test, quiet, idle, run-none, run-append, from, from-then, after-quiet, idle-operand, Begins, begun, from-operand, from-line, quiet-starts, operand-starts}
-use Rattle.program_exact.proofs.Forms.{At, one-of, Runs, newlines-line, line-run, swapped, runs}
+use Rattle.program_exact.specs.Machine.{Mode, fresh, Blocks, action, nested, Context, condition, value, listed, pattern, State, start, between, done, action-next, operand, after, condition-next, body, print-next, finished, list, mainOf, closed, finishedStep, exit, operandStep, beginStep, listStep, itemStep, step, stepIn, run}
+use Rattle.program_exact.proofs.Facts.{each, by-test, quiet, idle, run-none, run-append, from, from-then, after-quiet, idle-operand, Begins, begun, from-operand, quiet-starts, operand-starts}
+use Rattle.program_exact.proofs.Forms.{one-of, line-run, swapped, runs}
 
 -- what ends a statement that needs an end
 abbrev pub stops : List Kind

@@ -1,22 +1,19 @@
 -- What the states say is kept by each step of the machine; so what it takes can be completed, and what it takes to the
 -- end is a sentence.
-use mathlib.Core.Path.{_≡_, refl, sym, ap, subst, _∙_}
-use mathlib.Core.Bool.{Bool, true, false, not, cond, _&&_, _||_}
+use mathlib.Core.Path.{_≡_, refl, sym, subst}
+use mathlib.Core.Bool.{Bool, true, false, not, _&&_}
 use mathlib.Core.List.{List, [], _∷_, _++_, append-assoc, append-nil}
-use mathlib.Core.Option.{Option, some, none}
-use mathlib.Core.Logic.{_⊎_, inl, inr, ⊎-elim}
+use mathlib.Core.Option.{Option}
 use Prim.Native.Nat.{ℕ, zero, suc}
 use Rattle.lists.proofs.Tests.{clash, and-true}
-use Rattle.lists.proofs.Options.{none-some}
-use Rattle.program_tokens.specs.Kinds.{Kind, text-end, newline, NUMBER, ERE, BEGIN, END, IF, ELSE, WHILE, PRINT, NEXT, EXIT, open-brace, close-brace, open-paren, close-paren, comma, semicolon, same, among, rank}
+use Rattle.program_tokens.specs.Kinds.{Kind, text-end, newline, ERE, BEGIN, END, IF, ELSE, WHILE, PRINT, NEXT, EXIT, open-brace, close-brace, open-paren, close-paren, comma, semicolon, same, among, rank}
 use Rattle.program_tokens.proofs.Ranks.{same-is}
 use Rattle.program_tree.specs.Functions.{Shape, an-expression, an-ere}
 use Rattle.program_grammar.specs.Sets.{enders, startsExpression}
-use Rattle.program_grammar.specs.Grammar.{OneOf, one, Newlines, none as no-newline, more as newline-more, Separators, none as no-separator, more as separator-more, in-print, elsewhere, expression, prefixed, field, primary, argument, arguments, Form, value as value-form, no-or, no-and, no-ere, no-compare, no-join, no-add, no-multiply, no-prefix, no-field, one-token, last-argument, next-argument, expression-argument, ere-argument as ere-form, PrintList, last as last-element, next as next-element, End, needs-end, ended, Else, takes-else, whole, BeforeElse, newlines, ending-newline, one-semicolon, Statement, value as value-statement, print, print-list, if, if-else, while, block, next, exit as exit-statement, empty, Block, braces, Statements, none as no-statement, blank-line, after-ended, after-end, last, Item, begin, end, pattern as pattern-block, always, Items, none as no-item, item, pattern as pattern-item, last-pattern, Sentence, program}
-use Rattle.program_grammar.specs.Viable.{Viable}
-use Rattle.program_exact.specs.Machine.{Mode, fresh, plain, against, tested, Blocks, action, nested, Context, group, call, condition, value, listed, pattern, State, start, between, done, action-next, operand, operand-line, operand-field, ere-next, after, open-next, ere-argument, argument-line, argument-end, condition-next, body, print-next, finished, list, mainOf, printed, closed, elseStep, opened, argumentEnd, finishedStep, exit, operandStep, argumentStep, beginStep, listStep, itemStep, step, stepIn, run}
+use Rattle.program_grammar.specs.Grammar.{one, Newlines, none as no-newline, more as newline-more, none as no-separator, more as separator-more, elsewhere, expression, argument, Form, last-argument, next-argument, expression-argument, ere-argument as ere-form, last as last-element, next as next-element, End, needs-end, ended, Else, takes-else, whole, BeforeElse, newlines, ending-newline, one-semicolon, Statement, value as value-statement, print, print-list, if, if-else, while, block, next, exit as exit-statement, empty, braces, none as no-statement, blank-line, after-ended, after-end, last, Item, begin, end, pattern as pattern-block, always, none as no-item, item, pattern as pattern-item, last-pattern, Sentence, program}
+use Rattle.program_exact.specs.Machine.{Mode, fresh, tested, Blocks, action, nested, Context, group, call, condition, value, listed, pattern, State, start, between, done, action-next, operand, operand-line, operand-field, ere-next, after, open-next, ere-argument, argument-line, argument-end, condition-next, body, print-next, finished, list, mainOf, printed, closed, elseStep, opened, argumentEnd, finishedStep, exit, argumentStep, beginStep, listStep, itemStep, step}
 use Rattle.program_exact.proofs.Facts.{each, by-test}
-use Rattle.program_exact.proofs.Meaning.{placeOf, NonEmpty, After, Plain, OnlyIf, ElsePart, Standing, Begun, Body, Finished, ElseMarked, Listed, Between, ItemHole, Closes, Leaves, AfterIn, OperandIn, Argument, Means, Kept}
+use Rattle.program_exact.proofs.Meaning.{placeOf, Plain, OnlyIf, ElsePart, Standing, Begun, Body, Finished, ElseMarked, Listed, Between, ItemHole, Closes, Leaves, AfterIn, OperandIn, Argument, Means, Kept}
 use Rattle.program_exact.proofs.Kept.{shift, leave, operand-field-kept, operand-kept, after-kept}
 
 -- a kind that is known

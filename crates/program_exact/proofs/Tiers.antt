@@ -1,30 +1,29 @@
 -- The reader of expressions, beside the machine: the operators of each tier, and levels.
 use mathlib.Core.Path.{_≡_, refl, sym, ap, subst, _∙_}
-use mathlib.Core.Bool.{Bool, true, false, not, cond, _&&_, _||_}
+use mathlib.Core.Bool.{Bool, true, false, not, cond, _&&_}
 use mathlib.Core.List.{List, [], _∷_}
 use mathlib.Core.Option.{Option, some, none}
 use mathlib.Core.Logic.{_⊎_, inl, inr, ⊎-elim}
-use Prim.Native.Nat.{ℕ, zero, suc, _+_, _-_, _≤_, _<_}
+use Prim.Native.Nat.{ℕ, zero, suc, _+_, _≤_, _<_}
 use native.Mathlib.Omega.{arith}
 use lib.ListN.{length}
 use lib.Dec.{eqb, leb}
 use borrow.Author.Tests.{eqb-true, eqb-false, leb-true}
 use Rattle.lists.proofs.Tests.{clash, and-true, and-false as and-none}
-use Rattle.lists.proofs.Options.{none-some}
 use Rattle.program_tokens.specs.Kinds.{Kind, text-end, newline, ERE, tilde, assign as assign-kind, no-match as no-match-kind, same, among, rank}
 use Rattle.program_tokens.specs.Tokens.{Token, is, isOneOf, tokenAfter, ereIn}
 use Rattle.program_tokens.proofs.Ranks.{same-is}
-use Rattle.program_tree.specs.Tree.{Expression, constant, ere, variable, parentheses, field, prefix, arithmetic, join, compare, matches, no-match, both, either, assign, assign-field}
-use Rattle.program_reader.specs.Read.{Read, ok, no, map, bind, operandAfter, pastNewlines}
-use Rattle.program_reader.specs.Operators.{fields, prefixed, concatenations, compared, matched, conjunctions, expressions, Operator, binary, operatorIn, tierOf, treeIn, treeOf}
-use Rattle.program_reader.specs.Expressions.{Inner, assignTo, turns, rightOf, more, matchWith, matching, assigned, assignment, fieldForm, prefixForm, stepTier, tier, inside}
+use Rattle.program_tree.specs.Tree.{Expression, matches, no-match, both}
+use Rattle.program_reader.specs.Read.{Read, ok, no, map, operandAfter, pastNewlines}
+use Rattle.program_reader.specs.Operators.{expressions, Operator, binary, operatorIn, tierOf, treeIn, treeOf}
+use Rattle.program_reader.specs.Expressions.{Inner, assignTo, rightOf, more, matchWith, matching, assigned, assignment, prefixForm, stepTier, tier, inside}
 use Rattle.program_parser.specs.Reading.{Good as InText}
-use Rattle.program_exact.specs.Machine.{Mode, fresh, plain, against, tested, Context, State, operand, operand-line, ere-next, after, settle, isFresh, isTested, tight, tierAfter, printed, exit, fieldStep, operandStep, operatorStep, otherStep, afterStep, step}
+use Rattle.program_exact.specs.Machine.{Mode, fresh, plain, against, tested, Context, State, operand, operand-line, ere-next, after, settle, isFresh, isTested, tierAfter, printed, exit, operandStep, operatorStep, otherStep, afterStep, step}
 use Rattle.program_exact.proofs.Facts.{each, by-test, NotTested, Loose, settle-twice, settled, keep, keep-loose, loose-not, tier-quiet, after-tier, after-joined, after-compared, after-match, after-assign}
-use Rattle.program_exact.proofs.Kept.{Tiered, tiered}
-use Rattle.program_exact.proofs.Walks.{Walk, stay, walk-join, pass, pass-operand, walk-in, after-in, operand-after-in, onward-after, onward-operand, at-end}
-use Rattle.program_exact.proofs.Readings.{ere-operand, ere-line, ere-next-takes, after-ere, Refusal, Arrived, Reads, refused, too-deep, later, earlier, reads-map, reads-weaken, reads-then, lines-after}
-use Rattle.program_exact.proofs.Operands.{isSome, assignable, Stops, stops-first, tier-after-is, tier-range, Whole, Field, Tight, Opened, InnerReads, known, field-reads, prefix-reads}
+use Rattle.program_exact.proofs.Kept.{tiered}
+use Rattle.program_exact.proofs.Walks.{Walk, walk-join, pass, pass-operand, after-in, operand-after-in, onward-after, onward-operand, at-end}
+use Rattle.program_exact.proofs.Readings.{ere-operand, ere-line, ere-next-takes, after-ere, Reads, refused, too-deep, earlier, reads-map, lines-after}
+use Rattle.program_exact.proofs.Operands.{isSome, assignable, Stops, tier-after-is, tier-range, Whole, Field, Tight, InnerReads, known, field-reads, prefix-reads}
 
 -- ---- tiers as numbers
 

@@ -1,18 +1,16 @@
 -- What the machine takes is what can be completed: viable kinds are told by running it.
-use mathlib.Core.Path.{_≡_, refl, sym, ap, subst, _∙_}
-use mathlib.Core.Bool.{Bool, true, false}
+use mathlib.Core.Path.{_≡_, refl, sym, subst}
 use mathlib.Core.List.{List, [], _∷_, _++_, append-assoc, append-nil}
 use mathlib.Core.Option.{Option, some, none}
-use Prim.Native.Nat.{ℕ, zero, suc}
-use Rattle.lists.proofs.Options.{none-some}
+use Prim.Native.Nat.{ℕ}
 use Rattle.program_tokens.specs.Kinds.{Kind, text-end, NUMBER, ERE, open-paren, close-paren, open-brace, close-brace, comma, semicolon, among, rank}
 use Rattle.program_tree.specs.Functions.{Shape, an-expression, an-ere}
-use Rattle.program_grammar.specs.Grammar.{OneOf, one, Newlines, none as no-newline, Separators, none as no-separator, Place, expression, prefixed, field, argument, arguments, Form, value as value-form, no-or, no-and, no-ere, no-compare, no-join, no-add, no-multiply, no-prefix, no-field, one-token, last-argument, next-argument, expression-argument, ere-argument as ere-form, needs-end, ended, whole, empty, braces, Statements, none as no-statement, Items, none as no-item, Sentence, program}
+use Rattle.program_grammar.specs.Grammar.{one, none as no-newline, none as no-separator, Place, expression, field, argument, arguments, Form, value as value-form, no-or, no-and, no-ere, no-compare, no-join, no-add, no-multiply, no-prefix, no-field, one-token, last-argument, next-argument, expression-argument, ere-argument as ere-form, ended, whole, empty, braces, none as no-statement, none as no-item, Sentence, program}
 use Rattle.program_grammar.specs.Viable.{Viable}
 use Rattle.program_exact.specs.Machine.{Mode, fresh, plain, against, tested, Blocks, action, nested, Context, group, call, condition, value, listed, pattern, State, start, between, done, action-next, operand, operand-line, operand-field, ere-next, after, open-next, ere-argument, argument-line, argument-end, condition-next, body, print-next, finished, list, mainOf, printed, step, stepIn, run}
-use Rattle.program_exact.proofs.Meaning.{placeOf, NonEmpty, Plain, Begun, Body, Finished, Listed, Between, Closes, Leaves, AfterIn, OperandIn, Argument, Means, Kept}
+use Rattle.program_exact.proofs.Meaning.{placeOf, Plain, Body, Finished, Between, Closes, Leaves, AfterIn, OperandIn, Argument, Means, Kept}
 use Rattle.program_exact.proofs.Kept.{leave}
-use Rattle.program_exact.proofs.Sentences.{sentence-run, not-viable}
+use Rattle.program_exact.proofs.Sentences.{not-viable}
 use Rattle.program_exact.proofs.Steps.{plain-listed, step-kept}
 
 module _ (edition : ℕ) where

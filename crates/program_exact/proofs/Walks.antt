@@ -1,24 +1,18 @@
 -- Walks of the machine over the tokens of a text: a `/` is read as an ERE exactly where the machine takes one.
-use mathlib.Core.Path.{_≡_, refl, sym, ap, subst, _∙_}
-use mathlib.Core.Bool.{Bool, true, false, not, cond, _&&_, _||_}
-use mathlib.Core.List.{List, [], _∷_, _++_, append-assoc}
-use mathlib.Core.Option.{Option, some, none}
-use mathlib.Core.Logic.{_⊎_, inl, inr, ⊎-elim}
-use Prim.Native.Nat.{ℕ, zero, suc, _+_, _-_, _≤_, _<_}
+use mathlib.Core.Path.{_≡_, refl, sym, ap, _∙_}
+use mathlib.Core.Bool.{Bool, true, false}
+use mathlib.Core.List.{List, [], _∷_, _++_}
+use mathlib.Core.Option.{some, none}
+use Prim.Native.Nat.{ℕ, suc, _≤_, _<_}
 use native.Mathlib.Omega.{arith}
 use lib.ListN.{length, drop}
-use lib.Dec.{eqb}
-use borrow.Author.Tests.{eqb-true}
-use Rattle.lists.proofs.Tests.{clash}
 use Rattle.lists.proofs.Options.{none-some}
-use Rattle.edition.specs.Outcomes.{sizePassed}
-use Rattle.program_tokens.specs.Kinds.{Kind, text-end, newline, bad, bad-ere, ERE, slash, div-assign, same, among, rank}
+use Rattle.program_tokens.specs.Kinds.{Kind, text-end, bad, bad-ere, ERE, slash, div-assign, same}
 use Rattle.program_tokens.specs.Tokens.{Token, is, isOneOf, tokenAt, tokenAfter, asOperand, ereLength}
-use Rattle.program_tokens.proofs.Ranks.{same-is, is-same}
-use Rattle.program_grammar.specs.Viable.{Viable, Taken, operand as taken-operand, operator as taken-operator, Reached, first, after as reached-after}
-use Rattle.program_reader.specs.Read.{operandAfter, pastIn, past, pastNewlines}
-use Rattle.program_parser.specs.Reading.{refusedBy, Good as InText}
-use Rattle.program_parser.proofs.Tokens.{ere-kind, Slashes, Again, good-at, good-after, good-operand}
+use Rattle.program_grammar.specs.Viable.{Taken, operand as taken-operand, operator as taken-operator, Reached, first, after as reached-after}
+use Rattle.program_reader.specs.Read.{operandAfter}
+use Rattle.program_parser.specs.Reading.{Good as InText}
+use Rattle.program_parser.proofs.Tokens.{ere-kind, Slashes, Again, good-after, good-operand}
 use Rattle.program_exact.specs.Machine.{State, start, between, done, action-next, operand, operand-line, operand-field, ere-next, after, open-next, ere-argument, argument-line, argument-end, condition-next, body, print-next, finished, list, step, stepIn, run}
 use Rattle.program_exact.proofs.Facts.{each, by-test, run-append}
 use Rattle.program_exact.proofs.Sentences.{not-viable}

@@ -1,14 +1,13 @@
 -- The reader of items and whole programs, beside the machine.
 use mathlib.Core.Path.{_≡_, refl, sym, ap, subst, _∙_}
-use mathlib.Core.Bool.{Bool, true, false, not, cond, _&&_, _||_}
-use mathlib.Core.List.{List, [], _∷_, _++_}
-use mathlib.Core.Option.{Option, some, none}
+use mathlib.Core.Bool.{Bool, true, false, cond, _||_}
+use mathlib.Core.List.{List, [], _∷_}
+use mathlib.Core.Option.{some, none}
 use mathlib.Core.Logic.{_⊎_, inl, inr, ⊎-elim}
 use Prim.Native.Nat.{ℕ, zero, suc, _+_, _-_, _≤_, _<_}
 use native.Mathlib.Omega.{arith}
 use lib.ListN.{length}
-use Rattle.lists.proofs.Tests.{clash, or-false, or-cases}
-use Rattle.lists.proofs.Options.{none-some}
+use Rattle.lists.proofs.Tests.{or-false, or-cases}
 use Rattle.edition.specs.Limits.{nestingDepth}
 use Rattle.program_tokens.specs.Kinds.{Kind, text-end, newline, ERE, BEGIN, END, open-brace, semicolon, same, among, rank}
 use Rattle.program_tokens.specs.Tokens.{Token, is, isOneOf, tokenAt, tokenAfter, asOperand}
@@ -16,19 +15,18 @@ use Rattle.program_tokens.proofs.Ranks.{same-is}
 use Rattle.program_tree.specs.Tree.{Expression, Statement, print, Item, begin, end, main, Program}
 use Rattle.program_grammar.specs.Sets.{enders}
 use Rattle.program_reader.specs.Read.{Read, ok, no, map, bind, operandAfter, pastIn, past, pastNewlines}
-use Rattle.program_reader.specs.Operators.{expressions}
-use Rattle.program_reader.specs.Expressions.{inside, tier, expressionAt}
+use Rattle.program_reader.specs.Expressions.{expressionAt}
 use Rattle.program_reader.specs.Statements.{blockOf, statementAt}
 use Rattle.program_reader.specs.Programs.{actionAt, afterPattern, itemAt, items, readProgram}
 use Rattle.program_parser.specs.Reading.{Good as InText}
 use Rattle.program_parser.proofs.Tokens.{Slashes, good-at}
-use Rattle.program_exact.specs.Machine.{Mode, fresh, plain, Blocks, action, Context, pattern, State, start, between, done, action-next, after, list, exit, operandStep, itemStep, step}
+use Rattle.program_exact.specs.Machine.{fresh, plain, action, pattern, State, start, between, done, action-next, after, list, exit, operandStep, itemStep, step}
 use Rattle.program_exact.proofs.Facts.{each, by-test}
-use Rattle.program_exact.proofs.Walks.{Walk, stay, go, walk-join, read-again, pass, pass-operand, after-in, operand-in, operand-after-in, onward-after, onward-operand, at-end, operand-still, operand-test}
-use Rattle.program_exact.proofs.Readings.{ere-start, ere-between, Refusal, Arrived, Reads, refused, later, earlier, lines-in}
+use Rattle.program_exact.proofs.Walks.{Walk, stay, walk-join, pass, pass-operand, after-in, operand-in, onward-after, onward-operand, at-end, operand-still, operand-test}
+use Rattle.program_exact.proofs.Readings.{ere-start, ere-between, Refusal, Reads, refused, later, lines-in}
 use Rattle.program_exact.proofs.Operands.{Whole, known}
 use Rattle.program_exact.proofs.Tiers.{expression-reads}
-use Rattle.program_exact.proofs.Bodies.{Paused, Pauses, pauses-map, unread, operand-start, not-end, fuelled, action-reads}
+use Rattle.program_exact.proofs.Bodies.{Paused, Pauses, unread, operand-start, not-end, fuelled, action-reads}
 
 module _ (edition : ℕ) (s : List ℕ) where
   -- ---- an action

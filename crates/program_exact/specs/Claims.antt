@@ -6,7 +6,7 @@ use mathlib.Core.List.{List, [], _∷_, _++_}
 use Prim.Native.Nat.{ℕ}
 use Rattle.edition.specs.Outcomes.{sizePassed}
 use Rattle.program_tokens.specs.Kinds.{Kind, text-end, ERE}
-use Rattle.program_tokens.specs.Tokens.{Token, tokenAfter, asOperand}
+use Rattle.program_tokens.specs.Tokens.{Token}
 use Rattle.program_tree.specs.Tree.{Program}
 use Rattle.program_grammar.specs.Grammar.{Sentence}
 use Rattle.program_grammar.specs.Viable.{Viable, Reached, Refused}
@@ -39,8 +39,8 @@ module _ (edition : ℕ) (s : List ℕ) where
     pub only : (p : Program) (t : Token) → readProgram edition s ≡ ok p t → Accepted
     pub all : Accepted → ((p : Program) × (t : Token) × (readProgram edition s ≡ ok p t)) ⊎ TooDeep
 
-  -- a refusal but 6 is at the first token that can't continue any program, and there is one such token where the text is
-  -- no sentence; 6 is at a token that can
+  -- a refusal but 6 is at the first token that can't continue any program; where the text is no sentence, that token is
+  -- refused, or 6 is given; 6 is at a token that can go on
   pub record RefusedExactly : Type 0 where
     pub stuck : (outcome place : ℕ) → readProgram edition s ≡ no outcome place → (outcome ≡ sizePassed → ⊥)
         → (t : Token) × Refused edition s t × (no outcome place ≡ refuse {A = Program} t)
@@ -48,8 +48,9 @@ module _ (edition : ℕ) (s : List ℕ) where
     pub refuses : (t : Token) → Refused edition s t → (Accepted → ⊥)
         → (readProgram edition s ≡ refuse {A = Program} t) ⊎ TooDeep
 
-  -- "`/` starts an ERE where the grammar below allows one, else it divides": it is told whether one can stand after some
-  -- tokens, and each text's tokens are read in one way
+  -- "`/` starts an ERE where the grammar below allows one, else it divides": it is told whether one can stand after
+  -- some tokens, and each text's tokens are read in one way
   pub record SlashExactly : Type 0 where
-    pub told : (before : List Kind) → (Viable edition (before ++ (ERE ∷ []))) ⊎ (Viable edition (before ++ (ERE ∷ [])) → ⊥)
+    pub told : (before : List Kind)
+        → (Viable edition (before ++ (ERE ∷ []))) ⊎ (Viable edition (before ++ (ERE ∷ [])) → ⊥)
     pub one-way : (before : List Kind) (t u : Token) → Reached edition s before t → Reached edition s before u → t ≡ u
