@@ -19,7 +19,7 @@ RANDOM = ['match', 'split', 'images', 'translate', 'run', 'ways']
 # over other archives than capi's
 OTHER_ARCHIVES = ['exists', 'tokens']
 OTHERS = ['frames', 'believe']
-COMPUTED = ['semantics', 'translation', 'grammar', 'wrong_definitions']
+COMPUTED = ['semantics', 'translation', 'grammar', 'wrong_definitions', 'wrong_grammar']
 
 
 def same_vectors():
