@@ -51,7 +51,10 @@ module _ (s : List ℕ) (escapes : Bool) (table : List ℕ) (n : ℕ) (l : List 
   pub full-holds : (m : List Constant) → length table < 2 * n → Holds s escapes table n (withNew sameConstant l m)
   full-holds m h =
       record {
-        held = record { few = λ g. absurd (omega (arith, g, h)); many = λ g. omega (arith, holds .held .many h, longer sameConstant m l) };
+        held = record {
+          few = λ g. absurd (omega (arith, g, h));
+          many = λ g. omega (arith, holds .held .many h, longer sameConstant m l);
+        };
         bounded = λ t g. absurd (omega (arith, g, h));
       }
 

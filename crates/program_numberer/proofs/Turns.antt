@@ -196,7 +196,8 @@ module _ (edition : ℕ) (s : List ℕ) (what : ℕ) where
         more : take (suc i) section ≡ take i section ++ One
         more = take-suc section i 0 below
 
-        more-numbers : AllNumbers edition s what table n (take i section ++ One) table'' r (done .words ++ (word .one ∷ []))
+        more-numbers : AllNumbers edition s what table n (take i section ++ One) table'' r
+            (done .words ++ (word .one ∷ []))
         more-numbers l h =
             let first = done .numbers l h in
             let list : List Constant = withNew sameConstant l (things edition s what (take i section)) in

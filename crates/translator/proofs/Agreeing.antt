@@ -5,7 +5,7 @@ use mathlib.Core.List.{List, [], _∷_, _++_}
 use Prim.Native.Nat.{ℕ}
 use native.Mathlib.Omega.{arith}
 use lib.ListN.{length}
-use Rattle.image_format.specs.Codes.{Action, constant, get, set, field, set-field, drop, arithmetic, negate, to-number, negation, compare, join, matches, match, length-of, index, substr, print, add, subtract, multiply, divide, remainder, less, at-most, equal, different, greater, at-least, section-end, action, flow}
+use Rattle.image_format.specs.Codes.{Operation, Action, constant, get, set, field, set-field, drop, arithmetic, negate, to-number, negation, compare, join, matches, match, length-of, index, substr, print, add, subtract, multiply, divide, remainder, less, at-most, equal, different, greater, at-least, section-end, action, flow}
 use Rattle.semantics.specs.Moves.{Section}
 use Rattle.semantics.proofs.Tables.{rowOf}
 use Rattle.program_tokens.specs.Words.{sameBytes}
@@ -78,29 +78,33 @@ pub record Agrees (l : List (List ℕ)) (i : Emitted) : Type 0 where
 -- ---- each instruction of a fine tree
 
 module _ (l : List (List ℕ)) where
+  none-named : (o : Operation) (d : ℕ) → isNamed 0 (opcode o) ≡ false → isNamed 1 (opcode o) ≡ false
+      → isNamed 2 (opcode o) ≡ false → hasOperand (opcode o) ≡ false → Agrees l (emitted o d nothing)
+  none-named o d e f g h = record { constants = e; variables = f; eres = g; operand = h; listed = tt }
+
   plain-agrees : (a : Action) (d : ℕ) → rowOf (action a) .immediates ≡ [] → Agrees l (emitted (action a) d nothing)
   unfolding isNamed opcode actionCode arithmeticCode comparisonCode hasOperand
-  plain-agrees field d h = record { constants = refl; variables = refl; eres = refl; operand = refl; listed = tt }
-  plain-agrees set-field d h = record { constants = refl; variables = refl; eres = refl; operand = refl; listed = tt }
-  plain-agrees drop d h = record { constants = refl; variables = refl; eres = refl; operand = refl; listed = tt }
-  plain-agrees (arithmetic add) d h = record { constants = refl; variables = refl; eres = refl; operand = refl; listed = tt }
-  plain-agrees (arithmetic subtract) d h = record { constants = refl; variables = refl; eres = refl; operand = refl; listed = tt }
-  plain-agrees (arithmetic multiply) d h = record { constants = refl; variables = refl; eres = refl; operand = refl; listed = tt }
-  plain-agrees (arithmetic divide) d h = record { constants = refl; variables = refl; eres = refl; operand = refl; listed = tt }
-  plain-agrees (arithmetic remainder) d h = record { constants = refl; variables = refl; eres = refl; operand = refl; listed = tt }
-  plain-agrees negate d h = record { constants = refl; variables = refl; eres = refl; operand = refl; listed = tt }
-  plain-agrees to-number d h = record { constants = refl; variables = refl; eres = refl; operand = refl; listed = tt }
-  plain-agrees negation d h = record { constants = refl; variables = refl; eres = refl; operand = refl; listed = tt }
-  plain-agrees (compare less) d h = record { constants = refl; variables = refl; eres = refl; operand = refl; listed = tt }
-  plain-agrees (compare at-most) d h = record { constants = refl; variables = refl; eres = refl; operand = refl; listed = tt }
-  plain-agrees (compare equal) d h = record { constants = refl; variables = refl; eres = refl; operand = refl; listed = tt }
-  plain-agrees (compare different) d h = record { constants = refl; variables = refl; eres = refl; operand = refl; listed = tt }
-  plain-agrees (compare greater) d h = record { constants = refl; variables = refl; eres = refl; operand = refl; listed = tt }
-  plain-agrees (compare at-least) d h = record { constants = refl; variables = refl; eres = refl; operand = refl; listed = tt }
-  plain-agrees join d h = record { constants = refl; variables = refl; eres = refl; operand = refl; listed = tt }
-  plain-agrees length-of d h = record { constants = refl; variables = refl; eres = refl; operand = refl; listed = tt }
-  plain-agrees index d h = record { constants = refl; variables = refl; eres = refl; operand = refl; listed = tt }
-  plain-agrees substr d h = record { constants = refl; variables = refl; eres = refl; operand = refl; listed = tt }
+  plain-agrees field d h = none-named (action field) d refl refl refl refl
+  plain-agrees set-field d h = none-named (action set-field) d refl refl refl refl
+  plain-agrees drop d h = none-named (action drop) d refl refl refl refl
+  plain-agrees (arithmetic add) d h = none-named (action (arithmetic add)) d refl refl refl refl
+  plain-agrees (arithmetic subtract) d h = none-named (action (arithmetic subtract)) d refl refl refl refl
+  plain-agrees (arithmetic multiply) d h = none-named (action (arithmetic multiply)) d refl refl refl refl
+  plain-agrees (arithmetic divide) d h = none-named (action (arithmetic divide)) d refl refl refl refl
+  plain-agrees (arithmetic remainder) d h = none-named (action (arithmetic remainder)) d refl refl refl refl
+  plain-agrees negate d h = none-named (action negate) d refl refl refl refl
+  plain-agrees to-number d h = none-named (action to-number) d refl refl refl refl
+  plain-agrees negation d h = none-named (action negation) d refl refl refl refl
+  plain-agrees (compare less) d h = none-named (action (compare less)) d refl refl refl refl
+  plain-agrees (compare at-most) d h = none-named (action (compare at-most)) d refl refl refl refl
+  plain-agrees (compare equal) d h = none-named (action (compare equal)) d refl refl refl refl
+  plain-agrees (compare different) d h = none-named (action (compare different)) d refl refl refl refl
+  plain-agrees (compare greater) d h = none-named (action (compare greater)) d refl refl refl refl
+  plain-agrees (compare at-least) d h = none-named (action (compare at-least)) d refl refl refl refl
+  plain-agrees join d h = none-named (action join) d refl refl refl refl
+  plain-agrees length-of d h = none-named (action length-of) d refl refl refl refl
+  plain-agrees index d h = none-named (action index) d refl refl refl refl
+  plain-agrees substr d h = none-named (action substr) d refl refl refl refl
   plain-agrees constant d h =
       let none = ap length h in
       absurd (omega (arith, none))

@@ -239,7 +239,8 @@ module _ (edition : ℕ) (s : List ℕ) where
                 ∙ (same-depth 2 (texts eres) few-e (first w) ∙ same-depth 0 constants few-c w)
 
             no-third : isNamed 1 (opIn w) ≡ false → last ≡ second (first w)
-            no-third e = left-out 1 (specials ++ texts users) few-v (second (first w)) (ap (isNamed 1) (op-second w) ∙ e)
+            no-third e =
+                left-out 1 (specials ++ texts users) few-v (second (first w)) (ap (isNamed 1) (op-second w) ∙ e)
 
             module _ (e0 : isNamed 0 (opIn w) ≡ false) (e2 : isNamed 2 (opIn w) ≡ false) where
               last-none : isNamed 1 (opIn w) ≡ false → firstIn last ≡ firstIn w

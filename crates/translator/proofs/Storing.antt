@@ -74,7 +74,11 @@ module _ (room s : List ℕ) (edition variables : ℕ) (constants : List ℕ) (n
       (m : Sectioned main nm) (d : Sectioned end nd) where
     lengths : lengthsFit nb nm nd ≡ true
     lengths =
-        rw (le-leb nb instructionCount (b .few), le-leb nm instructionCount (m .few), le-leb nd instructionCount (d .few))
+        rw (
+          le-leb nb instructionCount (b .few),
+          le-leb nm instructionCount (m .few),
+          le-leb nd instructionCount (d .few),
+        )
 
     fitting : fits Picture ≡ (Depths && constantsFit s constants 0 nc)
     fitting =

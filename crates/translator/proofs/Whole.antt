@@ -195,7 +195,8 @@ module _ (edition : ℕ) (s : List ℕ) (B M D : List ℕ) (read : ReadAs editio
           × (D1 ≡ map (first constants-few) D)
       first-words =
           let enough : 2 * c ≤ length ct0 = omega (arith, few, room-c0) in
-          let by : (l : List ℕ) → map (numbered edition s 0 (listAfter edition s 0 [] B M D)) l ≡ map (first constants-few) l =
+          let by : (l : List ℕ)
+          → map (numbered edition s 0 (listAfter edition s 0 [] B M D)) l ≡ map (first constants-few) l =
           λ l. ap (λ (k : List Constant). map (numbered edition s 0 k) l) constants-list in
           (one .begin-words enough ∙ by B, one .main-words enough ∙ by M, one .end-words enough ∙ by D)
 
@@ -206,7 +207,8 @@ module _ (edition : ℕ) (s : List ℕ) (B M D : List ℕ) (read : ReadAs editio
         eres-after =
             let w = first-words few in
             ap (withNew sameConstant [])
-            (three-parts (ap (things edition s 2) (w .0)) (ap (things edition s 2) (w .1)) (ap (things edition s 2) (w .2)))
+            (three-parts (ap (things edition s 2) (w .0)) (ap (things edition s 2) (w .1))
+            (ap (things edition s 2) (w .2)))
             ∙ eres-list (constants-few few)
 
         eres-held : Holds s false et e (texts (T .eres))
@@ -219,7 +221,8 @@ module _ (edition : ℕ) (s : List ℕ) (B M D : List ℕ) (read : ReadAs editio
 
         module _ (few-er : e ≤ ereCount) where
           eres-few : Few (texts (T .eres))
-          eres-few = omega (arith, few-er, size s false et e (texts (T .eres)) eres-held (omega (arith, few-er, room-e)))
+          eres-few =
+              omega (arith, few-er, size s false et e (texts (T .eres)) eres-held (omega (arith, few-er, room-e)))
 
           second-words : (B2 ≡ twice (constants-few few) eres-few B) × (M2 ≡ twice (constants-few few) eres-few M)
               × (D2 ≡ twice (constants-few few) eres-few D)
@@ -230,17 +233,22 @@ module _ (edition : ℕ) (s : List ℕ) (B M D : List ℕ) (read : ReadAs editio
               → map (numbered edition s 2 (listAfter edition s 2 [] B1 M1 D1)) l
               ≡ map (second (constants-few few) eres-few) k =
               λ l k h. ap (map (numbered edition s 2 (listAfter edition s 2 [] B1 M1 D1))) h
-              ∙ ap (λ (m : List Constant). map (numbered edition s 2 m) k) eres-after in
-              (two .begin-words enough ∙ by B1 _ (w .0), two .main-words enough ∙ by M1 _ (w .1), two .end-words enough ∙ by D1 _ (w .2))
+              ∙ ap (λ (m : List Constant). map (numbered edition s 2 m) k) eres-after in (
+                two .begin-words enough ∙ by B1 _ (w .0),
+                two .main-words enough ∙ by M1 _ (w .1),
+                two .end-words enough ∙ by D1 _ (w .2),
+              )
 
-      module _ (vt : List ℕ) (v : ℕ) (held-v : Held s false vt v (variablesOf edition s)) (room-v : length vt ≡ 64) where
+      module _ (vt : List ℕ) (v : ℕ) (held-v : Held s false vt v (variablesOf edition s))
+          (room-v : length vt ≡ 64) where
         variables-held : Held s false vt v Variables
         variables-held = subst (Held s false vt v) variables-list held-v
 
         variables-judged : leb v 32 ≡ leb (length Variables) 32
         variables-judged = same-judged s false vt v Variables variables-held 32 room-v
 
-        three-same : (a a' b b' d d' : Bool) → a ≡ a' → b ≡ b' → (b ≡ true → d ≡ d') → (a && (b && d)) ≡ (a' && (b' && d'))
+        three-same : (a a' b b' d d' : Bool) → a ≡ a' → b ≡ b' → (b ≡ true → d ≡ d')
+            → (a && (b && d)) ≡ (a' && (b' && d'))
         three-same a a' true b' d d' e f g = rw (e, ← f, g refl)
         three-same a a' false b' d d' e f g = rw (e, ← f)
 
@@ -260,7 +268,8 @@ module _ (edition : ℕ) (s : List ℕ) (B M D : List ℕ) (read : ReadAs editio
             let i : Image = imageOf edition P in
             fits-apart i
             ∙ (ap (λ (x : Bool). lengthsFit (length (i .begin)) (length (i .main)) (length (i .end))
-            && (x && (sectionsFit (i .begin) (i .main) (i .end) && all smallConstant (i .constants)))) (sym counts-same ∙ h)
+            && (x && (sectionsFit (i .begin) (i .main) (i .end) && all smallConstant (i .constants))))
+            (sym counts-same ∙ h)
             ∙ and-false (lengthsFit (length (i .begin)) (length (i .main)) (length (i .end))))
 
         module _ (counts : countsFit edition v c e ≡ true) where
@@ -303,7 +312,8 @@ module _ (edition : ℕ) (s : List ℕ) (B M D : List ℕ) (read : ReadAs editio
             variables-after =
                 let w = second-words (within .1) (within .2) in
                 ap (withNew sameConstant Variables)
-                (three-parts (ap (things edition s 1) (w .0)) (ap (things edition s 1) (w .1)) (ap (things edition s 1) (w .2)))
+                (three-parts (ap (things edition s 1) (w .0)) (ap (things edition s 1) (w .1))
+                (ap (things edition s 1) (w .2)))
                 ∙ variables-same few-c few-e
 
             variables-kept : Held s false vt' r Variables
@@ -335,8 +345,8 @@ module _ (edition : ℕ) (s : List ℕ) (B M D : List ℕ) (read : ReadAs editio
                   passed .end-words enough-v ∙ third-by D2 D (w .2),
                 )
 
-            pictured : {u u' : ℕ} {k k' : List Constant} {q q' : List (List ℕ)} {x x' y y' z z' : List Instruction} → u ≡ u' → k ≡ k'
-                → q ≡ q' → x ≡ x' → y ≡ y' → z ≡ z'
+            pictured : {u u' : ℕ} {k k' : List Constant} {q q' : List (List ℕ)} {x x' y y' z z' : List Instruction}
+                → u ≡ u' → k ≡ k' → q ≡ q' → x ≡ x' → y ≡ y' → z ≡ z'
                 → _≡_ {A = Image}
                 (record { edition = edition; users = u; constants = k; eres = q; begin = x; main = y; end = z })
                 (record { edition = edition; users = u'; constants = k'; eres = q'; begin = x'; main = y'; end = z' })
