@@ -27,10 +27,12 @@ ENTRIES = [
     ('image', 'reading', ['read']),
     ('image', 'writing', ['write']),
     ('image_check', 'checking', ['check']),
+    ('translator', 'translating', ['translate']),
     ('runner', 'running', ['run']),
     ('capi', 'matching', ['flowawk_match']),
     ('capi', 'records', ['flowawk_split', 'flowawk_field']),
     ('capi', 'images', ['flowawk_read', 'flowawk_write', 'flowawk_check']),
+    ('capi', 'translations', ['flowawk_translate']),
     ('capi', 'runs', ['flowawk_run']),
 ]
 
@@ -59,11 +61,8 @@ EXPLAINED = {
     ('image_format', 'Numbers', 'takeNumber'): (('image_format', 'Numbers', ['Coded']), 'number-back number-only'),
 }
 
-# crates of an entry that is to come, and of claims about it: what the claims reach is counted, but no file is asked for its mark yet
-TO_COME = {'program_tokens', 'program_tree', 'program_grammar', 'program_reader', 'program_code', 'program_numbering', 'translation', 'sound', 'sound_cases'}
-# definitions of entries that are to come: what a reader has to believe of them is counted when the entries are there
-TO_COME = {'program_tokens', 'program_tree', 'program_grammar', 'program_reader', 'program_code', 'program_numbering', 'program_exact', 'translation',
-           'sound'}
+# crates of claims about the whole and of computed tables, of which no file is asked for its mark
+TO_COME = {'sound', 'sound_cases'}
 
 NAME = r"[^\s(){};,.λ\"⌜⌝⟦⟧]+"
 USE = re.compile(r"^\s*(?:ghost )?use Rattle·([a-z_]+)(?:·specs\.specs|\.specs)\.([A-Za-z]+)(?:\.\{([^}]*)\}|\s+as\s+\S+)?;?\s*$")

@@ -1,4 +1,4 @@
--- The image that tables of entries and sections of words stand for.
+-- Internal: cited by private contracts only. The image that tables of entries and sections of words stand for.
 use mathlib.Core.Path.{_≡_}
 use mathlib.Core.Bool.{true, false}
 use mathlib.Core.List.{List, map}
