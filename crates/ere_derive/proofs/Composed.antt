@@ -1,16 +1,13 @@
 -- Laws of rows, one after the other, and of pairs.
 use mathlib.Core.Path.{_≡_, refl, sym, ap, subst, _∙_}
-use mathlib.Core.Bool.{true, false, not}
 use mathlib.Core.List.{List}
 use mathlib.Core.Logic.{_⊎_, inl, inr, ⊎-elim}
-use Prim.Native.Nat.{ℕ, zero, suc, _+_, _-_, _*_, _≤_, _<_}
+use Prim.Native.Nat.{ℕ, zero, suc, _+_, _-_, _*_, _%_, _≤_, _<_}
 use native.Mathlib.Nat.{mul-le-mul-left, mul-le-mul-right, mul-suc, suc-mul, eq-or-lt-of-le}
 use native.Mathlib.Omega.{arith}
 use lib.ListN.{length, getD, set, length-set}
-use lib.Dec.{eqb}
 use lib.Seq.{getD-set-same, getD-set-other}
 use Rattle.ere_table.specs.Table.{row}
-use Rattle.ere_table.specs.Wiring.{stopIn}
 use Rattle.ere_automaton.specs.Layout.{rowsAt}
 use Rattle.ere_derive.specs.Growth.{Grows, Leads}
 use Rattle.ere_derive.specs.Layout.{Frame, Apart, RowAt, Rows, RowOf, Closed, Paired, PutPairs}
@@ -55,23 +52,23 @@ copied-more d s p q k e apart l room f h =
 -- ---- rows
 
 -- a row that is kept, while sets become more
-pub row-on : {t bytes : List ℕ} {k : ℕ} {a : List ℕ} {n stride : ℕ} {s d : List ℕ} {p : ℕ} {a' : List ℕ} {n' : ℕ} (d' : List ℕ) → RowAt t bytes k a n stride s d p → Grows a n a' n'
-    → ((x : ℕ) → x < k + 1 → getD d' (p + x) 0 ≡ getD d (p + x) 0) → RowAt t bytes k a' n' stride s d' p
-row-on {t} {bytes} {k} {a} {n} {stride} {s} {d} {p} {a'} {n'} d' r g e = record {
-  leads = λ c h. subst (λ (q : ℕ). Leads t a' n' stride s (getD bytes c 0) q) (sym (e c (omega arith))) (leads-on (r .leads c h) g);
-  ends = ap (λ (q : ℕ). not (eqb q 0)) (e k (omega arith)) ∙ r .ends;
+pub row-on : {mode : ℕ} {t bytes : List ℕ} {k : ℕ} {a : List ℕ} {n stride : ℕ} {s d : List ℕ} {p : ℕ} {a' : List ℕ} {n' : ℕ} (d' : List ℕ) → RowAt mode t bytes k a n stride s d p → Grows a n a' n'
+    → ((x : ℕ) → x < k + 1 → getD d' (p + x) 0 ≡ getD d (p + x) 0) → RowAt mode t bytes k a' n' stride s d' p
+row-on {mode} {t} {bytes} {k} {a} {n} {stride} {s} {d} {p} {a'} {n'} d' r g e = record {
+  leads = λ c h. subst (λ (q : ℕ). Leads mode t a' n' stride s (getD bytes c 0) q) (sym (e c (omega arith))) (leads-on (r .leads c h) g);
+  marks = e k (omega arith) ∙ r .marks;
 }
 
-module _ (t bytes : List ℕ) (k : ℕ) (a : List ℕ) (n stride : ℕ) (d : List ℕ) (i : ℕ) (a' : List ℕ) (n' : ℕ) (d' : List ℕ) where
-  pub rows-more : k < stride → i < n → Rows t bytes k a n stride d i → Grows a n a' n'
+module _ (mode : ℕ) (t bytes : List ℕ) (k : ℕ) (a : List ℕ) (n stride : ℕ) (d : List ℕ) (i : ℕ) (a' : List ℕ) (n' : ℕ) (d' : List ℕ) where
+  pub rows-more : k < stride → i < n → Rows mode t bytes k a n stride d i → Grows a n a' n'
       → Frame (rowsAt + stride * i) (rowsAt + stride * i + (k + 1)) d d'
-      → RowAt t bytes k a' n' stride (row a i) d' (rowsAt + stride * i) → Rows t bytes k a' n' stride d' (i + 1)
-  rows-more l h R g f new = upTo i old (subst (λ (s : List ℕ). RowAt t bytes k a' n' stride s d' (rowsAt + stride * i)) (sym (g .kept i h)) new)
+      → RowAt mode t bytes k a' n' stride (row a i) d' (rowsAt + stride * i) → Rows mode t bytes k a' n' stride d' (i + 1)
+  rows-more l h R g f new = upTo i old (subst (λ (s : List ℕ). RowAt mode t bytes k a' n' stride s d' (rowsAt + stride * i)) (sym (g .kept i h)) new)
     where
-      old : (j : ℕ) → j < i → RowAt t bytes k a' n' stride (row a' j) d' (rowsAt + stride * j)
+      old : (j : ℕ) → j < i → RowAt mode t bytes k a' n' stride (row a' j) d' (rowsAt + stride * j)
       old j m =
           let z = rows-below stride j i m in
-          subst (λ (s : List ℕ). RowAt t bytes k a' n' stride s d' (rowsAt + stride * j)) (sym (g .kept j (omega arith)))
+          subst (λ (s : List ℕ). RowAt mode t bytes k a' n' stride s d' (rowsAt + stride * j)) (sym (g .kept j (omega arith)))
           (row-on d' (R j m) g (λ x o. f .below (rowsAt + stride * j + x) (omega arith)))
 
 -- ---- pairs
@@ -160,12 +157,12 @@ module _ (k n stride : ℕ) (st : stride ≡ k + 1 + k * k) where
             let y = r .is in
             new c e l m ∙ ap (λ (z : ℕ). getD s (z + e) 0) (x ∙ y) ∙ P .kept (r .number) e (r .low) (omega arith) ∙ ap (λ (z : ℕ). getD d (z + e) 0) (sym y)
 
--- a row, once its end mark is stored
-pub row-ended : (t bytes : List ℕ) (k : ℕ) (a : List ℕ) (n stride : ℕ) (s d : List ℕ) (p m : ℕ) → p + k < length d → not (eqb m 0) ≡ stopIn s true
-    → ((c : ℕ) → c < k → Leads t a n stride s (getD bytes c 0) (getD d (p + c) 0)) → RowAt t bytes k a n stride s (set d (p + k) m) p
-row-ended t bytes k a n stride s d p m room e l = record {
-  leads = λ c h. subst (λ (q : ℕ). Leads t a n stride s (getD bytes c 0) q) (sym (getD-set-other d (p + k) (p + c) m 0 (omega arith))) (l c h);
-  ends = ap (λ (q : ℕ). not (eqb q 0)) (getD-set-same d (p + k) m 0 room) ∙ e;
+-- a row, once its accept bits are stored
+pub row-ended : (mode : ℕ) (t bytes : List ℕ) (k : ℕ) (a : List ℕ) (n stride : ℕ) (s d : List ℕ) (p m : ℕ) → p + k < length d → m ≡ getD s 2 0 % 4
+    → ((c : ℕ) → c < k → Leads mode t a n stride s (getD bytes c 0) (getD d (p + c) 0)) → RowAt mode t bytes k a n stride s (set d (p + k) m) p
+row-ended mode t bytes k a n stride s d p m room e l = record {
+  leads = λ c h. subst (λ (q : ℕ). Leads mode t a n stride s (getD bytes c 0) q) (sym (getD-set-other d (p + k) (p + c) m 0 (omega arith))) (l c h);
+  marks = getD-set-same d (p + k) m 0 room ∙ e;
 }
 
 pub put-pairs-none : (k n stride : ℕ) (d : List ℕ) → PutPairs k n stride 0 d d

@@ -3,26 +3,25 @@ use mathlib.Core.Path.{_≡_, refl, sym, ap, ap₂, subst, _∙_}
 use mathlib.Core.Bool.{Bool, true, false, not, cond}
 use mathlib.Core.List.{List, [], _∷_, _++_}
 use mathlib.Core.Logic.{_⊎_, ⊎-elim}
-use Prim.Native.Nat.{ℕ, zero, suc, _+_, _-_, _*_, _/_, _≤_, _<_}
+use Prim.Native.Nat.{ℕ, zero, suc, _+_, _-_, _*_, _/_, _%_, _≤_, _<_}
 use native.Mathlib.Nat.{div-eq-of-eq-mul-left, mul-comm, mul-le-mul, mul-le-mul-left, mul-div-le}
 use native.Mathlib.Omega.{arith}
 use lib.ListN.{length, take, drop, getD, set, length-set, length-append, length-drop, List·getD-append}
 use lib.Seq.{getD-take, length-take-le, length-front, take-append-le, getD-set-same, getD-set-other}
 use lib.Dec.{eqb}
 use borrow.Author.Tests.{eq-eqb, ne-eqb}
-use Rattle.ere_table.specs.Table.{row, join}
-use Rattle.ere_table.specs.Wiring.{stopIn}
-use Rattle.ere_search.specs.Walk.{step}
-use Rattle.ere_automaton.specs.Sets.{collapsed, after}
+use Rattle.ere_table.specs.Table.{row}
 use Rattle.ere_automaton.specs.Layout.{State, classIn, nextIn, pairIn, endWord, rowsAt, strideBy, strideOf, stateCount}
-use Rattle.ere_automaton.specs.Automaton.{Ranged, Hull, Drives}
+use Rattle.ere_automaton.specs.Automaton.{Ranged, Hull}
 use Rattle.ere_derive.specs.Column.{Classified}
+use Rattle.ere_derive.specs.Modes.{changeBy, firstBy, laterBy, lastBy, FollowsBy}
 use Rattle.ere_derive.specs.Growth.{Fair, Grows, Has, Leads}
 use Rattle.ere_derive.specs.Layout.{Frame, RowAt, Rows, RowOf, Closed, Paired, PutRows, PutPairs, Begins, Headed}
-use Rattle.ere_derive.specs.Derived.{Derived, Attempted}
+use Rattle.ere_derive.specs.Derived.{DerivedBy, Attempted}
 use Rattle.ere_derive.proofs.Grown.{grows-none, has-on}
 use Rattle.ere_derive.proofs.Composed.{rows-below, square-below, row-on}
 use Rattle.ere_derive.proofs.Bounded.{classified-on, hull-on}
+use Rattle.ere_derive.proofs.Following.{change-same, fair-marks}
 
 -- ---- words of a row
 
@@ -80,10 +79,6 @@ headed d k first later accepted pairs room = record {
 
 -- ---- the automaton
 
-after-same : (t s : List ℕ) (b c : ℕ) → step t s b ≡ step t s c → after t s b ≡ after t s c
-unfolding after
-after-same t s b c e = ap (λ (u : List ℕ). cond (stopIn s false) s (collapsed (join u (row t 1)))) e
-
 -- q is the row of the set s
 pub record Stands (a : List ℕ) (n stride : ℕ) (s : List ℕ) (q : ℕ) : Type 0 where
   pub number : ℕ
@@ -91,21 +86,22 @@ pub record Stands (a : List ℕ) (n stride : ℕ) (s : List ℕ) (q : ℕ) : Typ
   pub has : Has a n number s
 
 -- the words d, of which the first are an automaton whose states stand for the sets a
-pub record Built (t bytes : List ℕ) (k : ℕ) (a : List ℕ) (n stride pairs : ℕ) (d : List ℕ) : Type 0 where
+pub record Built (mode : ℕ) (t bytes : List ℕ) (k : ℕ) (a : List ℕ) (n stride pairs : ℕ) (d : List ℕ) : Type 0 where
   pub width : stride ≡ strideBy k pairs
   pub room : rowsAt + stride * n ≤ length d
   pub count : getD d 0 0 ≡ k
   pub paired : getD d 4 0 ≡ pairs
-  pub first : Stands a n stride (collapsed (row t 0)) (getD d 1 0)
-  pub later : Stands a n stride (collapsed (row t 1)) (getD d 2 0)
-  pub accepted : Stands a n stride (0 ∷ 0 ∷ 3 ∷ []) (getD d 3 0)
-  pub rows : Rows t bytes k a n stride d n
+  pub first : Stands a n stride (firstBy mode t) (getD d 1 0)
+  pub later : Stands a n stride (laterBy mode t) (getD d 2 0)
+  pub accepted : Stands a n stride (lastBy mode) (getD d 3 0)
+  pub rows : Rows mode t bytes k a n stride d n
   pub composed : eqb pairs 0 ≡ false → (i : ℕ) → i < n → Paired k d d (rowsAt + stride * i) k
   pub fair : (j : ℕ) → j < n → Fair (row a j)
   pub classes : Classified t bytes k d
   pub hull : Hull t d
 
-module _ (t bytes : List ℕ) (k : ℕ) (a : List ℕ) (n stride pairs : ℕ) (d : List ℕ) (B : Built t bytes k a n stride pairs d) where
+module _ (mode : ℕ) (t bytes : List ℕ) (k : ℕ) (a : List ℕ) (n stride pairs : ℕ) (d : List ℕ)
+    (B : Built mode t bytes k a n stride pairs d) where
   abbrev r : ℕ
   r = rowsAt + stride * n
 
@@ -160,25 +156,31 @@ module _ (t bytes : List ℕ) (k : ℕ) (a : List ℕ) (n stride pairs : ℕ) (d
   next : (q : ℕ) (s : RowOf n stride q) (b : ℕ) → b < 256 → nextIn D q b ≡ getD d (rowsAt + stride * s .number + classIn d b) 0
   next q s b h = let z = B .classes .is b h in let w = wide in ap (λ (x : ℕ). getD D (q + x) 0) (class-at b h) ∙ word q s (classIn d b) (omega arith)
 
-  leads : (q : ℕ) (s : RowOf n stride q) (b : ℕ) → b < 256 → Leads t a n stride (row a (s .number)) (getD bytes (classIn d b) 0) (nextIn D q b)
+  leads : (q : ℕ) (s : RowOf n stride q) (b : ℕ) → b < 256 → Leads mode t a n stride (row a (s .number)) (getD bytes (classIn d b) 0) (nextIn D q b)
   leads q s b h =
-      subst (λ (x : ℕ). Leads t a n stride (row a (s .number)) (getD bytes (classIn d b) 0) x) (sym (next q s b h))
+      subst (λ (x : ℕ). Leads mode t a n stride (row a (s .number)) (getD bytes (classIn d b) 0) x) (sym (next q s b h))
       (B .rows (s .number) (s .low) .leads (classIn d b) (B .classes .is b h))
 
   led-row : (q : ℕ) (s : RowOf n stride q) (b : ℕ) → b < 256 → RowOf n stride (nextIn D q b)
   led-row q s b h = let l = leads q s b h in record { number = l .number; low = l .has .low; is = l .is }
 
-  steps : (q : ℕ) (s : RowOf n stride q) (b : ℕ) → b < 256 → sets (nextIn D q b) ≡ after t (sets q) b
+  steps : (q : ℕ) (s : RowOf n stride q) (b : ℕ) → b < 256 → sets (nextIn D q b) ≡ changeBy mode t (sets q) b
   steps q s b h =
       let l = leads q s b h in
-      sets-at (nextIn D q b) (l .number) (l .is) ∙ l .has .is ∙ sym (after-same t (row a (s .number)) b _ (B .classes .same (row a (s .number)) b h))
-      ∙ ap (λ (u : List ℕ). after t u b) (sym (sets-at q (s .number) (s .is)))
+      sets-at (nextIn D q b) (l .number) (l .is) ∙ l .has .is
+      ∙ sym (change-same mode t (row a (s .number)) b _ (λ u. B .classes .same u b h))
+      ∙ ap (λ (u : List ℕ). changeBy mode t u b) (sym (sets-at q (s .number) (s .is)))
 
-  ends : (q : ℕ) (s : RowOf n stride q) → not (eqb (endWord D q) 0) ≡ stopIn (sets q) true
-  ends q s =
+  marks : (q : ℕ) (s : RowOf n stride q) → endWord D q ≡ getD (sets q) 2 0 % 4
+  marks q s =
       let w = wide in
-      ap (λ (x : ℕ). not (eqb x 0)) (ap (λ (x : ℕ). getD D (q + x) 0) count ∙ word q s k (omega arith)) ∙ B .rows (s .number) (s .low) .ends
-      ∙ ap (λ (u : List ℕ). stopIn u true) (sym (sets-at q (s .number) (s .is)))
+      ap (λ (x : ℕ). getD D (q + x) 0) count ∙ word q s k (omega arith) ∙ B .rows (s .number) (s .low) .marks
+      ∙ ap (λ (u : List ℕ). getD u 2 0 % 4) (sym (sets-at q (s .number) (s .is)))
+
+  fair : (q : ℕ) (s : RowOf n stride q) → endWord D q ≡ 1 → ⊥
+  fair q s h =
+      let f = subst Fair (sym (sets-at q (s .number) (s .is))) (B .fair (s .number) (s .low)) in
+      fair-marks (sets q) f (sym (marks q s) ∙ h)
 
   two : (q : ℕ) (s : RowOf n stride q) (b c : ℕ) → b < 256 → c < 256 → eqb pairs 0 ≡ false → pairIn D q b c ≡ nextIn D (nextIn D q b) c
   two q s b c h l p =
@@ -200,8 +202,8 @@ module _ (t bytes : List ℕ) (k : ℕ) (a : List ℕ) (n stride pairs : ℕ) (d
   state-at : (i : ℕ) (s : List ℕ) → i < rowsAt → Stands a n stride s (getD d i 0) → State D (getD D i 0)
   state-at i s h S = state-in (getD D i 0) (record { number = S .number; low = S .has .low; is = at i (omega arith) ∙ S .is })
 
-  pub built-drives : Drives t D
-  built-drives = record {
+  pub built-follows : FollowsBy mode t D
+  built-follows = record {
     ranged = record {
       head = let z = size in omega arith;
       classes = λ b h. subst (λ (x : ℕ). classIn D b < x) (sym count) (subst (λ (x : ℕ). x < k) (sym (class-at b h)) (B .classes .is b h));
@@ -211,25 +213,28 @@ module _ (t bytes : List ℕ) (k : ℕ) (a : List ℕ) (n stride pairs : ℕ) (d
       pairs = λ q b c s h l p. two q (state-of q s) b c h l (ap (λ (x : ℕ). eqb x 0) (sym (at 4 (omega arith) ∙ B .paired)) ∙ p);
     };
     sets = sets;
-    first = stood 1 0 _ (omega arith) (B .first);
-    later = stood 2 0 _ (omega arith) (B .later);
-    accepted = λ s. ap (λ (u : List ℕ). stopIn u false) (stood 3 0 _ (omega arith) (B .accepted));
+    starts = stood 1 0 _ (omega arith) (B .first);
+    elsewhere = stood 2 0 _ (omega arith) (B .later);
+    lasts = state-at 3 _ (omega arith) (B .accepted);
+    stays = stood 3 0 _ (omega arith) (B .accepted);
     steps = λ q b s h. steps q (state-of q s) b h;
-    ends = λ q s. ends q (state-of q s);
-    fair = λ q s. let w = state-of q s in subst (λ (u : List ℕ). stopIn u false ≡ true → stopIn u true ≡ true) (sym (sets-at q (w .number) (w .is))) (B .fair (w .number) (w .low) .fair);
-    hull = λ h. hull-on D (λ i l m. at i (omega arith)) (B .hull);
+    marks = λ q s. marks q (state-of q s);
+    fair = λ q s. fair q (state-of q s);
   }
+
+  pub built-hull : Hull t D
+  built-hull = hull-on D (λ i l m. at i (omega arith)) (B .hull)
 
 -- ---- from the pieces
 
-pub rows-closed : {t bytes : List ℕ} {k : ℕ} {a : List ℕ} {n stride : ℕ} {d : List ℕ} → Rows t bytes k a n stride d n
+pub rows-closed : {mode : ℕ} {t bytes : List ℕ} {k : ℕ} {a : List ℕ} {n stride : ℕ} {d : List ℕ} → Rows mode t bytes k a n stride d n
     → (i : ℕ) → i < n → Closed k n stride d (rowsAt + stride * i)
 rows-closed R i h c l = let x = R i h .leads c l in record { number = x .number; low = x .has .low; is = x .is }
 
-module _ (t bytes : List ℕ) (k : ℕ) (a₀ a : List ℕ) (most n₀ n stride accepted later first pairs : ℕ) (d d1 d2 d3 : List ℕ)
+module _ (mode : ℕ) (t bytes : List ℕ) (k : ℕ) (a₀ a : List ℕ) (most n₀ n stride accepted later first pairs : ℕ) (d d1 d2 d3 : List ℕ)
     (width : stride ≡ strideBy k pairs) (room : rowsAt + stride * most ≤ length d) (l : n ≤ most) (l₀ : n₀ ≤ most)
-    (C : Classified t bytes k d) (H : Hull t d) (I : List ℕ) (G : Begins t I most n₀ accepted later first a₀)
-    (R : PutRows t bytes k a₀ n₀ most stride d n a d1) (P : PutPairs k n stride (cond (eqb pairs 0) 0 n) d1 d2)
+    (C : Classified t bytes k d) (H : Hull t d) (I : List ℕ) (G : Begins mode t I most n₀ accepted later first a₀)
+    (R : PutRows mode t bytes k a₀ n₀ most stride d n a d1) (P : PutPairs k n stride (cond (eqb pairs 0) 0 n) d1 d2)
     (E : Headed d2 k (rowsAt + stride * first) (rowsAt + stride * later) (rowsAt + stride * accepted) pairs d3) where
   kept : (i : ℕ) → 5 ≤ i → i < rowsAt → getD d3 i 0 ≡ getD d i 0
   kept i g h = E .frame .above i g ∙ P .below i h ∙ R .frame .below i h
@@ -256,7 +261,7 @@ module _ (t bytes : List ℕ) (k : ℕ) (a₀ a : List ℕ) (most n₀ n stride 
   stands : (q number : ℕ) (s : List ℕ) → q ≡ rowsAt + stride * number → Has a₀ n₀ number s → Stands a n stride s q
   stands q number s e h = record { number = number; is = e; has = has-on h (R .grows l) }
 
-  built : Built t bytes k a n stride pairs d3
+  built : Built mode t bytes k a n stride pairs d3
   built = record {
     width = width;
     room = let z = length-is in let y = inside in omega arith;
@@ -272,18 +277,21 @@ module _ (t bytes : List ℕ) (k : ℕ) (a₀ a : List ℕ) (most n₀ n stride 
     hull = hull-on d3 (λ i g h. kept i (omega arith) (omega arith)) H;
   }
 
-  pub attempted : Attempted t d (rowsAt + stride * n) d3
+  pub attempted : Attempted mode t d (rowsAt + stride * n) d3
   attempted = record {
-    derived = record { size = length-is; inside = inside; drives = λ h. built-drives t bytes k a n stride pairs d3 built };
+    derived = record { size = length-is; inside = inside; follows = λ h. built-follows mode t bytes k a n stride pairs d3 built; hull = λ h. built-hull mode t bytes k a n stride pairs d3 built };
     kept = kept;
   }
 
 -- no room
-pub unattempted : (t d d' : List ℕ) → length d' ≡ length d → ((i : ℕ) → 5 ≤ i → i < rowsAt → getD d' i 0 ≡ getD d i 0) → Attempted t d 0 d'
-unattempted t d d' e k = record { derived = record { size = e; inside = omega arith; drives = λ h. absurd (omega arith) }; kept = k }
+pub underived : (mode : ℕ) (t d d' : List ℕ) → length d' ≡ length d → DerivedBy mode t d 0 d'
+underived mode t d d' l = record { size = l; inside = omega arith; follows = λ h. absurd (omega arith); hull = λ h. absurd (omega arith) }
+
+pub unattempted : (mode : ℕ) (t d d' : List ℕ) → length d' ≡ length d → ((i : ℕ) → 5 ≤ i → i < rowsAt → getD d' i 0 ≡ getD d i 0) → Attempted mode t d 0 d'
+unattempted mode t d d' e k = record { derived = underived mode t d d' e; kept = k }
 
 -- an attempt on the first m words
-module _ (t bytes : List ℕ) (k m : ℕ) (d : List ℕ) (h : rowsAt ≤ m) (l : m ≤ length d) where
+module _ (mode : ℕ) (t bytes : List ℕ) (k m : ℕ) (d : List ℕ) (h : rowsAt ≤ m) (l : m ≤ length d) where
   pub front-size : length (take m d) ≡ m
   front-size = length-take-le m d l
 
@@ -293,12 +301,13 @@ module _ (t bytes : List ℕ) (k m : ℕ) (d : List ℕ) (h : rowsAt ≤ m) (l :
   pub front-hull : Hull t d → Hull t (take m d)
   front-hull = hull-on (take m d) (λ i g o. getD-take m d i 0 (omega arith))
 
-  pub front-attempted : (r : ℕ) (f : List ℕ) → Attempted t (take m d) r f → Attempted t d r (f ++ drop m d)
+  pub front-attempted : (r : ℕ) (f : List ℕ) → Attempted mode t (take m d) r f → Attempted mode t d r (f ++ drop m d)
   front-attempted r f A = record {
     derived = record {
       size = length-front d f m (A .derived .size);
       inside = let x = A .derived .inside in let y = front-size in omega arith;
-      drives = λ g. subst (Drives t) (sym (take-append-le r f (drop m d) r-in)) (A .derived .drives g);
+      follows = λ g. subst (FollowsBy mode t) (sym (take-append-le r f (drop m d) r-in)) (A .derived .follows g);
+      hull = λ g. subst (Hull t) (sym (take-append-le r f (drop m d) r-in)) (A .derived .hull g);
     };
     kept = λ i g o. List·getD-append f (drop m d) 0 i (f-has i o) ∙ A .kept i g o ∙ getD-take m d i 0 (omega arith);
   }
@@ -313,8 +322,5 @@ module _ (t bytes : List ℕ) (k m : ℕ) (d : List ℕ) (h : rowsAt ≤ m) (l :
       f-has i o = let z = f-size in omega arith
 
 -- words of the same length
-pub derived-on : {t d d' : List ℕ} {r : ℕ} (e : List ℕ) → length d ≡ length e → Derived t d r d' → Derived t e r d'
-derived-on {r = m} e l D = record { size = D .size ∙ l; inside = subst (λ (n : ℕ). m ≤ n) l (D .inside); drives = D .drives }
-
-pub underived : (t d d' : List ℕ) → length d' ≡ length d → Derived t d 0 d'
-underived t d d' l = record { size = l; inside = omega arith; drives = λ h. absurd (omega arith) }
+pub derived-on : {mode : ℕ} {t d d' : List ℕ} {r : ℕ} (e : List ℕ) → length d ≡ length e → DerivedBy mode t d r d' → DerivedBy mode t e r d'
+derived-on {r = m} e l D = record { size = D .size ∙ l; inside = subst (λ (n : ℕ). m ≤ n) l (D .inside); follows = D .follows; hull = D .hull }

@@ -85,5 +85,5 @@ grows-put {n = n} p f = record {
 pub has-on : {a b : List ℕ} {n m i : ℕ} {s : List ℕ} → Has a n i s → Grows a n b m → Has b m i s
 has-on {i = i} h g = record { low = omega (arith, h .low, g .more); is = g .kept i (h .low) ∙ h .is }
 
-pub leads-on : {t a c : List ℕ} {n m stride : ℕ} {s : List ℕ} {b q : ℕ} → Leads t a n stride s b q → Grows a n c m → Leads t c m stride s b q
+pub leads-on : {mode : ℕ} {t a c : List ℕ} {n m stride : ℕ} {s : List ℕ} {b q : ℕ} → Leads mode t a n stride s b q → Grows a n c m → Leads mode t c m stride s b q
 leads-on l g = record { number = l .number; is = l .is; has = has-on (l .has) g }

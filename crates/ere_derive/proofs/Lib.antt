@@ -3,4 +3,5 @@ pub mod Columns
 pub mod Grown
 pub mod Composed
 pub mod Bounded
+pub mod Following
 pub mod Driving

@@ -3,8 +3,10 @@ use mathlib.Core.Path.{_≡_}
 use mathlib.Core.List.{List}
 use Prim.Native.Nat.{ℕ, _≤_, _<_}
 use lib.ListN.{length, take, getD}
-use Rattle.ere_automaton.specs.Automaton.{Drives}
+use Rattle.ere_automaton.specs.Automaton.{Drives, Hull}
+use Rattle.ere_automaton.specs.Follows.{Seeks}
 use Rattle.ere_automaton.specs.Layout.{rowsAt}
+use Rattle.ere_derive.specs.Modes.{FollowsBy}
 
 -- r is 0, or the first r words are an automaton of the table
 pub record Derived (t d : List ℕ) (r : ℕ) (d' : List ℕ) : Type 0 where
@@ -12,7 +14,20 @@ pub record Derived (t d : List ℕ) (r : ℕ) (d' : List ℕ) : Type 0 where
   pub inside : r ≤ length d
   pub drives : 0 < r → Drives t (take r d')
 
+-- r is 0, or the first r words are both automata of a search by the table
+pub record DerivedBoth (t d : List ℕ) (r : ℕ) (d' : List ℕ) : Type 0 where
+  pub size : length d' ≡ length d
+  pub inside : r ≤ length d
+  pub seeks : 0 < r → Seeks t (take r d')
+
+-- r is 0, or the first r words are an automaton of the table, by a mode
+pub record DerivedBy (mode : ℕ) (t d : List ℕ) (r : ℕ) (d' : List ℕ) : Type 0 where
+  pub size : length d' ≡ length d
+  pub inside : r ≤ length d
+  pub follows : 0 < r → FollowsBy mode t (take r d')
+  pub hull : 0 < r → Hull t (take r d')
+
 -- the same, of an attempt that leaves classes and ranges as they are
-pub record Attempted (t d : List ℕ) (r : ℕ) (d' : List ℕ) : Type 0 where
-  pub derived : Derived t d r d'
+pub record Attempted (mode : ℕ) (t d : List ℕ) (r : ℕ) (d' : List ℕ) : Type 0 where
+  pub derived : DerivedBy mode t d r d'
   pub kept : (i : ℕ) → 5 ≤ i → i < rowsAt → getD d' i 0 ≡ getD d i 0

@@ -6,8 +6,8 @@ use Prim.Native.Nat.{ℕ, _+_, _*_, _≤_, _<_}
 use lib.ListN.{length, getD}
 use Rattle.ere_table.specs.Table.{row}
 use Rattle.ere_table.specs.Wiring.{stopIn}
-use Rattle.ere_automaton.specs.Sets.{after, collapsed}
 use Rattle.ere_automaton.specs.Layout.{rowsAt}
+use Rattle.ere_derive.specs.Modes.{changeBy}
 
 -- where a match may end before the text's end, it may at it
 pub record Fair (s : List ℕ) : Type 0 where
@@ -37,7 +37,7 @@ pub record Enters (a : List ℕ) (n most : ℕ) (s : List ℕ) (count number : �
   pub has : count ≤ most → Has a' count number s
 
 -- q is the row of the set after the byte b
-pub record Leads (t a : List ℕ) (n stride : ℕ) (s : List ℕ) (b q : ℕ) : Type 0 where
+pub record Leads (mode : ℕ) (t a : List ℕ) (n stride : ℕ) (s : List ℕ) (b q : ℕ) : Type 0 where
   pub number : ℕ
   pub is : q ≡ rowsAt + stride * number
-  pub has : Has a n number (after t s b)
+  pub has : Has a n number (changeBy mode t s b)

@@ -1,15 +1,12 @@
 -- Internal: cited by private contracts only. The words of rows and pairs.
 use mathlib.Core.Path.{_≡_}
-use mathlib.Core.Bool.{not, true}
-use mathlib.Core.List.{List, [], _∷_}
+use mathlib.Core.List.{List}
 use mathlib.Core.Logic.{_⊎_}
-use Prim.Native.Nat.{ℕ, _+_, _-_, _*_, _≤_, _<_}
+use Prim.Native.Nat.{ℕ, _+_, _-_, _*_, _%_, _≤_, _<_}
 use lib.ListN.{length, getD}
-use lib.Dec.{eqb}
 use Rattle.ere_table.specs.Table.{row}
-use Rattle.ere_table.specs.Wiring.{stopIn}
-use Rattle.ere_automaton.specs.Sets.{after, collapsed}
 use Rattle.ere_automaton.specs.Layout.{rowsAt}
+use Rattle.ere_derive.specs.Modes.{firstBy, laterBy, lastBy}
 use Rattle.ere_derive.specs.Growth.{Fair, Grows, Has, Leads}
 
 -- only the words from `low` up to `high` may differ
@@ -19,32 +16,33 @@ pub record Frame (low high : ℕ) (d d' : List ℕ) : Type 0 where
   pub above : (i : ℕ) → high ≤ i → getD d' i 0 ≡ getD d i 0
 
 -- the words at p are the row of the set s
-pub record RowAt (t bytes : List ℕ) (k : ℕ) (a : List ℕ) (n stride : ℕ) (s d : List ℕ) (p : ℕ) : Type 0 where
-  pub leads : (c : ℕ) → c < k → Leads t a n stride s (getD bytes c 0) (getD d (p + c) 0)
-  pub ends : not (eqb (getD d (p + k) 0) 0) ≡ stopIn s true
+pub record RowAt (mode : ℕ) (t bytes : List ℕ) (k : ℕ) (a : List ℕ) (n stride : ℕ) (s d : List ℕ) (p : ℕ) : Type 0 where
+  pub leads : (c : ℕ) → c < k → Leads mode t a n stride s (getD bytes c 0) (getD d (p + c) 0)
+  -- the accept bits
+  pub marks : getD d (p + k) 0 ≡ getD s 2 0 % 4
 
 -- what a function that may enter sets has done to sets and words, if there is room
-pub record PutEntry (t : List ℕ) (a : List ℕ) (n most stride : ℕ) (s : List ℕ) (b p : ℕ) (d : List ℕ) (r : ℕ) (a' d' : List ℕ) : Type 0 where
+pub record PutEntry (mode : ℕ) (t a : List ℕ) (n most stride : ℕ) (s : List ℕ) (b p : ℕ) (d : List ℕ) (r : ℕ) (a' d' : List ℕ) : Type 0 where
   pub size : length a' ≡ length a
   pub frame : Frame p (p + 1) d d'
   pub grows : r ≤ most → Grows a n a' r
-  pub leads : r ≤ most → Leads t a' r stride s b (getD d' p 0)
+  pub leads : r ≤ most → Leads mode t a' r stride s b (getD d' p 0)
 
-pub record PutRow (t bytes : List ℕ) (k : ℕ) (a : List ℕ) (n most stride : ℕ) (s : List ℕ) (p : ℕ) (d : List ℕ) (r : ℕ) (a' d' : List ℕ) : Type 0 where
+pub record PutRow (mode : ℕ) (t bytes : List ℕ) (k : ℕ) (a : List ℕ) (n most stride : ℕ) (s : List ℕ) (p : ℕ) (d : List ℕ) (r : ℕ) (a' d' : List ℕ) : Type 0 where
   pub size : length a' ≡ length a
   pub frame : Frame p (p + (k + 1)) d d'
   pub grows : r ≤ most → Grows a n a' r
-  pub has : r ≤ most → RowAt t bytes k a' r stride s d' p
+  pub has : r ≤ most → RowAt mode t bytes k a' r stride s d' p
 
 -- the rows of the first m of n sets
-abbrev pub Rows : List ℕ → List ℕ → ℕ → List ℕ → ℕ → ℕ → List ℕ → ℕ → Type 0
-Rows t bytes k a n stride d m = (i : ℕ) → i < m → RowAt t bytes k a n stride (row a i) d (rowsAt + stride * i)
+abbrev pub Rows : ℕ → List ℕ → List ℕ → ℕ → List ℕ → ℕ → ℕ → List ℕ → ℕ → Type 0
+Rows mode t bytes k a n stride d m = (i : ℕ) → i < m → RowAt mode t bytes k a n stride (row a i) d (rowsAt + stride * i)
 
-pub record PutRows (t bytes : List ℕ) (k : ℕ) (a : List ℕ) (n most stride : ℕ) (d : List ℕ) (r : ℕ) (a' d' : List ℕ) : Type 0 where
+pub record PutRows (mode : ℕ) (t bytes : List ℕ) (k : ℕ) (a : List ℕ) (n most stride : ℕ) (d : List ℕ) (r : ℕ) (a' d' : List ℕ) : Type 0 where
   pub frame : Frame rowsAt (length d) d d'
   pub size : length a' ≡ length a
   pub grows : r ≤ most → Grows a n a' r
-  pub rows : r ≤ most → Rows t bytes k a' r stride d' r
+  pub rows : r ≤ most → Rows mode t bytes k a' r stride d' r
 
 -- two pieces of k words that share none
 abbrev pub Apart : ℕ → ℕ → ℕ → ℕ → Type 0
@@ -72,12 +70,12 @@ pub record PutPairs (k n stride m : ℕ) (d d' : List ℕ) : Type 0 where
   pub paired : (i : ℕ) → i < m → Paired k d d' (rowsAt + stride * i) k
 
 -- the sets that an automaton begins with
-pub record Begins (t a : List ℕ) (most count accepted later first : ℕ) (a' : List ℕ) : Type 0 where
+pub record Begins (mode : ℕ) (t a : List ℕ) (most count accepted later first : ℕ) (a' : List ℕ) : Type 0 where
   pub size : length a' ≡ length a
   pub fair : count ≤ most → (j : ℕ) → j < count → Fair (row a' j)
-  pub is-accepted : count ≤ most → Has a' count accepted (0 ∷ 0 ∷ 3 ∷ [])
-  pub is-later : count ≤ most → Has a' count later (collapsed (row t 1))
-  pub is-first : count ≤ most → Has a' count first (collapsed (row t 0))
+  pub is-accepted : count ≤ most → Has a' count accepted (lastBy mode)
+  pub is-later : count ≤ most → Has a' count later (laterBy mode t)
+  pub is-first : count ≤ most → Has a' count first (firstBy mode t)
 
 -- the first five words of an automaton
 pub record Headed (d : List ℕ) (k first later accepted pairs : ℕ) (d' : List ℕ) : Type 0 where

@@ -7,13 +7,14 @@ ghost use Rattle.ere_automaton.specs.Layout.{rowsAt, strideBy};
 ghost use Rattle.ere_automaton.specs.Automaton.{Hull};
 ghost use Rattle.ere_derive.specs.Column.{Classified};
 ghost use Rattle.ere_derive.specs.Layout.{Headed};
-ghost use Rattle.ere_derive.specs.Derived.{Derived, Attempted};
+ghost use Rattle.ere_derive.specs.Derived.{Derived, DerivedBy, Attempted};
 use crate::classes;
 use crate::hull;
 use crate::layout;
 use crate::layout::ROWS;
 use crate::pairs;
 use crate::rows;
+use crate::sets;
 
 // How many states there is room for.
 fn states_in(length: usize, stride: usize) -> usize
@@ -53,19 +54,19 @@ fn stride_of(k: usize, paired: u16) -> usize
 
 // Makes the rows and the head of an automaton whose classes and ranges are stored, and gives how many words it has; 0 if
 // there is no room.
-fn attempt(t: &[u64], bytes: &[u8], k: usize, d: &mut [u16], paired: u16) -> usize
+fn attempt(t: &[u64], mode: u64, bytes: &[u8], k: usize, d: &mut [u16], paired: u16) -> usize
     requires { ⌜ (length (now t) ≡ tableWords) × (k ≤ length (now bytes)) × (rowsAt ≤ length (now d))
         × (length (now d) < 65536) × (Classified (now t) (now bytes) k (now d)) × (Hull (now t) (now d)) ⌝ }
-    ensures { λ r. ⌜ Attempted (now (t .entry)) (now (d .entry)) r (now (d .exit)) ⌝ }
+    ensures { λ r. ⌜ Attempted mode (now (t .entry)) (now (d .entry)) r (now (d .exit)) ⌝ }
 {
     let stride = stride_of(k, paired);
     let most = states_in(d.len(), stride);
     let mut all = [0u64; 3 * layout::MOST_STATES];
-    let s = rows::begin(t, &mut all, most);
+    let s = rows::begin(t, mode, &mut all, most);
     if most < s.count {
         return 0;
     }
-    let n = rows::put_rows(t, bytes, k, &mut all, s.count, most, stride, d);
+    let n = rows::put_rows(t, mode, bytes, k, &mut all, s.count, most, stride, d);
     if most < n {
         return 0;
     }
@@ -83,10 +84,10 @@ fn attempt(t: &[u64], bytes: &[u8], k: usize, d: &mut [u16], paired: u16) -> usi
 
 // Makes rows with pairs, if they fit below `pairs` words, and gives how many words the automaton has; 0 if there is no
 // room.
-fn with_pairs(t: &[u64], bytes: &[u8], k: usize, d: &mut [u16], pairs: usize) -> usize
+fn with_pairs(t: &[u64], mode: u64, bytes: &[u8], k: usize, d: &mut [u16], pairs: usize) -> usize
     requires { ⌜ (length (now t) ≡ tableWords) × (k ≤ length (now bytes)) × (rowsAt ≤ length (now d))
         × (length (now d) < 65536) × (Classified (now t) (now bytes) k (now d)) × (Hull (now t) (now d)) ⌝ }
-    ensures { λ r. ⌜ Attempted (now (t .entry)) (now (d .entry)) r (now (d .exit)) ⌝ }
+    ensures { λ r. ⌜ Attempted mode (now (t .entry)) (now (d .entry)) r (now (d .exit)) ⌝ }
 {
     if pairs < ROWS {
         return 0;
@@ -94,14 +95,14 @@ fn with_pairs(t: &[u64], bytes: &[u8], k: usize, d: &mut [u16], pairs: usize) ->
     if d.len() < pairs {
         return 0;
     }
-    attempt(t, bytes, k, &mut d[..pairs], 1)
+    attempt(t, mode, bytes, k, &mut d[..pairs], 1)
 }
 
-// Makes the automaton of a table, with pairs if they fit below `pairs` words, and gives how many words it has; 0 if
-// there is no room.
-pub fn derive(t: &[u64], d: &mut [u16], pairs: usize) -> usize
+// Makes the automaton of a table by a mode, with pairs if they fit below `pairs` words, and gives how many words it has;
+// 0 if there is no room.
+pub fn derive_by(t: &[u64], mode: u64, d: &mut [u16], pairs: usize) -> usize
     requires { ⌜ (length (now t) ≡ tableWords) × (length (now d) < 65536) ⌝ }
-    ensures { λ r. ⌜ Derived (now (t .entry)) (now (d .entry)) r (now (d .exit)) ⌝ }
+    ensures { λ r. ⌜ DerivedBy mode (now (t .entry)) (now (d .entry)) r (now (d .exit)) ⌝ }
 {
     if d.len() < ROWS {
         return 0;
@@ -112,9 +113,18 @@ pub fn derive(t: &[u64], d: &mut [u16], pairs: usize) -> usize
         return 0;
     }
     hull::put_hull(t, &bytes, k, d);
-    let r = with_pairs(t, &bytes, k, d, pairs);
+    let r = with_pairs(t, mode, &bytes, k, d, pairs);
     if 0 < r {
         return r;
     }
-    attempt(t, &bytes, k, d, 0)
+    attempt(t, mode, &bytes, k, d, 0)
+}
+
+// Makes the automaton for the existence of a match, with pairs if they fit below `pairs` words, and gives how many words
+// it has; 0 if there is no room.
+pub fn derive(t: &[u64], d: &mut [u16], pairs: usize) -> usize
+    requires { ⌜ (length (now t) ≡ tableWords) × (length (now d) < 65536) ⌝ }
+    ensures { λ r. ⌜ Derived (now (t .entry)) (now (d .entry)) r (now (d .exit)) ⌝ }
+{
+    derive_by(t, sets::ALL, d, pairs)
 }

@@ -5,8 +5,17 @@ ghost use Prim.Native.Nat.{ℕ, _+_, _*_, _≤_, _<_};
 ghost use lib.ListN.{length};
 ghost use Rattle.ere_table.specs.Table.{tableWords, row};
 ghost use Rattle.ere_automaton.specs.Sets.{collapsed as collapsedOf, after as afterOf};
+ghost use Rattle.ere_automaton.specs.Follows.{pendingAfter};
+ghost use Rattle.ere_derive.specs.Modes.{changeBy, firstBy, laterBy, lastBy};
 ghost use Rattle.ere_derive.specs.Growth.{Fair, Put, Enters};
 use ere_table::PLACES;
+
+// What the states of an automaton stand for: all starts, one at each place; one start; the starts before a place.
+pub const ALL: u64 = 0;
+
+pub const ONE: u64 = 1;
+
+pub const PENDING: u64 = 2;
 
 // Set i of some.
 pub fn set_at(sets: &[u64], i: usize) -> [u64; 3]
@@ -17,7 +26,7 @@ pub fn set_at(sets: &[u64], i: usize) -> [u64; 3]
 }
 
 // The set u; but a set in which a match has ended is the same whatever else is in it.
-pub fn collapsed(u: [u64; 3]) -> [u64; 3]
+fn collapsed(u: [u64; 3]) -> [u64; 3]
     ensures { λ r. ⌜ r ≡ collapsedOf u ⌝ }
 {
     if ere_table::has(u, PLACES) {
@@ -27,7 +36,7 @@ pub fn collapsed(u: [u64; 3]) -> [u64; 3]
 }
 
 // What may come next after the byte b, with a match that starts after it.
-pub fn after(t: &[u64], s: [u64; 3], b: u8) -> [u64; 3]
+fn after(t: &[u64], s: [u64; 3], b: u8) -> [u64; 3]
     requires { ⌜ length (now t) ≡ tableWords ⌝ }
     ensures { λ r. ⌜ r ≡ afterOf (now (t .entry)) s b ⌝ }
 {
@@ -37,6 +46,72 @@ pub fn after(t: &[u64], s: [u64; 3], b: u8) -> [u64; 3]
     let x = ere_search::step(t, s, b);
     let y = ere_table::union(x, set_at(t, 1));
     collapsed(y)
+}
+
+// What may come next after the byte b of the matches that start before it or at it, of at least a byte each.
+fn pending_after(t: &[u64], s: [u64; 3], b: u8) -> [u64; 3]
+    requires { ⌜ length (now t) ≡ tableWords ⌝ }
+    ensures { λ r. ⌜ r ≡ pendingAfter (now (t .entry)) s b ⌝ }
+{
+    if ere_table::has(s, PLACES) {
+        return s;
+    }
+    let x = ere_table::union(s, set_at(t, 1));
+    collapsed(ere_search::step(t, x, b))
+}
+
+// What may come next after the byte b, by the mode.
+pub fn change(t: &[u64], mode: u64, s: [u64; 3], b: u8) -> [u64; 3]
+    requires { ⌜ length (now t) ≡ tableWords ⌝ }
+    ensures { λ r. ⌜ r ≡ changeBy mode (now (t .entry)) s b ⌝ }
+{
+    if mode == ALL {
+        return after(t, s, b);
+    }
+    if mode == ONE {
+        return ere_search::step(t, s, b);
+    }
+    pending_after(t, s, b)
+}
+
+// The set at the text's start.
+pub fn first(t: &[u64], mode: u64) -> [u64; 3]
+    requires { ⌜ length (now t) ≡ tableWords ⌝ }
+    ensures { λ r. ⌜ r ≡ firstBy mode (now (t .entry)) ⌝ }
+{
+    let s = set_at(t, 0);
+    if mode == ALL {
+        return collapsed(s);
+    }
+    if mode == ONE {
+        return s;
+    }
+    [s[0], s[1], 0]
+}
+
+// The set elsewhere, where nothing is pending.
+pub fn later(t: &[u64], mode: u64) -> [u64; 3]
+    requires { ⌜ length (now t) ≡ tableWords ⌝ }
+    ensures { λ r. ⌜ r ≡ laterBy mode (now (t .entry)) ⌝ }
+{
+    let s = set_at(t, 1);
+    if mode == ALL {
+        return collapsed(s);
+    }
+    if mode == ONE {
+        return s;
+    }
+    ere_table::NOTHING
+}
+
+// The set that no byte changes.
+pub fn last(mode: u64) -> [u64; 3]
+    ensures { λ r. ⌜ r ≡ lastBy mode ⌝ }
+{
+    if mode == ONE {
+        return ere_table::NOTHING;
+    }
+    ere_table::ACCEPT
 }
 
 // Whether a match that may end before the text's end may end at it.

@@ -9,8 +9,8 @@ use borrow.Author.Needs.{needs}
 use Rattle.ere_derive.proofs.rows.put_entry.Statement.{statement}
 use Rattle.ere_derive.proofs.rows.put_entry.Tie as tie
 
-after-requires : tie.Need-after-requires
-after-requires c κs = search needs
+change-requires : tie.Need-change-requires
+change-requires c κs = search needs
 
 enter-requires : tie.Need-enter-requires
 enter-requires c κs = search needs
@@ -55,7 +55,7 @@ returns-2 c =
       leads = λ g. record {
         number = c .before .before .before .before .before .enter .result .number;
         is = getD-set-same (c .before .before .before .before .before .before .before .before .before .before .before .args .d .now) (c .before .before .before .before .before .before .before .before .before .before .before .args .p) _ 0 (omega arith);
-        has = subst (λ (s : List ℕ). Has (c .before .before .before .before .before .enter .last .0) (c .before .before .before .before .before .enter .result .count) (c .before .before .before .before .before .enter .result .number) s) (c .before .before .before .before .before .before .after .ensures) h;
+        has = subst (λ (s : List ℕ). Has (c .before .before .before .before .before .enter .last .0) (c .before .before .before .before .before .enter .result .count) (c .before .before .before .before .before .enter .result .number) s) (c .before .before .before .before .before .before .change .ensures) h;
       };
     }
 
@@ -63,7 +63,7 @@ pub put-entry-spec : {M : Type 1} → statement M
 put-entry-spec =
     tie.close
     (tie.spec
-    after-requires
+    change-requires
     enter-requires
     add-result
     same-length

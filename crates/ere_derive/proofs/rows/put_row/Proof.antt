@@ -12,12 +12,12 @@ use Rattle.ere_derive.proofs.rows.put_row.Statement.{statement}
 use Rattle.ere_derive.proofs.rows.put_row.Tie as tie
 
 abbrev Inv-loop : tie.InvT-loop
-Inv-loop t bytes k sets₀ count most s stride p d₀ n₀ e₀ sets d n e =
+Inv-loop t mode bytes k sets₀ count most s stride p d₀ n₀ e₀ sets d n e =
     (e ≤ k) × (n ≤ most) × (length sets ≡ length sets₀) × (Grows sets₀ count sets n) × (Frame p (p + (k + 1)) d₀ d)
-    × ((x : ℕ) → x < e → Leads t sets n stride s (getD bytes x 0) (getD d (p + x) 0))
+    × ((x : ℕ) → x < e → Leads mode t sets n stride s (getD bytes x 0) (getD d (p + x) 0))
 
 abbrev μ-loop : tie.MeasureT-loop
-μ-loop t bytes k sets₀ count most s stride p d₀ n₀ e₀ sets d n e = k - e
+μ-loop t mode bytes k sets₀ count most s stride p d₀ n₀ e₀ sets d n e = k - e
 
 loop-holds : tie.Need-loop-holds Inv-loop μ-loop
 loop-holds c = (omega arith, omega arith, refl, grows-none _ _, frame-none _ _ _, λ x h. absurd (omega arith))
@@ -66,7 +66,7 @@ loop-again c =
       grows-on (i .3) g,
       frame-on (i .4) (frame-wider (omega arith) (omega arith) (r .frame)),
       upTo (c .before .before .before .before .before .before .before .before .before .before .loop .e)
-          (λ x h. subst (λ (q : ℕ). Leads (c .before .before .before .before .before .before .before .before .before .before .before .before .before .before .before .args .t .now) (c .before .before .before .before .before .put-entry .last .1 .1 .0) (c .before .before .before .before .before .put-entry .result) (c .before .before .before .before .before .before .before .before .before .before .before .before .before .before .before .args .stride) (c .before .before .before .before .before .before .before .before .before .before .before .before .before .before .before .args .s) (getD (c .before .before .before .before .before .before .before .before .before .before .before .before .before .before .before .args .bytes .now) x 0) q)
+          (λ x h. subst (λ (q : ℕ). Leads (c .before .before .before .before .before .before .before .before .before .before .before .before .before .before .before .args .mode) (c .before .before .before .before .before .before .before .before .before .before .before .before .before .before .before .args .t .now) (c .before .before .before .before .before .put-entry .last .1 .1 .1 .0) (c .before .before .before .before .before .put-entry .result) (c .before .before .before .before .before .before .before .before .before .before .before .before .before .before .before .args .stride) (c .before .before .before .before .before .before .before .before .before .before .before .before .before .before .before .args .s) (getD (c .before .before .before .before .before .before .before .before .before .before .before .before .before .before .before .args .bytes .now) x 0) q)
           (sym (r .frame .below (c .before .before .before .before .before .before .before .before .before .before .before .before .before .before .before .args .p + x) (omega arith))) (leads-on (i .5 x h) g))
           (r .leads (c .if1 .left)),
     )
@@ -98,7 +98,7 @@ returns-2 c =
       size = i .2;
       frame = frame-on (i .4) (frame-wider (omega arith) (omega arith) (frame-set (c .before .before .loop .d) (c .before .before .before .before .before .before .before .args .p + c .before .before .before .before .before .before .before .args .k) _));
       grows = λ h. i .3;
-      has = λ h. row-ended _ _ _ _ _ _ (c .before .before .before .before .before .before .before .args .s) (c .before .before .loop .d) (c .before .before .before .before .before .before .before .args .p) _ (omega arith) (c .end-mark .ensures) (λ x l. i .5 x (omega arith));
+      has = λ h. row-ended _ _ _ _ _ _ _ (c .before .before .before .before .before .before .before .args .s) (c .before .before .loop .d) (c .before .before .before .before .before .before .before .args .p) _ (omega arith) (c .end-mark .ensures) (λ x l. i .5 x (omega arith));
     }
 
 pub put-row-spec : {M : Type 1} → statement M

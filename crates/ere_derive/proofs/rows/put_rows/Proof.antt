@@ -13,12 +13,12 @@ use Rattle.ere_derive.proofs.rows.put_rows.Statement.{statement}
 use Rattle.ere_derive.proofs.rows.put_rows.Tie as tie
 
 abbrev Inv-loop : tie.InvT-loop
-Inv-loop t bytes k sets₀ count most stride d₀ n₀ i₀ sets d n i =
+Inv-loop t mode bytes k sets₀ count most stride d₀ n₀ i₀ sets d n i =
     (i ≤ n) × (n ≤ most) × (length sets ≡ length sets₀) × (Grows sets₀ count sets n) × (Frame rowsAt (length d₀) d₀ d)
-    × (Rows t bytes k sets n stride d i)
+    × (Rows mode t bytes k sets n stride d i)
 
 abbrev μ-loop : tie.MeasureT-loop
-μ-loop t bytes k sets₀ count most stride d₀ n₀ i₀ sets d n i = most - i
+μ-loop t mode bytes k sets₀ count most stride d₀ n₀ i₀ sets d n i = most - i
 
 loop-holds : tie.Need-loop-holds Inv-loop μ-loop
 loop-holds c = (omega arith, omega arith, refl, grows-none _ _, frame-none _ _ _, λ j h. absurd (omega arith))
@@ -73,8 +73,8 @@ loop-again c =
       r .size ∙ i .2,
       grows-on (i .3) g,
       frame-on (i .4) (frame-wider (omega arith) (omega arith) (r .frame)),
-      rows-more (c .before .before .before .before .before .before .before .before .before .before .before .before .before .before .before .before .args .t .now) (c .before .before .before .before .before .before .before .before .before .before .before .before .before .before .before .before .args .bytes .now) (c .before .before .before .before .before .before .before .before .before .before .before .before .before .before .before .before .args .k) (c .before .before .before .before .before .before .before .before .before .before .before .loop .sets) (c .before .before .before .before .before .before .before .before .before .before .before .loop .n) (c .before .before .before .before .before .before .before .before .before .before .before .before .before .before .before .before .args .stride) (c .before .before .before .before .before .before .before .before .before .before .before .loop .d) (c .before .before .before .before .before .before .before .before .before .before .before .loop .i) _ _ _ (p .7) (c .before .before .before .before .before .before .before .before .before .before .loop-test .taken) (i .5) g (r .frame)
-          (subst (λ (s : List ℕ). RowAt (c .before .before .before .before .before .before .before .before .before .before .before .before .before .before .before .before .args .t .now) (c .before .before .before .before .before .before .before .before .before .before .before .before .before .before .before .before .args .bytes .now) (c .before .before .before .before .before .before .before .before .before .before .before .before .before .before .before .before .args .k) (c .before .before .before .before .before .put-row .last .1 .1 .1 .0) (c .before .before .before .before .before .put-row .result) (c .before .before .before .before .before .before .before .before .before .before .before .before .before .before .before .before .args .stride) s (c .before .before .before .before .before .put-row .last .1 .1 .1 .1 .1 .1 .1 .1 .1 .0) (rowsAt + c .before .before .before .before .before .before .before .before .before .before .before .before .before .before .before .before .args .stride * c .before .before .before .before .before .before .before .before .before .before .before .loop .i))
+      rows-more (c .before .before .before .before .before .before .before .before .before .before .before .before .before .before .before .before .args .mode) (c .before .before .before .before .before .before .before .before .before .before .before .before .before .before .before .before .args .t .now) (c .before .before .before .before .before .before .before .before .before .before .before .before .before .before .before .before .args .bytes .now) (c .before .before .before .before .before .before .before .before .before .before .before .before .before .before .before .before .args .k) (c .before .before .before .before .before .before .before .before .before .before .before .loop .sets) (c .before .before .before .before .before .before .before .before .before .before .before .loop .n) (c .before .before .before .before .before .before .before .before .before .before .before .before .before .before .before .before .args .stride) (c .before .before .before .before .before .before .before .before .before .before .before .loop .d) (c .before .before .before .before .before .before .before .before .before .before .before .loop .i) _ _ _ (p .7) (c .before .before .before .before .before .before .before .before .before .before .loop-test .taken) (i .5) g (r .frame)
+          (subst (λ (s : List ℕ). RowAt (c .before .before .before .before .before .before .before .before .before .before .before .before .before .before .before .before .args .mode) (c .before .before .before .before .before .before .before .before .before .before .before .before .before .before .before .before .args .t .now) (c .before .before .before .before .before .before .before .before .before .before .before .before .before .before .before .before .args .bytes .now) (c .before .before .before .before .before .before .before .before .before .before .before .before .before .before .before .before .args .k) (c .before .before .before .before .before .put-row .last .1 .1 .1 .1 .0) (c .before .before .before .before .before .put-row .result) (c .before .before .before .before .before .before .before .before .before .before .before .before .before .before .before .before .args .stride) s (c .before .before .before .before .before .put-row .last .1 .1 .1 .1 .1 .1 .1 .1 .1 .1 .0) (rowsAt + c .before .before .before .before .before .before .before .before .before .before .before .before .before .before .before .before .args .stride * c .before .before .before .before .before .before .before .before .before .before .before .loop .i))
           (c .before .before .before .before .before .before .before .before .set-at .ensures) (r .has (c .if1 .left))),
     )
 
@@ -91,7 +91,7 @@ returns-2 c =
       frame = c .before .loop .inv .4;
       size = c .before .loop .inv .2;
       grows = λ h. c .before .loop .inv .3;
-      rows = λ h. subst (λ (m : ℕ). Rows (c .before .before .before .before .before .before .args .t .now) (c .before .before .before .before .before .before .args .bytes .now) (c .before .before .before .before .before .before .args .k) (c .before .loop .sets) (c .before .loop .n) (c .before .before .before .before .before .before .args .stride) (c .before .loop .d) m) e (c .before .loop .inv .5);
+      rows = λ h. subst (λ (m : ℕ). Rows (c .before .before .before .before .before .before .args .mode) (c .before .before .before .before .before .before .args .t .now) (c .before .before .before .before .before .before .args .bytes .now) (c .before .before .before .before .before .before .args .k) (c .before .loop .sets) (c .before .loop .n) (c .before .before .before .before .before .before .args .stride) (c .before .loop .d) m) e (c .before .loop .inv .5);
     }
 
 pub put-rows-spec : {M : Type 1} → statement M
