@@ -5,3 +5,4 @@ pub mod Composed
 pub mod Bounded
 pub mod Following
 pub mod Driving
+pub mod Seeking

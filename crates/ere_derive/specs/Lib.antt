@@ -5,4 +5,5 @@ pub mod Modes
 pub mod Growth
 pub mod Layout
 pub mod Bounds
+pub mod Both
 pub mod Derived

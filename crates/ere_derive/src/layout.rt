@@ -17,6 +17,12 @@ pub const LOW: usize = 6;
 
 pub const NEXT_LOW: usize = 8;
 
+// In the first of both automata of a search: its length, and the accept bits of the empty match at the text's start and
+// elsewhere.
+pub const LENGTH: usize = 10;
+
+pub const EMPTY: usize = 11;
+
 pub const CLASSES: usize = 16;
 
 pub const ROWS: usize = CLASSES + 256;

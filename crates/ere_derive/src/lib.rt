@@ -1,5 +1,6 @@
 // A finite automaton from the table of an ERE, for the existence of a match: the classes of the bytes, the sets of
 // places that can be reached, a row for each, and the ranges of a match's first two bytes.
+mod both;
 mod build;
 mod classes;
 mod hull;
@@ -8,4 +9,5 @@ mod pairs;
 mod rows;
 mod sets;
 
+pub use both::derive_both;
 pub use build::derive;
