@@ -25,7 +25,7 @@ fn block(d: &[u16], k: usize, pairs: bool, x: &[u8], i: usize, s: usize) -> usiz
 }
 
 // Returns where to go on: past the blocks in which no match starts.
-fn next_block(d: &[u16], x: &[u8], i: usize) -> usize
+pub fn next_block(d: &[u16], x: &[u8], i: usize) -> usize
     requires { ⌜ (rowsAt ≤ length (now d)) × (length (now x) < 2 ^ 63) × (i ≤ length (now x)) ⌝ }
     ensures { λ r. ⌜ Skipped (rangesOf (now (d .entry))) (now (x .entry)) i r ⌝ }
 {

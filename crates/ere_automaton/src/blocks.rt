@@ -64,7 +64,7 @@ pub fn skip(x: &[u8], from: usize, low: u8, width: u8, next_low: u8, next_width:
 }
 
 // Returns the state after two bytes.
-fn pair(d: &[u16], k: usize, s: usize, b: u8, c: u8) -> usize
+pub fn pair(d: &[u16], k: usize, s: usize, b: u8, c: u8) -> usize
     requires { ⌜ (Ready (now d) k s) × (eqb (pairsWord (now d)) 0 ≡ false) ⌝ }
     ensures { λ r. ⌜ r ≡ pairIn (now (d .entry)) s b c ⌝ }
 {

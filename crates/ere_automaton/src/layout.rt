@@ -22,6 +22,11 @@ pub const WIDTH: usize = 7;
 pub const NEXT_LOW: usize = 8;
 // How many more that one has.
 pub const NEXT_WIDTH: usize = 9;
+// Of two automata, one after the other: the words of the first, and the accept bits of the empty match, at the text's
+// start and then elsewhere.
+pub const LENGTH: usize = 10;
+
+pub const EMPTY: usize = 11;
 // Where the classes of the bytes start.
 pub const CLASSES: usize = 16;
 

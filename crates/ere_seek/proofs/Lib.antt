@@ -1,0 +1,4 @@
+-- The laws of a search for the leftmost longest match.
+pub mod Bareness
+pub mod Following
+pub mod Waiting

@@ -1,0 +1,4 @@
+// The leftmost longest match.
+pub fn seek(n: usize) -> usize {
+    n
+}
