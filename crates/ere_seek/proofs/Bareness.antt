@@ -1,6 +1,7 @@
 -- Places at which no match of at least a byte starts: none has ended, and nothing may come next.
 use mathlib.Core.Path.{_≡_, refl, sym, ap, ap₂, subst, _∙_}
-use mathlib.Core.Bool.{Bool, true, false, cond, _&&_}
+use mathlib.Core.Bool.{Bool, true, false, cond, not, _&&_}
+use mathlib.Core.Logic.{_⊎_, inl, inr}
 use mathlib.Core.List.{List}
 use Prim.Native.Nat.{ℕ, zero, suc, _+_, _-_, _≤_, _<_}
 use native.Mathlib.Nat.{add-zero}
@@ -9,13 +10,13 @@ use native.Mathlib.Decide.{decLt}
 use native.Mathlib.Omega.{arith}
 use lib.ListN.{length, getD}
 use lib.Dec.{eqb, leb}
-use borrow.Author.Tests.{ne-eqb, eq-eqb}
+use borrow.Author.Tests.{ne-eqb, eq-eqb, eqb-true, not-false}
 use Rattle.lists.proofs.Tests.{clash}
 use Rattle.ere_table.specs.Table.{row, noPlace}
 use Rattle.ere_table.specs.Wiring.{stopIn}
 use Rattle.ere_search.specs.Walk.{step, liveAt, longestTo, longestOf, entryRow, note}
 use Rattle.ere_search.proofs.Finds.{none-longer}
-use Rattle.ere_automaton.specs.Layout.{firstState, laterState, acceptedState, State, nextIn}
+use Rattle.ere_automaton.specs.Layout.{firstState, laterState, acceptedState, skipsWord, nextIn}
 use Rattle.ere_automaton.specs.Automaton.{firstByte, secondByte, Hull}
 use Rattle.ere_automaton.specs.Scan.{rangesOf, begin, Skipped}
 use Rattle.ere_automaton.specs.Follows.{FollowsOne}
@@ -163,10 +164,6 @@ candidate-passed d x bytes from m first r h skip l P =
           (bares-passed t d x at D bytes m r (λ k a b. same k (omega arith)) P);
     }
 
--- past blocks, or not
-pub skips-none : (x : List ℕ) (from : ℕ) (t : List ℕ) (at : ℕ) → Bares t x at from from
-skips-none x from t at k l m = absurd (omega arith)
-
 -- ---- bytes with which no match begins
 
 pub passed-none : (d x : List ℕ) (i : ℕ) → i ≤ length x → Passed d x i i
@@ -185,3 +182,18 @@ passed-more d x from i P h e =
             subst (λ (j : ℕ). nextIn d (laterState d) (getD x j 0) ≡ acceptedState d) z e
       ];
     }
+
+-- past blocks or not, and then by bytes
+module _ (d x : List ℕ) (bytes : (k : ℕ) → getD x k 0 < 256) (from m : ℕ) (first : Bool) (r : ℕ) where
+  differs : (y : Bool) → (y && not (eqb (firstState d) (laterState d))) ≡ false → y ≡ true
+      → firstState d ≡ laterState d
+  differs true g z = eqb-true _ _ (not-false _ g)
+  differs false g z = absurd (clash (sym z))
+
+  pub candidate-blocks : ((eqb (skipsWord d) 0 ≡ false) × (Skipped (rangesOf d) x from m)) ⊎ (m ≡ from)
+      → (first && not (eqb (firstState d) (laterState d))) ≡ false → Passed d x m r → Candidate d x from first r
+  candidate-blocks (inl w) h P =
+      candidate-passed d x bytes from m first r (differs first h)
+      (λ t at H e. bares-skipped t x at d (H (w .0)) bytes from m (λ k a b. e k a) (w .1)) (w .1 .on) P
+  candidate-blocks (inr w) h P =
+      candidate-passed d x bytes from m first r (differs first h) (λ t at H e k a b. absurd (omega arith)) (omega arith) P

@@ -14,12 +14,14 @@ use Rattle.ere_table.specs.Table.{row, noPlace}
 use Rattle.ere_table.specs.Wiring.{stopIn}
 use Rattle.ere_search.specs.Walk.{step, liveAt, longestTo, longestOf, entryRow, note}
 use Rattle.ere_search.proofs.Finds.{none-longer}
-use Rattle.ere_automaton.specs.Layout.{State, acceptedState, pairsWord, nextIn, pairIn, endWord}
+use Rattle.ere_automaton.specs.Layout.{State, classCount, acceptedState, pairsWord, nextIn, pairIn, endWord}
+use Rattle.ere_automaton.specs.Automaton.{Ranged}
 use Rattle.ere_automaton.specs.Scan.{Ready}
 use Rattle.ere_automaton.specs.Follows.{FollowsOne}
 use Rattle.ere_seek.specs.declared.one.Reached.{Reached}
 use Rattle.ere_seek.specs.Starts.{entryState}
 use Rattle.ere_seek.specs.One.{accepts, better, stepped, endTo, endOf, Means, Ends, Bounds, Paired, Followed}
+use Rattle.ere_seek.specs.One.{Longest}
 use Rattle.ere_seek.proofs.Bareness.{none-empty}
 
 -- ---- the accept bits
@@ -248,3 +250,45 @@ paired-up d x s until l r e B z h =
       goes = λ first m y. absurd (clash (sym (eq-eqb (r .state) (acceptedState d) e) ∙ y));
       ends = λ first m y t at D w. inr (z, h);
     }
+
+-- ---- from the start to the longest match
+
+pub entry-ready : (d : List ℕ) (first : Bool) (q : ℕ) → Ranged d → q ≡ entryState d first → Ready d (classCount d) q
+entry-ready d first q R e =
+    record { ranged = R; state = subst (State d) (sym e) (by first); classes = refl }
+  where
+    by : (y : Bool) → State d (entryState d y)
+    by true = R .first
+    by false = R .later
+
+pub bounds-start : (x : List ℕ) (s : ℕ) (l : Reached) → s ≤ length x → l .at ≡ s → l .best ≡ s → Bounds x s l
+bounds-start x s l h a b =
+    record { on = omega arith; inside = omega arith; from = omega arith; to = omega arith }
+
+-- a start that is followed to l
+abbrev pub Going : List ℕ → List ℕ → ℕ → Bool → Reached → Type 0
+Going d x s first l = (State d (l .state)) × (Bounds x s l) × (Means d x s first l)
+
+module _ (d x : List ℕ) (s : ℕ) (first : Bool) (until : ℕ) where
+  pub going-paired : (l r : Reached) → Means d x s first l → Paired d x s until l r
+      → (r .state ≡ acceptedState d → ⊥) → Going d x s first r
+  going-paired l r M P h =
+      let z = ne-eqb (r .state) (acceptedState d) h in (P .state z, P .bounds, P .goes first M z)
+
+  pub longest-paired : (l r : Reached) → Means d x s first l → Paired d x s until l r → r .state ≡ acceptedState d
+      → Longest d x s first until (r .best)
+  longest-paired l r M P e =
+      let B = P .bounds in
+      record {
+        from = B .from;
+        inside = omega (arith, B .to, B .inside);
+        ends = P .ends first M (eq-eqb (r .state) (acceptedState d) e);
+      }
+
+  pub longest-followed : (l : Reached) (e : ℕ) → Going d x s first l → Followed d x l e → Longest d x s first until e
+  longest-followed l e G F =
+      record {
+        from = omega (arith, G .1 .from, F .from);
+        inside = F .inside;
+        ends = F .ends s first until (G .1 .on) (G .2);
+      }

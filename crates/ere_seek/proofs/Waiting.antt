@@ -24,7 +24,7 @@ use Rattle.ere_automaton.specs.Scan.{runs, rangesOf, Skipped}
 use Rattle.ere_automaton.specs.Follows.{FollowsPending, pendingAfter, places}
 use Rattle.ere_automaton.proofs.Absorbing.{collapsed-stops, collapsed-open}
 use Rattle.ere_automaton.proofs.Joins.{step-join}
-use Rattle.ere_automaton.proofs.Ranging.{skipped-last}
+use Rattle.ere_automaton.proofs.Ranging.{skipped-last, skipped-inside}
 use Rattle.ere_automaton.proofs.States.{runs-state, runs-two}
 use Rattle.ere_seek.specs.Starts.{Bare, Bares, Hulled, entryState}
 use Rattle.ere_seek.specs.Pending.{Ran, Cleared}
@@ -347,3 +347,66 @@ module _ (d x : List ℕ) (i q f : ℕ) where
       (subst (λ (y : ℕ). Ran d x i (suc (j - i)) q f y g') (sym w)
       (ran-byte (j - i) r g R later g' (getD x j 0) e (z ∙ ap (λ (m : ℕ). cond (eqb r later) m g) b)
       (ap (λ (m : ℕ). getD x m 0) b)))
+
+-- ---- a turn
+
+-- q is the state at i, and no start from s to f has a match
+pub record Kept (d x : List ℕ) (s : ℕ) (first : Bool) (q i f : ℕ) : Type 0 where
+  pub state : State d q
+  pub on : s ≤ i
+  pub inside : i ≤ length x
+  pub from : s ≤ f
+  pub to : f ≤ length x
+  pub held : Held d x s first q i f
+
+module _ (d x : List ℕ) (bytes : (k : ℕ) → getD x k 0 < 256) (s : ℕ) (first : Bool) where
+  pub kept-start : (q : ℕ) → Ranged d → s ≤ length x → q ≡ entryState d first → Kept d x s first q s s
+  kept-start q R h e =
+      subst (λ (y : ℕ). Kept d x s first y s s) (sym e)
+      (record {
+        state = by first;
+        on = le-refl s;
+        inside = h;
+        from = le-refl s;
+        to = h;
+        held = held-start d x s first;
+      })
+    where
+      by : (y : Bool) → State d (entryState d y)
+      by true = R .first
+      by false = R .later
+
+  pub kept-skipped : (q i f r j : ℕ) → q ≡ laterState d → eqb (skipsWord d) 0 ≡ false → Skipped (rangesOf d) x i r
+      → j ≡ r → Kept d x s first q i f → Kept d x s first q j f
+  kept-skipped q i f r j e h S z K =
+      subst (λ (y : ℕ). Kept d x s first q y f) (sym z)
+      (record {
+        state = K .state;
+        on = omega (arith, K .on, S .on);
+        inside = skipped-inside (rangesOf d) x i r S (K .inside);
+        from = K .from;
+        to = K .to;
+        held = held-skipped d x s first bytes q i f r e h S (K .held);
+      })
+
+  pub kept-ran : (i n q f r g : ℕ) → Ranged d → i + n ≤ length x → Ran d x i n q f r g → Kept d x s first q i f
+      → Kept d x s first r (i + n) g
+  kept-ran i n q f r g R h A K =
+      record {
+        state = subst (State d) (sym (A .state)) (runs-state d R x bytes i q n (K .state));
+        on = omega (arith, K .on);
+        inside = h;
+        from = ⊎-elim (λ e. omega (arith, K .from)) (λ m. omega (arith, m .2, K .on)) (A .seen);
+        to = ⊎-elim (λ e. omega (arith, K .to)) (λ m. omega (arith, m .1, m .2)) (A .seen);
+        held = held-ran d x s first bytes i n q f r g (K .state) h A (K .held);
+      }
+
+  -- what was seen
+  pub kept-cleared : (q i f : ℕ) → Kept d x s first q i f → Cleared d x s first f
+  kept-cleared q i f K = held-cleared d x s first q i f (K .from) (K .to) (K .held)
+
+  -- at the text's end, no match has ended
+  pub kept-none : (q i f : ℕ) → i ≡ length x → endWord d q ≡ 0 → Kept d x s first q i f
+      → Cleared d x s first (length x + 1)
+  kept-none q i f e w K =
+      held-none d x s first q i f (omega (arith, K .on)) (K .state) e w (K .held)

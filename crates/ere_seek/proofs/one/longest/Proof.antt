@@ -1,3 +1,12 @@
+-- `longest` meets its contract: the start is followed by pairs, if there are some, and then by bytes.
+use mathlib.Core.Path.{_≡_, refl, sym, subst}
+use mathlib.Core.Logic.{⊎-elim}
+use Prim.Native.Nat.{ℕ, _<_}
+use native.Mathlib.Omega.{arith}
+use lib.ListN.{getD}
+use borrow.Author.Tests.{ne-eqb}
+use Rattle.ere_seek.proofs.Following.{entry-ready, bounds-start, means-start, Going, going-paired}
+use Rattle.ere_seek.proofs.Following.{longest-paired, longest-followed}
 use borrow.Author.Needs.{needs}
 use Rattle.ere_seek.proofs.one.longest.Statement.{statement}
 use Rattle.ere_seek.proofs.one.longest.Tie as tie
@@ -7,45 +16,83 @@ use Rattle.ere_seek.proofs.one.by_one.Reads as by-one-reads
 use Rattle.ere_seek.proofs.one.by_two.Reads as by-two-reads
 use Rattle.ere_seek.proofs.states.entered.Reads as entered-reads
 
--- src/one.rt:102:13
 shared-slice-read-k : tie.Need-shared-slice-read-k
 shared-slice-read-k c = search needs
 
--- src/one.rt:102:13
 cast-k : tie.Need-cast-k
-cast-k c = ?
+cast-k c = omega (arith, c .shared-slice-known3 .given 0)
 
--- src/one.rt:103:16
 shared-slice-read-dead : tie.Need-shared-slice-read-dead
 shared-slice-read-dead c = search needs
 
--- src/one.rt:103:16
 cast-dead : tie.Need-cast-dead
-cast-dead c = ?
+cast-dead c = omega (arith, c .shared-slice-known4 .given 3)
 
--- src/one.rt:105:16
 entered-requires : tie.Need-entered-requires
 entered-requires c κs = search needs
 
--- src/one.rt:109:8
 shared-slice-read-if1 : tie.Need-shared-slice-read-if1
 shared-slice-read-if1 c = search needs
 
--- src/one.rt:110:9
 by-two-requires : tie.Need-by-two-requires
-by-two-requires c κs = ?
+by-two-requires c κs =
+    let a = (c .before .before .before .before .before .before .before .args) in
+    let p = (c .before .before .before .before .before .before .before .pre) in (
+      entry-ready (a .d .now) (a .first) _ (p .0) (c .before .before .entered .ensures),
+      ne-eqb _ _ (c .if1 .taken),
+      bounds-start (a .x .now) (a .s) _ (p .1) refl refl,
+      p .2,
+    )
 
--- src/one.rt:112:13
 returns : tie.Need-returns
-returns c = ?
+returns c =
+    let a = (c .before .before .before .before .before .before .before .before .before .before .args) in
+    let bytes : (n : ℕ) → getD (a .x .now) n 0 < 256 = λ n. c .before .before .before .before .before .before .before .before .shared-slice-known2 .given n .fits in
+    longest-paired (a .d .now) (a .x .now) (a .s) (a .first) (a .until) _ (c .before .before .by-two .result)
+    (means-start (a .d .now) (a .x .now) bytes (a .s) (a .first) _ (c .before .before .before .before .before .entered .ensures) refl refl) (c .before .before .by-two .ensures)
+    (c .if2 .taken)
 
--- src/one.rt:115:5
+-- where the rest is followed by bytes
+abbrev AtRest : Type 0
+AtRest =
+    lts.Joined1 (
+      entered-reads.Asked,
+      entered-reads.Learnt,
+      by-two-reads.Asked,
+      by-two-reads.Learnt,
+      by-one-reads.Asked,
+      by-one-reads.Learnt,
+    ) reads.Pre reads.Post
+
+going : (c : AtRest) → let a = (c .before .before .before .before .before .before .before .args) in Going (a .d .now) (a .x .now) (a .s) (a .first) (c .if1 .l)
+going c =
+    let a = (c .before .before .before .before .before .before .before .args) in
+    let p = (c .before .before .before .before .before .before .before .pre) in
+    let d = a .d .now in
+    let x = a .x .now in
+    let bytes : (n : ℕ) → getD x n 0 < 256 = λ n. c .before .before .before .before .before .shared-slice-known2 .given n .fits in
+    let M = means-start d x bytes (a .s) (a .first) _ (c .before .before .entered .ensures) refl refl in
+    ⊎-elim
+    (λ w.
+    subst (Going d x (a .s) (a .first)) (sym (w .4))
+    (going-paired d x (a .s) (a .first) (a .until) _ (w .1 .result) M (w .1 .ensures) (w .3 .left)))
+    (λ w.
+    subst (Going d x (a .s) (a .first)) (sym (w .1)) (
+      entry-ready d (a .first) _ (p .0) (c .before .before .entered .ensures) .state,
+      bounds-start x (a .s) _ (p .1) refl refl,
+      M,
+    ))
+    (c .if1 .came)
+
 by-one-requires : tie.Need-by-one-requires
-by-one-requires c κs = ?
+by-one-requires c κs =
+    let g = going c in
+    (record { ranged = c .before .before .before .before .before .before .before .pre .0; state = g .0; classes = refl }, g .1 .to, g .1 .inside)
 
--- src/one.rt:98:1
 returns-2 : tie.Need-returns-2
-returns-2 c = ?
+returns-2 c =
+    let a = (c .before .before .before .before .before .before .before .before .args) in
+    longest-followed (a .d .now) (a .x .now) (a .s) (a .first) (a .until) _ _ (going (c .before)) (c .by-one .ensures)
 
 pub longest-spec : {M : Type 1} → statement M
 longest-spec =
