@@ -2,3 +2,4 @@
 pub mod Bareness
 pub mod Following
 pub mod Waiting
+pub mod Leftmost
