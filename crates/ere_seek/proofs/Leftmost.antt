@@ -1,14 +1,15 @@
 -- The leftmost match: the first start that has one, and an empty one where none of at least a byte is before it.
 use mathlib.Core.Path.{_≡_, refl, sym, ap, ap₂, subst, _∙_}
 use mathlib.Core.Bool.{Bool, true, false, cond}
-use mathlib.Core.Logic.{_⊎_, ⊎-elim}
+use mathlib.Core.Logic.{_⊎_, inl, inr, ⊎-elim}
 use mathlib.Core.List.{List}
 use Prim.Native.Nat.{ℕ, zero, suc, _+_, _-_, _%_, _≤_, _<_}
 use native.Mathlib.Nat.{add-zero, le-refl}
 use native.Mathlib.Decide.{decLt}
 use native.Mathlib.Omega.{arith}
-use lib.ListN.{length, getD}
+use lib.ListN.{length, getD, take}
 use lib.Dec.{eqb, leb}
+use lib.Seq.{getD-take, length-take-le}
 use borrow.Author.Tests.{eq-eqb, ne-eqb, eqb-true, eqb-false, le-leb}
 use Rattle.lists.proofs.Tests.{clash}
 use Rattle.ere_table.specs.Table.{row}
@@ -19,7 +20,7 @@ use Rattle.ere_search.specs.declared.search.Found.{Found}
 use Rattle.ere_search.specs.declared.search.Found.the-variants.{At, Nowhere}
 use Rattle.ere_search.proofs.Meets.{Told, told}
 use Rattle.ere_search.proofs.Answers.{Seen, finds}
-use Rattle.ere_automaton.specs.Follows.{FollowsOne}
+use Rattle.ere_automaton.specs.Follows.{FollowsOne, oneLength, oneIn, pendingIn, Seeks}
 use Rattle.ere_seek.specs.Starts.{Bare, Bares, Hulled, Candidate}
 use Rattle.ere_seek.specs.One.{accepts, endOf, Longest}
 use Rattle.ere_seek.specs.Pending.{Cleared}
@@ -268,3 +269,94 @@ module _ (t d p x : List ℕ) (at : ℕ) (B : Both t d p) where
 pub seen-one : (t x : List ℕ) (at : ℕ) (r : Found) → Sought t x at r → Seen t x at 1 r
 seen-one t x at (At a n) S = (S .0, S .1, S .2, S .3, λ k l z. S .4 k (omega arith) l)
 seen-one t x at Nowhere S = λ k l z. S k (omega arith) l
+
+-- ---- of at least `least` bytes
+
+-- fewer than one byte are asked for, and no empty match is where the search starts; or one is
+abbrev pub Missing : List ℕ → List ℕ → ℕ → ℕ → Type 0
+Missing d x at least = ((least ≡ 0) × (emptyAt d (eqb at 0) (eqb (length x) 0) ≡ false)) ⊎ (least ≡ 1)
+
+inside-least : (at least len a n : ℕ) → least ≤ 1 → Inside at 1 len (At a n) → Inside at least len (At a n)
+inside-least at least len a n h i = (i .0, i .1, omega (arith, i .2))
+
+module _ (d p x : List ℕ) (at least : ℕ) where
+  pub finds-first : (e : ℕ) → least ≡ 0 → emptyAt d (eqb at 0) (eqb (length x) 0) ≡ true
+      → Longest d x 0 (eqb at 0) (length x) e → FindsBoth d p x at least (At at e)
+  finds-first e z h L =
+      record {
+        inside = (le-refl at, omega (arith, L .inside), omega arith);
+        finds = λ t B.
+            let f : eqb at 0 ≡ eqb (at + 0) 0 = ap (λ (j : ℕ). eqb j 0) (sym (add-zero at)) in
+            let end = longest-end t d x at 0 (eqb at 0) (B .one) f (length x) e L (le-refl (length x)) in
+            subst (λ (l : ℕ). Finds t x at l (At at e)) (sym z) (finds t x at 0 (At at e) (seen-first t d p x at B e h end));
+      }
+
+  pub finds-some : (f : Found) (a n : ℕ) → f ≡ At a n → Missing d x at least → SoughtBoth d p x at f
+      → FindsBoth d p x at least (At a n)
+  finds-some f a n e M S = by (subst (SoughtBoth d p x at) e S) M
+    where
+      by : SoughtBoth d p x at (At a n) → Missing d x at least → FindsBoth d p x at least (At a n)
+      by S (inl m) =
+          record {
+            inside = inside-least at least (length x) a n (omega (arith, m .0)) (S .inside);
+            finds = λ t B.
+                subst (λ (l : ℕ). Finds t x at l (At a n)) (sym (m .0))
+                (finds t x at 0 (At a n) (seen-some t d p x at B (m .1) a n (S .sought t B)));
+          }
+      by S (inr m) =
+          record {
+            inside = inside-least at least (length x) a n (omega arith) (S .inside);
+            finds = λ t B.
+                subst (λ (l : ℕ). Finds t x at l (At a n)) (sym m)
+                (finds t x at 1 (At a n) (seen-one t x at (At a n) (S .sought t B)));
+          }
+
+  -- the empty match at the text's end
+  pub finds-last : (f : Found) → f ≡ Nowhere → least ≡ 0 → Missing d x at least
+      → emptyAt d (eqb (at + length x) 0) true ≡ true → SoughtBoth d p x at f
+      → FindsBoth d p x at least (At (at + length x) 0)
+  finds-last f e z (inl m) h S =
+      record {
+        inside = (omega arith, omega arith, omega arith);
+        finds = λ t B.
+            subst (λ (l : ℕ). Finds t x at l (At (at + length x) 0)) (sym z)
+            (finds t x at 0 (At (at + length x) 0)
+            (seen-last t d p x at B (m .1) (subst (Sought t x at) e (S .sought t B)) h));
+      }
+  finds-last f e z (inr m) h S = absurd (omega arith)
+
+  -- none
+  pub finds-none : (f : Found) → f ≡ Nowhere → Missing d x at least
+      → (least ≡ 0 → emptyAt d (eqb (at + length x) 0) true ≡ false) → SoughtBoth d p x at f
+      → FindsBoth d p x at least Nowhere
+  finds-none f e (inl m) h S =
+      record {
+        inside = tt;
+        finds = λ t B.
+            subst (λ (l : ℕ). Finds t x at l Nowhere) (sym (m .0))
+            (finds t x at 0 Nowhere (seen-none t d p x at B (m .1) (subst (Sought t x at) e (S .sought t B)) (h (m .0))));
+      }
+  finds-none f e (inr m) h S =
+      record {
+        inside = tt;
+        finds = λ t B.
+            subst (λ (l : ℕ). Finds t x at l Nowhere) (sym m)
+            (finds t x at 1 Nowhere (seen-one t x at Nowhere (subst (Sought t x at) e (S .sought t B))));
+      }
+
+-- ---- both, of one list of words
+
+pub both-of : (t d : List ℕ) → Seeks t d → Both t (oneIn d) (pendingIn d)
+both-of t d S =
+    let n = oneLength d in
+    let h = S .one .ranged .head in
+    let l : length (take n d) ≡ n = length-take-le n d (S .inside) in
+    record {
+      one = S .one;
+      pending = S .pending;
+      one-hull = S .one-hull;
+      pending-hull = S .pending-hull;
+      sooner = S .sooner;
+      empty-first = getD-take n d 11 0 (omega arith) ∙ S .empty-first;
+      empty-later = getD-take n d 12 0 (omega arith) ∙ S .empty-later;
+    }

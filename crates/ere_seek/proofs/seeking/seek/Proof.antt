@@ -1,3 +1,15 @@
+-- `seek` meets its contract: the words of both automata, one after the other.
+use mathlib.Core.Path.{_≡_, sym, subst}
+use mathlib.Core.List.{List}
+use Prim.Native.Nat.{ℕ, _-_, _≤_}
+use native.Mathlib.Nat.{le-refl}
+use native.Mathlib.Omega.{arith}
+use lib.ListN.{length, take, length-drop, length-take}
+use lib.Seq.{length-take-le, take-all}
+use Rattle.ere_automaton.specs.Automaton.{Ranged}
+use Rattle.ere_automaton.specs.Follows.{oneLength, oneIn, pendingIn}
+use Rattle.ere_seek.specs.Seeking.{FindsBoth}
+use Rattle.ere_seek.proofs.Leftmost.{both-of}
 use borrow.Author.Needs.{needs}
 use Rattle.ere_seek.proofs.seeking.seek.Statement.{statement}
 use Rattle.ere_seek.proofs.seeking.seek.Tie as tie
@@ -5,41 +17,43 @@ use Rattle.ere_seek.proofs.seeking.seek.Reads as reads
 use Rattle.ere_seek.proofs.seeking.seek.Lts as lts
 use Rattle.ere_seek.proofs.seeking.seek_both.Reads as seek-both-reads
 
--- src/seeking.rt:95:13
 shared-slice-read-n : tie.Need-shared-slice-read-n
-shared-slice-read-n c = ?
+shared-slice-read-n c = omega (arith, simp length-take at (c .before .before .before .pre .0 .one .head))
 
--- src/seeking.rt:95:13
 cast-n : tie.Need-cast-n
 cast-n c = search needs
 
--- src/seeking.rt:96:15
 slice-aggregate-seek-both : tie.Need-slice-aggregate-seek-both
-slice-aggregate-seek-both c = ?
+slice-aggregate-seek-both c = sym (length-take-le (oneLength (c .before .before .before .before .args .d .now)) (c .before .before .before .before .args .d .now) (c .before .before .before .before .pre .0 .inside))
 
--- src/seeking.rt:96:24
 mul-seek-both : tie.Need-mul-seek-both
 mul-seek-both c = search needs
 
--- src/seeking.rt:96:24
 sub-seek-both : tie.Need-sub-seek-both
 sub-seek-both c = search needs
 
--- src/seeking.rt:96:24
 part-seek-both-start : tie.Need-part-seek-both-start
 part-seek-both-start c = search needs
 
--- src/seeking.rt:96:24
 part-seek-both-end : tie.Need-part-seek-both-end
 part-seek-both-end c = search needs
 
--- src/seeking.rt:96:5
-seek-both-requires : tie.Need-seek-both-requires
-seek-both-requires c κs = ?
+-- what the second part of the words is
+rest-is : (d : List ℕ) → take (length d - oneLength d) (pendingIn d) ≡ pendingIn d
+rest-is d = take-all (length d - oneLength d) (pendingIn d) (simp length-drop (le-refl (length d - oneLength d)))
 
--- src/seeking.rt:91:1
+seek-both-requires : tie.Need-seek-both-requires
+seek-both-requires c κs =
+    let p = (c .before .before .before .before .before .pre) in
+    (p .0 .one, subst Ranged (sym (rest-is (c .before .before .before .before .before .args .d .now))) (p .0 .pending), p .1, p .2)
+
 returns : tie.Need-returns
-returns c = ?
+returns c =
+    let a = (c .before .before .before .before .before .before .args) in
+    let d = a .d .now in
+    let x = a .rest .now in
+    let F = subst (λ (l : List ℕ). FindsBoth (oneIn d) l x (a .at) (a .least) (c .seek-both .result)) (rest-is d) (c .seek-both .ensures) in
+    (F .inside, λ t S. F .finds t (both-of t d S))
 
 pub seek-spec : {M : Type 1} → statement M
 seek-spec =

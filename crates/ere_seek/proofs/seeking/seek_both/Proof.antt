@@ -1,3 +1,8 @@
+-- `seek_both` meets its contract: an empty match where the search starts, one of at least a byte, or an empty one at the end.
+use mathlib.Core.Path.{_≡_, sym, _∙_}
+use mathlib.Core.Logic.{inl, inr, ⊎-elim}
+use native.Mathlib.Omega.{arith}
+use Rattle.ere_seek.proofs.Leftmost.{Missing, finds-first, finds-some, finds-last, finds-none}
 use borrow.Author.Needs.{needs}
 use Rattle.ere_seek.proofs.seeking.seek_both.Statement.{statement}
 use Rattle.ere_seek.proofs.seeking.seek_both.Tie as tie
@@ -7,53 +12,72 @@ use Rattle.ere_seek.proofs.one.longest.Reads as longest-reads
 use Rattle.ere_seek.proofs.seeking.empty_at.Reads as empty-at-reads
 use Rattle.ere_seek.proofs.seeking.seek_some.Reads as seek-some-reads
 
--- src/seeking.rt:74:22
 empty-at-requires : tie.Need-empty-at-requires
 empty-at-requires c κs = search needs
 
--- src/seeking.rt:75:13
 longest-requires : tie.Need-longest-requires
 longest-requires c κs = search needs
 
--- src/seeking.rt:76:9
 returns : tie.Need-returns
-returns c = ?
+returns c =
+    let a = (c .before .before .before .before .before .before .before .args) in
+    finds-first (a .d .now) (a .p .now) (a .x .now) (a .at) (a .least) (c .longest .result) (c .before .before .before .if1 .taken)
+    (sym (c .before .before .empty-at .ensures) ∙ c .before .if2 .taken) (c .longest .ensures)
 
--- src/seeking.rt:78:9
+-- where no empty match is at the start of the search
+abbrev Missed : Type 0
+Missed =
+    lts.Joined1 (
+      empty-at-reads.Asked,
+      empty-at-reads.Learnt,
+      longest-reads.Asked,
+      longest-reads.Learnt,
+      seek-some-reads.Asked,
+      seek-some-reads.Learnt,
+    ) reads.Pre reads.Post
+
+missing : (c : Missed) → let a = (c .before .before .before .before .args) in Missing (a .d .now) (a .x .now) (a .at) (a .least)
+missing c =
+    ⊎-elim (λ w. inl (w .0 .taken, sym (w .1 .ensures) ∙ w .2 .left))
+    (λ w. inr (omega (arith, w .left, c .before .before .before .before .pre .3)))
+    (c .if1 .came)
+
 seek-some-requires : tie.Need-seek-some-requires
 seek-some-requires c κs = search needs
 
--- src/seeking.rt:80:19
 enum-known-f : tie.Need-enum-known-f
 enum-known-f c = search needs
 
--- src/seeking.rt:82:13
 enum-told : tie.Need-enum-told
 enum-told c = search needs
 
--- src/seeking.rt:82:42
 add-empty-at : tie.Need-add-empty-at
 add-empty-at c = search needs
 
--- src/seeking.rt:82:30
 empty-at-requires-2 : tie.Need-empty-at-requires-2
 empty-at-requires-2 c κs = search needs
 
--- src/seeking.rt:83:34
 add-t24 : tie.Need-add-t24
 add-t24 c = search needs
 
--- src/seeking.rt:83:17
 returns-2 : tie.Need-returns-2
-returns-2 c = ?
+returns-2 c =
+    let a = (c .before .before .before .before .before .before .before .before .before .before .args) in
+    finds-last (a .d .now) (a .p .now) (a .x .now) (a .at) (a .least) (c .before .before .before .before .before .seek-some .result) (c .before .before .before .enum-told .given .1)
+    (c .before .before .if3 .taken) (missing (c .before .before .before .before .before .before)) (sym (c .before .empty-at2 .ensures) ∙ c .if4 .taken) (c .before .before .before .before .before .seek-some .ensures)
 
--- src/seeking.rt:70:1
 returns-3 : tie.Need-returns-3
-returns-3 c = ?
+returns-3 c =
+    let a = (c .before .before .before .before .before .before .before .before .args) in
+    finds-some (a .d .now) (a .p .now) (a .x .now) (a .at) (a .least) (c .before .before .before .seek-some .result) _ _ (c .before .f .given .1)
+    (missing (c .before .before .before .before)) (c .before .before .before .seek-some .ensures)
 
--- src/seeking.rt:70:1
 returns-4 : tie.Need-returns-4
-returns-4 c = ?
+returns-4 c =
+    let a = (c .before .before .before .before .before .before .before .before .args) in
+    finds-none (a .d .now) (a .p .now) (a .x .now) (a .at) (a .least) (c .before .before .before .seek-some .result) (c .before .enum-told .given .1)
+    (missing (c .before .before .before .before))
+    (λ z. ⊎-elim (λ w. sym (w .1 .ensures) ∙ w .2 .left) (λ w. absurd (w .left z)) (c .if3 .came)) (c .before .before .before .seek-some .ensures)
 
 pub seek-both-spec : {M : Type 1} → statement M
 seek-both-spec =

@@ -1,3 +1,6 @@
+-- `seek_some` meets its contract: from the first candidate, or from where nothing is pending.
+use native.Mathlib.Omega.{arith}
+use Rattle.ere_seek.proofs.Leftmost.{both-none, both-some, both-from}
 use borrow.Author.Needs.{needs}
 use Rattle.ere_seek.proofs.seeking.seek_some.Statement.{statement}
 use Rattle.ere_seek.proofs.seeking.seek_some.Tie as tie
@@ -8,53 +11,49 @@ use Rattle.ere_seek.proofs.pending.first_start.Reads as first-start-rea
 use Rattle.ere_seek.proofs.seeking.seek_from.Reads as seek-from-reads
 use Rattle.ere_seek.proofs.starts.candidate.Reads as candidate-reads
 
--- src/seeking.rt:57:9
 candidate-requires : tie.Need-candidate-requires
 candidate-requires c κs = search needs
 
--- src/seeking.rt:59:9
 returns : tie.Need-returns
-returns c = ?
+returns c =
+    let a = (c .before .before .before .before .before .args) in
+    both-none (a .d .now) (a .p .now) (a .x .now) (a .at) (c .before .candidate .result) (c .before .candidate .ensures) (c .if1 .taken)
 
--- src/seeking.rt:61:35
 add-longest : tie.Need-add-longest
 add-longest c = search needs
 
--- src/seeking.rt:61:48
 add-longest-2 : tie.Need-add-longest-2
 add-longest-2 c = search needs
 
--- src/seeking.rt:61:9
 longest-requires : tie.Need-longest-requires
 longest-requires c κs = search needs
 
--- src/seeking.rt:63:26
 add-t11 : tie.Need-add-t11
 add-t11 c = search needs
 
--- src/seeking.rt:63:34
 sub-t12 : tie.Need-sub-t12
 sub-t12 c = search needs
 
--- src/seeking.rt:63:9
 returns-2 : tie.Need-returns-2
-returns-2 c = ?
+returns-2 c =
+    let a = (c .before .before .before .before .before .before .before .args) in
+    both-some (a .d .now) (a .p .now) (a .x .now) (a .at) (c .before .before .before .candidate .result) (c .before .before .before .candidate .ensures) _ (c .before .longest .result)
+    (c .before .before .before .candidate .ensures .inside) (c .if2 .taken) (c .before .longest .ensures)
 
--- src/seeking.rt:65:43
 add-first-start : tie.Need-add-first-start
 add-first-start c = search needs
 
--- src/seeking.rt:65:9
 first-start-requires : tie.Need-first-start-requires
 first-start-requires c κs = search needs
 
--- src/seeking.rt:66:5
 seek-from-requires : tie.Need-seek-from-requires
 seek-from-requires c κs = search needs
 
--- src/seeking.rt:53:1
 returns-3 : tie.Need-returns-3
-returns-3 c = ?
+returns-3 c =
+    let a = (c .before .before .before .before .before .before .before .before .before .args) in
+    both-from (a .d .now) (a .p .now) (a .x .now) (a .at) (c .before .before .before .before .before .candidate .result) (c .before .before .before .before .before .candidate .ensures)
+    (c .before .first-start .result) (c .seek-from .result) (c .before .first-start .ensures) (c .seek-from .ensures)
 
 pub seek-some-spec : {M : Type 1} → statement M
 seek-some-spec =
