@@ -84,9 +84,9 @@ none-from d x at from s h B =
 -- past a start that has none
 pub bares-one : (t x : List ℕ) (at s : ℕ) → Bares t x at 0 s → Bare t x at s → Bares t x at 0 (s + 1)
 bares-one t x at s B b k l m = elim (decLt k s) [
-    | yes y ↦ B k l y
-    | no y ↦ let z : s ≡ k = omega arith in subst (Bare t x at) z b
-  ]
+  | yes y ↦ B k l y
+  | no y ↦ let z : s ≡ k = omega arith in subst (Bare t x at) z b
+]
 
 -- to the next candidate
 pub bares-to : (t d x : List ℕ) (at i s : ℕ) → FollowsOne t d → Hulled t d → Bares t x at 0 i
@@ -257,12 +257,12 @@ module _ (t d p x : List ℕ) (at : ℕ) (B : Both t d p) where
 
       pub seen-none : emptyAt d (eqb (at + length x) 0) true ≡ false → Seen t x at 0 Nowhere
       seen-none e k l z = elim (decLt k (length x)) [
-          | yes y ↦ none-all (length x) (le-refl (length x)) (λ j a b. S j a (omega arith)) k y
-          | no y ↦
-              let w : length x ≡ k = omega arith in
-              subst (λ (j : ℕ). longestOf t x at 0 j ≡ 0) w
-              (empty-only t x at (length x) false last-bare (last-is ∙ e))
-        ]
+        | yes y ↦ none-all (length x) (le-refl (length x)) (λ j a b. S j a (omega arith)) k y
+        | no y ↦
+            let w : length x ≡ k = omega arith in
+            subst (λ (j : ℕ). longestOf t x at 0 j ≡ 0) w
+            (empty-only t x at (length x) false last-bare (last-is ∙ e))
+      ]
 
 -- ---- of at least a byte
 

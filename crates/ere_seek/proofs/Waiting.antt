@@ -186,16 +186,16 @@ module _ (t x : List ℕ) (at s : ℕ) where
 
     pub pends-skipped : Pends i Q → Pends r Q
     pends-skipped P = elim (decLt i r) [
-        | yes h ↦
-            let m = S .short h in
-            let all = bares-both t x at s i r (bares-none i Q (omega arith) e P) (bares-over P h) in
-            inr (
-              ap (λ (u : List ℕ). stopIn u false) e ∙ mem-none 128,
-              (λ k n l z. inl (all k l (omega arith))),
-              λ z. absurd (omega arith),
-            )
-        | no h ↦ let z : i ≡ r = omega (arith, S .on) in subst (λ (j : ℕ). Pends j Q) z P
-      ]
+      | yes h ↦
+          let m = S .short h in
+          let all = bares-both t x at s i r (bares-none i Q (omega arith) e P) (bares-over P h) in
+          inr (
+            ap (λ (u : List ℕ). stopIn u false) e ∙ mem-none 128,
+            (λ k n l z. inl (all k l (omega arith))),
+            λ z. absurd (omega arith),
+          )
+      | no h ↦ let z : i ≡ r = omega (arith, S .on) in subst (λ (j : ℕ). Pends j Q) z P
+    ]
 
   -- ---- the text's end
 
@@ -213,11 +213,11 @@ module _ (t x : List ℕ) (at s : ℕ) where
       → Bares t x at s (length x + 1)
   bares-end Q f g (inl w) k l m = absurd (clash (sym w ∙ f))
   bares-end Q f g (inr w) k l m = elim (decLt k (length x)) [
-      | yes h ↦
-          let z : k + suc (length x - suc k) ≡ length x = omega arith in
-          end-open k (length x - suc k) Q g z (w .1 k (length x - suc k) l z)
-      | no h ↦ bare-end t x at k (omega arith)
-    ]
+    | yes h ↦
+        let z : k + suc (length x - suc k) ≡ length x = omega arith in
+        end-open k (length x - suc k) Q g z (w .1 k (length x - suc k) l z)
+    | no h ↦ bare-end t x at k (omega arith)
+  ]
 
 -- ---- by the automaton
 
@@ -269,14 +269,14 @@ module _ (d x : List ℕ) (s : ℕ) (first : Bool) where
     pub held-ran : (i n q f r g : ℕ) → State d q → i + n ≤ length x → Ran d x i n q f r g
         → Held d x s first q i f → Held d x s first r (i + n) g
     held-ran i n q f r g S h R P t at D H z = (
-        subst (λ (y : ℕ). Pends t x at s (i + n) (D .sets y)) (sym (R .state)) (pends-runs t at D i q n S h (w .0)),
-        ⊎-elim (λ e. subst (Bares t x at s) (sym e) (w .1))
-            (λ m. subst (Bares t x at s) (sym (m .2))
-            (bares-none t x at s (i + m .0) (D .sets (runs d x i q (m .0))) (omega (arith, m .1))
-            (ap (D .sets) (m .3) ∙ D .elsewhere)
-            (pends-runs t at D i q (m .0) S (omega (arith, m .1)) (w .0))))
-            (R .seen),
-      )
+      subst (λ (y : ℕ). Pends t x at s (i + n) (D .sets y)) (sym (R .state)) (pends-runs t at D i q n S h (w .0)),
+      ⊎-elim (λ e. subst (Bares t x at s) (sym e) (w .1))
+          (λ m. subst (Bares t x at s) (sym (m .2))
+          (bares-none t x at s (i + m .0) (D .sets (runs d x i q (m .0))) (omega (arith, m .1))
+          (ap (D .sets) (m .3) ∙ D .elsewhere)
+          (pends-runs t at D i q (m .0) S (omega (arith, m .1)) (w .0))))
+          (R .seen),
+    )
       where
         w : (Pends t x at s i (D .sets q)) × (Bares t x at s f)
         w = P t at D H z

@@ -55,7 +55,15 @@ fn bytes_seen(d: &[u16], x: &[u8], start: usize, end: usize, from: Fresh, later:
 }
 
 // Goes on by 16 bytes.
-fn block_seen(d: &[u16], k: usize, pairs: bool, x: &[u8], i: usize, from: Fresh, later: usize) -> Fresh
+fn block_seen(
+    d: &[u16],
+    k: usize,
+    pairs: bool,
+    x: &[u8],
+    i: usize,
+    from: Fresh,
+    later: usize,
+) -> Fresh
     requires { ⌜ (Ready (now d) k (from .state)) × («pairs» ≡ not (eqb (pairsWord (now d)) 0)) × (i + 16 ≤ length (now x)) × (later ≡ laterState (now d)) ⌝ }
     ensures { λ r. ⌜ Ran (now (d .entry)) (now (x .entry)) i 16 (from .state) (from .seen) (r .state) (r .seen) ⌝ }
 {
