@@ -17,9 +17,20 @@ prints b = eqb b TAB || (leb 32 b && leb b 126)
 unfoldable pub shownByte : ℕ → List ℕ
 shownByte b = cond (prints b) (b ∷ []) (92 ∷ (48 + b / 64) ∷ (48 + b / 8 % 8) ∷ (48 + b % 8) ∷ [])
 
-unfoldable pub shown : List ℕ → List ℕ
-shown [] = []
-shown (b ∷ l) = shownByte b ++ shown l
+-- what stands under a byte before the caret: a tab under a tab, spaces under all else
+unfoldable pub blankByte : ℕ → List ℕ
+blankByte b = cond (eqb b TAB) (b ∷ []) (cond (prints b) (32 ∷ []) (32 ∷ 32 ∷ 32 ∷ 32 ∷ []))
+
+-- the bytes of a list, each spelled in its way
+unfoldable pub spelled : (ℕ → List ℕ) → List ℕ → List ℕ
+spelled spell [] = []
+spelled spell (b ∷ l) = spell b ++ spelled spell l
+
+abbrev pub shown : List ℕ → List ℕ
+shown = spelled shownByte
+
+abbrev pub blanks : List ℕ → List ℕ
+blanks = spelled blankByte
 
 -- how many columns a byte takes, and a line; a tab counts as one
 unfoldable pub widthOf : ℕ → ℕ

@@ -1,0 +1,2 @@
+-- Laws on words.
+pub mod Walking

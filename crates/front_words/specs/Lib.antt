@@ -1,0 +1,3 @@
+-- What the contracts on words cite.
+pub mod Words
+pub mod Walk
