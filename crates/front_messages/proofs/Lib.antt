@@ -1,0 +1,4 @@
+-- Laws on messages.
+pub mod Columns
+pub mod Meanings
+pub mod Putting

@@ -1,0 +1,56 @@
+-- `put_shown`: what is written, and what is left as it is spelled, are the list as it is spelled.
+use borrow.Author.Needs.{needs}
+use native.Mathlib.Omega.{arith}
+use mathlib.Core.Path.{_≡_, refl}
+use Prim.Native.Nat.{_+_, _*_, _-_, _≤_}
+use lib.ListN.{length, getD}
+use Rattle.front_places.specs.Shown.{shownByte}
+use Rattle.front_messages.proofs.Putting.{Spelling, spell-start, spell-next, spell-end}
+use Rattle.front_messages.proofs.Columns.{shown-few}
+use Rattle.front_messages.proofs.lines.put_shown.Statement.{statement}
+use Rattle.front_messages.proofs.lines.put_shown.Tie as tie
+
+abbrev Inv-loop : tie.InvT-loop
+Inv-loop room₀ k s n₀ i₀ room n i = (i ≤ length s) × (length room ≡ length room₀) × (n ≤ k + 4 * i) × Spelling shownByte room₀ k s room n i
+
+abbrev μ-loop : tie.MeasureT-loop
+μ-loop room₀ k s n₀ i₀ room n i = length s - i
+
+loop-holds : tie.Need-loop-holds Inv-loop μ-loop
+loop-holds c = (omega arith, refl, omega arith, spell-start _ _ _ _)
+
+shared-slice-read-put-shown-byte : tie.Need-shared-slice-read-put-shown-byte Inv-loop μ-loop
+shared-slice-read-put-shown-byte c = omega arith
+
+put-shown-byte-requires : tie.Need-put-shown-byte-requires Inv-loop μ-loop
+put-shown-byte-requires c κs = omega arith
+
+add-i : tie.Need-add-i Inv-loop μ-loop
+add-i c = omega arith
+
+loop-less : tie.Need-loop-less Inv-loop μ-loop
+loop-less c = omega arith
+
+loop-again : tie.Need-loop-again Inv-loop μ-loop
+loop-again c = (omega arith, search needs, omega (arith, c .before .before .put-shown-byte .ensures .count, shown-few (getD (c .before .before .before .before .before .before .before .before .before .args .s .now) (c .before .before .before .before .before .before .loop .i) 0)), spell-next _ _ _ _ _ _ _ _ _ (c .before .before .before .before .before .loop-test .taken) (c .before .before .before .before .before .before .loop .inv .3) (c .before .before .put-shown-byte .ensures))
+
+same-length : tie.Need-same-length Inv-loop μ-loop
+same-length c = search needs
+
+returns : tie.Need-returns Inv-loop μ-loop
+returns c = (spell-end _ _ _ _ _ _ _ (c .loop-test .left) (c .before .loop .inv .3), omega arith)
+
+pub put-shown-spec : {M : Type 1} → statement M
+put-shown-spec =
+    tie.close
+    (tie.spec
+    Inv-loop
+    μ-loop
+    loop-holds
+    shared-slice-read-put-shown-byte
+    put-shown-byte-requires
+    add-i
+    loop-less
+    loop-again
+    same-length
+    returns)

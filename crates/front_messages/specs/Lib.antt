@@ -1,0 +1,3 @@
+-- What the contracts on messages cite.
+pub mod Puts
+pub mod Messages
