@@ -1,0 +1,2 @@
+-- Laws on options.
+pub mod Walking
