@@ -1,0 +1,3 @@
+-- What the contracts on files cite.
+pub mod Filling
+pub mod Joining
