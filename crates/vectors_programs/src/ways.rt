@@ -52,7 +52,13 @@ fn goes(p: &[u8], written: &[u8], text: &[u8], lines: &[u8]) -> bool {
     if IMAGE < t.place {
         return false;
     }
-    runs(p, written, &image[0..t.place], lines, vectors_frames::short(p, 25))
+    runs(
+        p,
+        written,
+        &image[0..t.place],
+        lines,
+        vectors_frames::short(p, 25),
+    )
 }
 
 pub fn passes(p: &[u8]) -> bool {
