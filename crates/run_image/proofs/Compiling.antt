@@ -79,7 +79,7 @@ module _ {edition n k : ℕ} {image index old new : List ℕ} (c : Compiled edit
       (subst (λ (m : ℕ). part from m (put old from (c .table)) ≡ c .table) (c .size)
       (part-put-same old from (c .table) fits))
 
-  compiled-same : (xs : List (List ℕ)) (e : Ere Class) → Readable edition image index xs → IsEre edition xs n e
+  pub compiled-same : (xs : List (List ℕ)) (e : Ere Class) → Readable edition image index xs → IsEre edition xs n e
       → Serves (tableAt new k) e
   compiled-same xs e y i = rw compiled-table (c .serves xs e y i)
 

@@ -1,3 +1,4 @@
--- Laws of constants as words and EREs as tables.
+-- Laws of constants as words, and of EREs as tables and automata.
 pub mod Decoding
 pub mod Compiling
+pub mod Filling

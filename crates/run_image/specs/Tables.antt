@@ -19,7 +19,7 @@ use Rattle.image_index.specs.declared.indexes.Kind.the-variants.{Eres}
 
 -- how many EREs have a table each
 abbrev pub keptCount : ℕ
-keptCount = 3
+keptCount = 1
 
 abbrev pub tableCount : ℕ
 tableCount = suc keptCount

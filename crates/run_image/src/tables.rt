@@ -10,7 +10,7 @@ ghost use Rattle.run_image.specs.Tables.{keptCount, tableCount, tableOf,
 use edition::Edition;
 
 // How many EREs have a table each.
-const KEPT: usize = 3;
+pub const KEPT: usize = 1;
 
 // The words of all tables.
 pub const TABLES_WORDS: usize = (KEPT + 1) * ere_table::TABLE_WORDS;
@@ -19,7 +19,14 @@ pub const TABLES_WORDS: usize = (KEPT + 1) * ere_table::TABLE_WORDS;
 pub const NO_ERE: usize = Edition::ERES;
 
 // Compiles ERE n into table k.
-fn compile_to(image: &[u8], index: &[u32], edition: Edition, n: usize, tables: &mut [u64], k: usize)
+pub fn compile_to(
+    image: &[u8],
+    index: &[u32],
+    edition: Edition,
+    n: usize,
+    tables: &mut [u64],
+    k: usize,
+)
     requires { ⌜ (length (now tables) ≡ tableCount * tableWords) × (k ≤ keptCount)
         × ((xs : List (List ℕ)) × (Readable (edition .number) (now image) (now index) xs) × (n < length xs)) ⌝ }
     ensures { λ _. ⌜ Compiled (edition .number) (now (image .entry)) (now (index .entry)) n k
