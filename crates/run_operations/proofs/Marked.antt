@@ -4,6 +4,7 @@ use mathlib.Core.Bool.{Bool}
 use mathlib.Core.List.{List}
 use Prim.Native.Nat.{ℕ, suc, _+_, _-_, _*_, _≤_, _<_, zero-le}
 use native.Mathlib.Omega.{arith}
+use native.Mathlib.Decide.{decLt}
 use lib.ListN.{length, drop, getD, length-take}
 use lib.Seq.{getD-take, getD-drop}
 use borrow.Rule.Slice.PartMut.{midOf}
@@ -26,7 +27,8 @@ use Rattle.run_room.specs.Room.{slotAt, Store, storeOf, withSlot}
 use Rattle.run_room.specs.Held.{Slotted, Shown, Did}
 use Rattle.run_room.specs.declared.lines.Line.{Line}
 use Rattle.run_room.proofs.Stored.{did-slot, did-on, did-so}
-use Rattle.run_operations.specs.Marks.{rstartSlot, rlengthSlot, rstartOf, rlengthOf, withMark, markedIn, Marks}
+use Rattle.run_operations.specs.Marks.{Searches, Told, rstartSlot, rlengthSlot, rstartOf, rlengthOf, withMark}
+use Rattle.run_operations.specs.Marks.{markedIn, Marks}
 use Rattle.run_operations.proofs.Showing.{did-again, in-lent, shown-in}
 
 -- ---- three slots are set
@@ -74,26 +76,39 @@ Marked t x z a =
     ((s : Separator) (e : Ere Class) → Serves t e
     → storeOf z l s ≡ markedIn (storeOf x l s) a (bestOf accepts (textOf (slotAt x a)) e))
 
-abbrev Tested : List ℕ → List ℕ → List ℕ → ℕ → Type 0
-Tested t x z a =
+abbrev Tested : List ℕ → List ℕ → List ℕ → List ℕ → ℕ → Type 0
+Tested d t x z a =
     (l : Line)
     → Did x l z l (length z ≡ length x)
-    ((s : Separator) (e : Ere Class) → Serves t e
+    ((s : Separator) (e : Ere Class) → Searches d t e
     → storeOf z l s ≡ withSlot (storeOf x l s) a (truthValue (isMatch (bestOf accepts (textOf (slotAt x a)) e))))
+
+-- a table of the ERE by which the answer is right
+told-by : (d t text : List ℕ) (r : Bool) → Told d t text r → (e : Ere Class) → Searches d t e
+    → (u : List ℕ) × (Serves u e) × (Exists u text r)
+told-by d t text r told e s =
+    elim (decLt 0 (length d)) [
+      | yes h ↦ let u = s .0 h in (u .0, u .2, told .0 h (u .0) (u .1))
+      | no h ↦
+          let none : length d ≡ 0 = omega arith in
+          (t, s .1 none, told .1 none)
+    ]
 
 module _ (t x y z : List ℕ) (a n from : ℕ) (o : Shown x y a n) (inside : a < slotCount)
     (place : from ≡ a * slotBytes + headSize) (bytes : (i : ℕ) → getD y i 0 < 256) where
   lent : midOf from (from + n - from) y ≡ textOf (slotAt x a)
   lent = in-lent y a n from place (shown-in x y a n o) ∙ ap textOf (o .slotted .value)
 
-  pub tested : (b : Bool) → Exists t (midOf from (from + n - from) y) b → Slotted y z a (truthValue b) Unit
-      → Tested t x z a
-  tested b exists q l =
+  pub tested : (d : List ℕ) (b : Bool) → Told d t (midOf from (from + n - from) y) b → Slotted y z a (truthValue b) Unit
+      → Tested d t x z a
+  tested d b told q l =
       did-so
-      (λ h s e serves.
+      (λ h s e searches.
+      let u = told-by d t (midOf from (from + n - from) y) b told e searches in
       h s
       ∙ ap (λ (c : Bool). withSlot (storeOf x l s) a (truthValue c))
-      (serves-exists t b e (midOf from (from + n - from) y) serves exists (bytes-lent y from (from + n - from) bytes)
+      (serves-exists (u .0) b e (midOf from (from + n - from) y) (u .1) (u .2)
+      (bytes-lent y from (from + n - from) bytes)
       ∙ ap (λ (w : List ℕ). isMatch (bestOf accepts w e)) lent))
       (did-again x y a (o .slotted) inside z (λ st. withSlot st a (truthValue b)) l
       (did-slot y z l a (truthValue b) q inside (q .outside .size) (λ h. tt)))

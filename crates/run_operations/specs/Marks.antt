@@ -1,11 +1,16 @@
 -- Internal: cited by private contracts only. What a match leaves in the working room.
 use mathlib.Core.Path.{_≡_}
+use mathlib.Core.Bool.{Bool}
 use mathlib.Core.List.{List}
-use Prim.Native.Nat.{ℕ, suc, _+_}
+use Prim.Native.Nat.{ℕ, suc, _+_, _<_}
 use lib.ListN.{length}
 use lib.IntN.{pos, negsuc}
 use Rattle.edition.specs.Limits.{operandDepth}
+use Rattle.ere_meaning.specs.Tree.{Class, Ere}
 use Rattle.ere_meaning.specs.Meaning.{Match, found, nowhere}
+use Rattle.ere_search.specs.Any.{Exists}
+use Rattle.ere_automaton.specs.Automaton.{Drives}
+use Rattle.ere.specs.Answer.{Serves}
 use Rattle.values.specs.Value.{Value, number}
 use Rattle.semantics.specs.Variables.{RSTART, RLENGTH}
 use Rattle.number.specs.Range.{unbias}
@@ -13,6 +18,20 @@ use Rattle.splitting.specs.Separator.{Separator}
 use Rattle.run_room.specs.Room.{Store, storeOf, withSlot}
 use Rattle.run_room.specs.Held.{Did}
 use Rattle.run_room.specs.declared.lines.Line.{Line}
+
+-- ---- whether there is a match: by an automaton, or where it is empty by a table
+
+-- what they are those of
+abbrev pub Searches : List ℕ → List ℕ → Ere Class → Type 0
+Searches d t e =
+    (0 < length d → (u : List ℕ) × (Drives u d) × (Serves u e)) × (length d ≡ 0 → Serves t e)
+
+-- r says whether the text has a match
+abbrev pub Told : List ℕ → List ℕ → List ℕ → Bool → Type 0
+Told d t text r =
+    (0 < length d → (u : List ℕ) → Drives u d → Exists u text r) × (length d ≡ 0 → Exists t text r)
+
+-- ---- where a match is
 
 abbrev pub rstartSlot : ℕ
 rstartSlot = operandDepth + RSTART

@@ -1,6 +1,6 @@
-// Matches of an ERE, by its table.
+// Matches of an ERE, by its automaton or its table.
 ghost use mathlib.Core.Path.{_≡_};
-ghost use Prim.Native.Nat.{_≤_, _<_};
+ghost use Prim.Native.Nat.{_^_, _≤_, _<_};
 ghost use lib.ListN.{length};
 ghost use Rattle.splitting.specs.Separator.{Separator};
 ghost use Rattle.number.specs.Range.{top};
@@ -12,17 +12,31 @@ ghost use Rattle.ere_meaning.specs.Tree.{Class, accepts, Ere};
 ghost use Rattle.ere_meaning.specs.Search.{bestOf};
 ghost use Rattle.ere_table.specs.Table.{tableWords};
 ghost use Rattle.ere_search.specs.Any.{isMatch};
+ghost use Rattle.ere_automaton.specs.Automaton.{Ranged};
 ghost use Rattle.ere.specs.Answer.{Serves};
 ghost use Rattle.values.specs.Value.{textOf, truthValue};
-ghost use Rattle.run_operations.specs.Marks.{markedIn, Marks};
+ghost use Rattle.run_operations.specs.Marks.{Searches, Told, markedIn, Marks};
 use ere_search::Found;
 
+// Tells whether a text has a match of an ERE: by its automaton, or where that is empty by its table.
+fn has_match(d: &[u16], t: &[u64], text: &[u8]) -> bool
+    requires { ⌜ (0 < length (now d) → Ranged (now d)) × (length (now t) ≡ tableWords)
+        × (length (now text) < 2 ^ 63) ⌝ }
+    ensures { λ r. ⌜ Told (now (d .entry)) (now (t .entry)) (now (text .entry)) r ⌝ }
+{
+    if d.len() == 0 {
+        return ere_search::exists(t, text);
+    }
+    ere_automaton::exists(d, text)
+}
+
 // Replaces a value by whether its text has a match.
-pub fn matches(work: &mut [u8], t: &[u64], a: usize)
-    requires { ⌜ (slotsEnd ≤ length (now work)) × (a < slotCount) × (length (now t) ≡ tableWords) ⌝ }
+pub fn matches(work: &mut [u8], d: &[u16], t: &[u64], a: usize)
+    requires { ⌜ (slotsEnd ≤ length (now work)) × (a < slotCount) × (0 < length (now d) → Ranged (now d))
+        × (length (now t) ≡ tableWords) ⌝ }
     ensures { λ _. ⌜ ((l : Line) → Did (now (work .entry)) l (now (work .exit)) l
         (length (now (work .exit)) ≡ length (now (work .entry)))
-        ((s : Separator) (e : Ere Class) → Serves (now (t .entry)) e
+        ((s : Separator) (e : Ere Class) → Searches (now (d .entry)) (now (t .entry)) e
         → storeOf (now (work .exit)) l s
         ≡ withSlot (storeOf (now (work .entry)) l s) a
         (truthValue (isMatch (bestOf accepts (textOf (slotAt (now (work .entry)) a)) e))))) ⌝ }
@@ -30,7 +44,7 @@ pub fn matches(work: &mut [u8], t: &[u64], a: usize)
     let n = run_room::show(work, a);
     let from = a * run_room::SLOT + run_room::HEAD;
     let end = from + n;
-    let b = ere_search::exists(t, &work[from..end]);
+    let b = has_match(d, t, &work[from..end]);
     run_values::set_truth(work, a, b);
 }
 

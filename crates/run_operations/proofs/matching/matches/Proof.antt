@@ -17,17 +17,17 @@ add-from c = search needs
 add-end : tie.Need-add-end
 add-end c = search needs
 
-sub-exists : tie.Need-sub-exists
-sub-exists c = search needs
+sub-has-match : tie.Need-sub-has-match
+sub-has-match c = search needs
 
-part-exists-start : tie.Need-part-exists-start
-part-exists-start c = search needs
+part-has-match-start : tie.Need-part-has-match-start
+part-has-match-start c = search needs
 
-part-exists-end : tie.Need-part-exists-end
-part-exists-end c = search needs
+part-has-match-end : tie.Need-part-has-match-end
+part-has-match-end c = search needs
 
-exists-requires : tie.Need-exists-requires
-exists-requires c κs = search needs
+has-match-requires : tie.Need-has-match-requires
+has-match-requires c κs = search needs
 
 set-truth-requires : tie.Need-set-truth-requires
 set-truth-requires c κs = search needs
@@ -41,10 +41,11 @@ returns c =
     let g = n .before .before in
     let k = g .before .before .before in
     let s = k .before .before in
-    let e = s .before .before .before .before in
+    let e = s .before .before .before .before .before in
     let a = e .args in
     tested (a .t .now) (a .work .now) _ _ (a .a) (s .show .result) _ (s .show .ensures) (e .pre .1) refl
-    (λ i. k .slice-known2 .given i .fits) (g .exists .result) (g .exists .ensures) (n .set-truth .ensures)
+    (λ i. k .slice-known2 .given i .fits) (a .d .now) (g .has-match .result) (g .has-match .ensures)
+    (n .set-truth .ensures)
 
 pub matches-spec : {M : Type 1} → statement M
 matches-spec =
@@ -54,10 +55,10 @@ matches-spec =
     mul-from
     add-from
     add-end
-    sub-exists
-    part-exists-start
-    part-exists-end
-    exists-requires
+    sub-has-match
+    part-has-match-start
+    part-has-match-end
+    has-match-requires
     set-truth-requires
     same-length
     returns)
