@@ -24,11 +24,12 @@ ghost use Rattle.run_records.specs.Records.{Safe, InForce, Leaves};
 ghost use Rattle.run_records.specs.declared.beginning.Begun.{Begun};
 ghost use Rattle.run_join.specs.Stores.{Stores};
 ghost use Rattle.run_image.specs.Tables.{keptCount, tableCount, tableOf, tableAt, Readable, Prepared};
+ghost use Rattle.run_image.specs.Automata.{automatonIn, Pooled};
 ghost use Rattle.run_values.specs.Answers.{TruthBy};
 ghost use Rattle.run_values.specs.declared.numbers.Truth.{Truth};
 ghost use Rattle.run_operations.specs.Constants.{Fits, Decodes};
 ghost use Rattle.run_operations.specs.Assigns.{Known, Assigns};
-ghost use Rattle.run_operations.specs.Marks.{markedIn};
+ghost use Rattle.run_operations.specs.Marks.{Searches, markedIn};
 ghost use Rattle.run_operations.specs.Prints.{Writes, written, PrintedBy};
 ghost use Rattle.run_operations.specs.declared.variables.Assigned.{Assigned};
 ghost use Rattle.run_operations.specs.declared.printing.Printed.{Printed as Prints};
@@ -221,11 +222,36 @@ pub fn exits(section: usize, m: Machine) -> Machine
     m.stop(0)
 }
 
-// Replaces a value by whether its text has a match of ERE n.
+// Compiles ERE n, unless its automaton has words or its table is that already; `last` is the ERE of the shared table,
+// and so is the answer.
+fn prepare_table(
+    image: &[u8],
+    eres: &[u32],
+    edition: Edition,
+    words: usize,
+    tables: &mut [u64],
+    last: usize,
+    n: usize,
+) -> usize
+    requires { ⌜ (length (now tables) ≡ tableCount * tableWords)
+        × ((xs : List (List ℕ)) × (Readable (edition .number) (now image) (now eres) xs) × (n < length xs)) ⌝ }
+    ensures { λ r. ⌜ (length (now (tables .exit)) ≡ tableCount * tableWords) × (words ≡ 0 → keptCount ≤ n → r ≡ n)
+        × ((xs : List (List ℕ)) → Readable (edition .number) (now (image .entry)) (now (eres .entry)) xs → n < length xs
+        → Prepared (edition .number) xs (now (tables .entry)) last
+        → Prepared (edition .number) xs (now (tables .exit)) r) ⌝ }
+{
+    if words != 0 {
+        return last;
+    }
+    run_image::prepare(image, eres, edition, tables, last, n)
+}
+
+// Replaces a value by whether its text has a match of ERE n: by its automaton, or else by its table.
 pub fn matches(
     image: &[u8],
     eres: &[u32],
     edition: Edition,
+    pool: &[u16],
     tables: &mut [u64],
     work: &mut [u8],
     m: Machine,
@@ -233,22 +259,26 @@ pub fn matches(
 ) -> Machine
     requires { ⌜ (slotsEnd ≤ length (now work)) × (1 ≤ m .depth) × (m .depth ≤ slotCount) × (m .at < 1024)
         × (length (now tables) ≡ tableCount * tableWords)
-        × ((xs : List (List ℕ)) × (Readable (edition .number) (now image) (now eres) xs) × (n < length xs)) ⌝ }
-    ensures { λ r. ⌜ ((k : ℕ) × (r ≡ advanced (withLast m k) (m .depth)) × (keptCount ≤ n → k ≡ n)
+        × ((xs : List (List ℕ)) × (Readable (edition .number) (now image) (now eres) xs) × (n < length xs)
+        × (Pooled (edition .number) xs (now pool))) ⌝ }
+    ensures { λ r. ⌜ ((k : ℕ) × (r ≡ advanced (withLast m k) (m .depth))
+        × (length (automatonIn (now (pool .entry)) n) ≡ 0 → keptCount ≤ n → k ≡ n)
         × ((xs : List (List ℕ)) → Readable (edition .number) (now (image .entry)) (now (eres .entry)) xs → n < length xs
         → Prepared (edition .number) xs (now (tables .entry)) (m .last)
         → Prepared (edition .number) xs (now (tables .exit)) k)
         × ((l : Line) → Did (now (work .entry)) l (now (work .exit)) l
         (length (now (work .exit)) ≡ length (now (work .entry)))
-        ((s : Separator) (e : Ere Class) → Serves (tableAt (now (tables .exit)) (tableOf n)) e
+        ((s : Separator) (e : Ere Class)
+        → Searches (automatonIn (now (pool .entry)) n) (tableAt (now (tables .exit)) (tableOf n)) e
         → storeOf (now (work .exit)) l s
         ≡ withSlot (storeOf (now (work .entry)) l s) (m .depth - 1)
         (truthValue (isMatch (bestOf accepts (textOf (slotAt (now (work .entry)) (m .depth - 1))) e)))))) ⌝ }
 {
     let d = m.depth;
+    let automaton = run_image::automaton_of(pool, n);
     let mut r = m;
-    r.last = run_image::prepare(image, eres, edition, tables, m.last, n);
-    run_operations::matches(work, run_image::table_of(tables, n), d - 1);
+    r.last = prepare_table(image, eres, edition, automaton.len(), tables, m.last, n);
+    run_operations::matches(work, automaton, run_image::table_of(tables, n), d - 1);
     r.on(d)
 }
 

@@ -1,62 +1,71 @@
--- `matches` meets its contract: the table is prepared, and the operation goes by it.
-use mathlib.Core.Path.{ap, _∙_}
+-- `matches` meets its contract: the automaton is taken, or the table is prepared, and the operation goes by them.
+use mathlib.Core.Path.{ap, sym, subst, _∙_}
 use native.Mathlib.Omega.{arith}
 use lib.ListN.{length}
+use Rattle.ere_automaton.specs.Automaton.{Ranged}
+use Rattle.run_image.proofs.Filling.{pooled-ranged}
 use Rattle.run_step.proofs.Matching.{table-size}
 use borrow.Author.Needs.{needs}
 use Rattle.run_step.proofs.arms.matches.Statement.{statement}
 use Rattle.run_step.proofs.arms.matches.Tie as tie
 
--- src/arms.rt:222:5
-prepare-requires : tie.Need-prepare-requires
-prepare-requires c κs = search needs
+automaton-of-requires : tie.Need-automaton-of-requires
+automaton-of-requires c κs =
+    let l = c .before .before .before .before .before .pre .5 in
+    l .3 .bounded (c .before .before .before .before .before .args .n) (l .2)
 
--- src/arms.rt:223:35
+prepare-table-requires : tie.Need-prepare-table-requires
+prepare-table-requires c κs = search needs
+
 table-of-requires : tie.Need-table-of-requires
 table-of-requires c κs = search needs
 
--- src/arms.rt:223:67
 sub-matches : tie.Need-sub-matches
 sub-matches c = search needs
 
--- src/arms.rt:223:5
 matches-requires : tie.Need-matches-requires
 matches-requires c κs =
-    let a = c .before .before .before .before .before .before .before .before .before .before .before .args in
-    let p = c .before .before .before .before .before .prepare in
-    let t = c .table-of in
-    (omega arith, omega arith, ap length (t .ensures) ∙ table-size _ (a .n) (p .ensures .0))
+    let c5 = c .before .before .before .before .before in
+    let c7 = c5 .before .before in
+    let c13 = c7 .before .before .before .before .before .before in
+    let a = c13 .args in
+    let l = c13 .pre .5 in
+    let d = c7 .automaton-of in (
+      omega arith,
+      omega arith,
+      λ long.
+          rw (d .ensures)
+          (pooled-ranged (l .1) (l .3) (a .n) (l .2) (rw (d .ensures) at long)),
+      ap length (c .table-of .ensures) ∙ table-size _ (a .n) (c5 .prepare-table .ensures .0),
+    )
 
--- src/arms.rt:224:5
 on-requires : tie.Need-on-requires
 on-requires c κs = search needs
 
--- src/arms.rt:199:1
 same-length : tie.Need-same-length
 same-length c = search needs
 
--- src/arms.rt:199:1
 same-length-2 : tie.Need-same-length-2
 same-length-2 c = search needs
 
--- src/arms.rt:199:1
 returns : tie.Need-returns
 returns c =
-    let p = c .before .before .before .before .before .before .before .before .before .prepare in
+    let d = c .before .before .before .before .before .before .before .before .before .before .before .automaton-of in
+    let p = c .before .before .before .before .before .before .before .before .before .prepare-table in
     let t = c .before .before .before .before .table-of in (
       p .result,
       c .on .ensures,
-      p .ensures .1,
+      λ none far. p .ensures .1 (ap length (d .ensures) ∙ none) far,
       p .ensures .2,
-      rw (t .ensures) at
-          (c .before .before .before .matches .ensures),
+      rw (t .ensures) at (rw (d .ensures) at (c .before .before .before .matches .ensures)),
     )
 
 pub matches-spec : {M : Type 1} → statement M
 matches-spec =
     tie.close
     (tie.spec
-    prepare-requires
+    automaton-of-requires
+    prepare-table-requires
     table-of-requires
     sub-matches
     matches-requires
