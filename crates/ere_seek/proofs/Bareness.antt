@@ -3,9 +3,8 @@ use mathlib.Core.Path.{_≡_, refl, sym, ap, ap₂, subst, _∙_}
 use mathlib.Core.Bool.{Bool, true, false, cond, not, _&&_}
 use mathlib.Core.Logic.{_⊎_, inl, inr}
 use mathlib.Core.List.{List}
-use Prim.Native.Nat.{ℕ, zero, suc, _+_, _-_, _≤_, _<_}
+use Prim.Native.Nat.{ℕ, suc, _+_, _-_, _≤_, _<_}
 use native.Mathlib.Nat.{add-zero}
-use native.Mathlib.Numerals.{add-one}
 use native.Mathlib.Decide.{decLt}
 use native.Mathlib.Omega.{arith}
 use lib.ListN.{length, getD}
@@ -14,7 +13,7 @@ use borrow.Author.Tests.{ne-eqb, eq-eqb, eqb-true, not-false}
 use Rattle.lists.proofs.Tests.{clash}
 use Rattle.ere_table.specs.Table.{row, noPlace}
 use Rattle.ere_table.specs.Wiring.{stopIn}
-use Rattle.ere_search.specs.Walk.{step, liveAt, longestTo, longestOf, entryRow, note}
+use Rattle.ere_search.specs.Walk.{step, liveAt, longestTo, entryRow, note}
 use Rattle.ere_search.proofs.Finds.{none-longer}
 use Rattle.ere_automaton.specs.Layout.{firstState, laterState, acceptedState, skipsWord, nextIn}
 use Rattle.ere_automaton.specs.Automaton.{firstByte, secondByte, Hull}
@@ -196,4 +195,5 @@ module _ (d x : List ℕ) (bytes : (k : ℕ) → getD x k 0 < 256) (from m : ℕ
       candidate-passed d x bytes from m first r (differs first h)
       (λ t at H e. bares-skipped t x at d (H (w .0)) bytes from m (λ k a b. e k a) (w .1)) (w .1 .on) P
   candidate-blocks (inr w) h P =
-      candidate-passed d x bytes from m first r (differs first h) (λ t at H e k a b. absurd (omega arith)) (omega arith) P
+      candidate-passed d x bytes from m first r (differs first h) (λ t at H e k a b. absurd (omega arith))
+      (omega arith) P

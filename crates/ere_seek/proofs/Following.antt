@@ -1,10 +1,10 @@
 -- One start that is followed: the state stands for what may come next, and its accept bits tell the longest match.
 use mathlib.Core.Path.{_≡_, refl, sym, ap, ap₂, subst, _∙_}
 use mathlib.Core.Bool.{Bool, true, false, cond}
-use mathlib.Core.Logic.{_⊎_, inl, inr}
+use mathlib.Core.Logic.{inl, inr}
 use mathlib.Core.List.{List}
-use Prim.Native.Nat.{ℕ, zero, suc, _+_, _-_, _/_, _%_, _≤_, _<_}
-use native.Mathlib.Nat.{add-zero, le-refl}
+use Prim.Native.Nat.{ℕ, suc, _+_, _-_, _/_, _%_, _≤_, _<_}
+use native.Mathlib.Nat.{le-refl}
 use native.Mathlib.Omega.{arith}
 use lib.ListN.{length, getD}
 use lib.Dec.{eqb, leb}
@@ -12,15 +12,14 @@ use borrow.Author.Tests.{eq-eqb, ne-eqb, eqb-true, leb-true, le-leb}
 use Rattle.lists.proofs.Tests.{clash, same-test}
 use Rattle.ere_table.specs.Table.{row, noPlace}
 use Rattle.ere_table.specs.Wiring.{stopIn}
-use Rattle.ere_search.specs.Walk.{step, liveAt, longestTo, longestOf, entryRow, note}
+use Rattle.ere_search.specs.Walk.{step, liveAt, longestTo, longestOf}
 use Rattle.ere_search.proofs.Finds.{none-longer}
 use Rattle.ere_automaton.specs.Layout.{State, classCount, acceptedState, pairsWord, nextIn, pairIn, endWord}
 use Rattle.ere_automaton.specs.Automaton.{Ranged}
 use Rattle.ere_automaton.specs.Scan.{Ready}
-use Rattle.ere_automaton.specs.Follows.{FollowsOne}
 use Rattle.ere_seek.specs.declared.one.Reached.{Reached}
 use Rattle.ere_seek.specs.Starts.{entryState}
-use Rattle.ere_seek.specs.One.{accepts, better, stepped, endTo, endOf, Means, Ends, Bounds, Paired, Followed}
+use Rattle.ere_seek.specs.One.{accepts, better, stepped, endTo, Means, Ends, Bounds, Paired, Followed}
 use Rattle.ere_seek.specs.One.{Longest}
 use Rattle.ere_seek.proofs.Bareness.{none-empty}
 
@@ -90,8 +89,10 @@ module _ (t x : List ℕ) (at s : ℕ) where
       → cond (stopIn (liveAt t x at s (suc n)) f) i best ≡ endTo t x at s (suc (suc n))
   unfolding longestTo
   end-more n i best f e g h =
-      ap₂ (λ (y : Bool) (b : ℕ). cond (stopIn (liveAt t x at s (suc n)) y) i b) (g ∙ ap (λ (j : ℕ). eqb j (length x)) e) h
-      ∙ by (stopIn (liveAt t x at s (suc n)) (eqb (s + suc n) (length x))) (leb 1 (suc n)) (le-leb 1 (suc n) (omega arith))
+      ap₂ (λ (y : Bool) (b : ℕ). cond (stopIn (liveAt t x at s (suc n)) y) i b)
+      (g ∙ ap (λ (j : ℕ). eqb j (length x)) e) h
+      ∙ by (stopIn (liveAt t x at s (suc n)) (eqb (s + suc n) (length x))) (leb 1 (suc n))
+      (le-leb 1 (suc n) (omega arith))
     where
       by : (y z : Bool) → z ≡ true → cond y i (endTo t x at s (suc n))
           ≡ s + (cond z (cond y (suc (suc n)) (longestTo t x at 1 s (suc n))) (longestTo t x at 1 s (suc n)) - 1)

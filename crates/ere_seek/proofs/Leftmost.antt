@@ -3,18 +3,18 @@ use mathlib.Core.Path.{_≡_, refl, sym, ap, ap₂, subst, _∙_}
 use mathlib.Core.Bool.{Bool, true, false, cond}
 use mathlib.Core.Logic.{_⊎_, inl, inr, ⊎-elim}
 use mathlib.Core.List.{List}
-use Prim.Native.Nat.{ℕ, zero, suc, _+_, _-_, _%_, _≤_, _<_}
+use Prim.Native.Nat.{ℕ, zero, suc, _+_, _-_, _≤_, _<_}
 use native.Mathlib.Nat.{add-zero, le-refl}
 use native.Mathlib.Decide.{decLt}
 use native.Mathlib.Omega.{arith}
-use lib.ListN.{length, getD, take}
-use lib.Dec.{eqb, leb}
+use lib.ListN.{length, take}
+use lib.Dec.{eqb}
 use lib.Seq.{getD-take, length-take-le}
-use borrow.Author.Tests.{eq-eqb, ne-eqb, eqb-true, eqb-false, le-leb}
+use borrow.Author.Tests.{eq-eqb, ne-eqb, eqb-false, le-leb}
 use Rattle.lists.proofs.Tests.{clash}
 use Rattle.ere_table.specs.Table.{row}
 use Rattle.ere_table.specs.Wiring.{stopIn}
-use Rattle.ere_search.specs.Walk.{liveAt, longestTo, longestOf, entryRow, note}
+use Rattle.ere_search.specs.Walk.{liveAt, longestTo, longestOf, entryRow}
 use Rattle.ere_search.specs.Find.{Inside, Finds}
 use Rattle.ere_search.specs.declared.search.Found.{Found}
 use Rattle.ere_search.specs.declared.search.Found.the-variants.{At, Nowhere}
@@ -25,7 +25,7 @@ use Rattle.ere_seek.specs.Starts.{Bare, Bares, Hulled, Candidate}
 use Rattle.ere_seek.specs.One.{accepts, endOf, Longest}
 use Rattle.ere_seek.specs.Pending.{Cleared}
 use Rattle.ere_seek.specs.Seeking.{emptyAt, Sought, SoughtFrom, Both, SoughtBoth, FindsBoth}
-use Rattle.ere_seek.proofs.Bareness.{none-empty, bare-end, bares-both}
+use Rattle.ere_seek.proofs.Bareness.{bare-end, bares-both}
 use Rattle.ere_seek.proofs.Following.{bits-stop}
 
 -- ---- the longest match from a start, by its end
@@ -150,15 +150,20 @@ module _ (t x : List ℕ) (at k : ℕ) where
   to-empty (suc n) =
       ap₂ (λ (o : ℕ) (y : Bool). cond y (cond st (suc (suc n)) o) o) (to-empty n) (le-leb 0 (suc n) (omega arith))
       ∙ by (stopIn (liveAt t x at k (suc n)) (eqb (k + suc n) (length x)))
-      ∙ ap (λ (y : Bool). withEmpty (cond y (cond st (suc (suc n)) (longestTo t x at 1 k (suc n))) (longestTo t x at 1 k (suc n))))
+      ∙ ap (λ (y : Bool). withEmpty (cond y (cond st (suc (suc n)) some) some))
       (sym (le-leb 1 (suc n) (omega arith)))
     where
+      some : ℕ
+      some = longestTo t x at 1 k (suc n)
+
       st : Bool
       st = stopIn (liveAt t x at k (suc n)) (eqb (k + suc n) (length x))
 
       by : (y : Bool) → cond y (suc (suc n)) (withEmpty (longestTo t x at 1 k (suc n)))
           ≡ withEmpty (cond y (suc (suc n)) (longestTo t x at 1 k (suc n)))
-      by true = ap (λ (y : Bool). cond y (cond (emptyHere t x at k) 1 0) (suc (suc n))) (sym (ne-eqb (suc (suc n)) 0 (omega arith)))
+      by true =
+          ap (λ (y : Bool). cond y (cond (emptyHere t x at k) 1 0) (suc (suc n)))
+          (sym (ne-eqb (suc (suc n)) 0 (omega arith)))
       by false = refl
 
   -- one of at least a byte
@@ -198,7 +203,8 @@ module _ (t d p x : List ℕ) (at : ℕ) (B : Both t d p) where
   later-none false h true e = absurd (clash (e refl))
   later-none false h false e = h
 
-  pub none-before : emptyAt d (eqb at 0) (eqb (length x) 0) ≡ false → (k : ℕ) → k < length x → emptyHere t x at k ≡ false
+  pub none-before : emptyAt d (eqb at 0) (eqb (length x) 0) ≡ false → (k : ℕ) → k < length x
+      → emptyHere t x at k ≡ false
   none-before h k l =
       let some : eqb (length x) 0 ≡ false = ne-eqb (length x) 0 (omega arith) in
       let off : stopIn (row t (cond (eqb at 0) 0 1)) false ≡ false =
@@ -288,7 +294,8 @@ module _ (d p x : List ℕ) (at least : ℕ) where
         finds = λ t B.
             let f : eqb at 0 ≡ eqb (at + 0) 0 = ap (λ (j : ℕ). eqb j 0) (sym (add-zero at)) in
             let end = longest-end t d x at 0 (eqb at 0) (B .one) f (length x) e L (le-refl (length x)) in
-            subst (λ (l : ℕ). Finds t x at l (At at e)) (sym z) (finds t x at 0 (At at e) (seen-first t d p x at B e h end));
+            subst (λ (l : ℕ). Finds t x at l (At at e)) (sym z)
+            (finds t x at 0 (At at e) (seen-first t d p x at B e h end));
       }
 
   pub finds-some : (f : Found) (a n : ℕ) → f ≡ At a n → Missing d x at least → SoughtBoth d p x at f
@@ -334,7 +341,8 @@ module _ (d p x : List ℕ) (at least : ℕ) where
         inside = tt;
         finds = λ t B.
             subst (λ (l : ℕ). Finds t x at l Nowhere) (sym (m .0))
-            (finds t x at 0 Nowhere (seen-none t d p x at B (m .1) (subst (Sought t x at) e (S .sought t B)) (h (m .0))));
+            (finds t x at 0 Nowhere
+            (seen-none t d p x at B (m .1) (subst (Sought t x at) e (S .sought t B)) (h (m .0))));
       }
   finds-none f e (inr m) h S =
       record {

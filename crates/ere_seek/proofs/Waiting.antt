@@ -1,12 +1,12 @@
 -- The starts before a place: as long as none of them has a match that ended, what may come next after each is among
 -- what is pending.
 use mathlib.Core.Path.{_≡_, refl, sym, ap, ap₂, subst, _∙_}
-use mathlib.Core.Bool.{Bool, true, false, cond, _&&_, _||_}
+use mathlib.Core.Bool.{Bool, true, false, cond, _&&_}
 use mathlib.Core.Logic.{_⊎_, inl, inr, ⊎-elim}
-use mathlib.Core.List.{List, [], _∷_}
+use mathlib.Core.List.{List}
 use Prim.Native.Nat.{ℕ, zero, suc, _+_, _-_, _/_, _%_, _≤_, _<_}
-use native.Mathlib.Nat.{add-zero, add-suc, le-refl}
-use native.Mathlib.Decide.{ℕ-discrete, decLt}
+use native.Mathlib.Nat.{add-zero, le-refl}
+use native.Mathlib.Decide.{decLt}
 use native.Mathlib.Omega.{arith}
 use lib.ListN.{length, getD}
 use lib.Dec.{eqb}
@@ -15,7 +15,7 @@ use Rattle.lists.proofs.Tests.{clash, or-left, or-right}
 use Rattle.ere_table.specs.Table.{mem, row, join, noPlace, acceptsAt}
 use Rattle.ere_table.specs.Wiring.{stopIn}
 use Rattle.ere_table.proofs.Sets.{mem-join, mem-none}
-use Rattle.ere_search.specs.Walk.{step, liveAt, longestTo, entryRow}
+use Rattle.ere_search.specs.Walk.{step, liveAt, longestTo}
 use Rattle.ere_search.proofs.Steps.{step-in, step-out, step-none, step-dead}
 use Rattle.ere_automaton.specs.Sets.{collapsed}
 use Rattle.ere_automaton.specs.Layout.{State, laterState, skipsWord, nextIn, endWord}
@@ -163,7 +163,8 @@ module _ (t x : List ℕ) (at s : ℕ) where
   bare-start i h e z =
       bare-after t x at i 1 (omega arith) (none-empty t x at i)
       (ap (λ (y : Bool). step t (row t (cond y 0 1)) (getD x (i + 0) 0)) (eq-eqb (at + i) 0 z)
-      ∙ step-dead t (row t 0) (getD x (i + 0) 0) (ap (λ (u : List ℕ). getD u 0 0) e) (ap (λ (u : List ℕ). getD u 1 0) e))
+      ∙ step-dead t (row t 0) (getD x (i + 0) 0) (ap (λ (u : List ℕ). getD u 0 0) e)
+      (ap (λ (u : List ℕ). getD u 1 0) e))
 
   module _ (d : List ℕ) (H : Hull t d) (bytes : (k : ℕ) → getD x k 0 < 256) (i r : ℕ) (Q : List ℕ) (e : Q ≡ noPlace)
       (S : Skipped (rangesOf d) x i r) where

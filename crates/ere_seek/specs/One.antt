@@ -3,11 +3,12 @@ use mathlib.Core.Path.{_≡_}
 use mathlib.Core.Bool.{Bool, true, false, cond}
 use mathlib.Core.Logic.{_⊎_}
 use mathlib.Core.List.{List}
-use Prim.Native.Nat.{ℕ, suc, _+_, _-_, _%_, _≤_, _<_}
+use Prim.Native.Nat.{ℕ, suc, _+_, _-_, _%_, _^_, _≤_, _<_}
 use lib.ListN.{length, getD}
 use lib.Dec.{eqb, leb}
 use Rattle.ere_search.specs.Walk.{liveAt, longestTo, longestOf}
 use Rattle.ere_automaton.specs.Layout.{acceptedState, State, nextIn, endWord}
+use Rattle.ere_automaton.specs.Scan.{Ready}
 use Rattle.ere_automaton.specs.Follows.{FollowsOne}
 use Rattle.ere_seek.specs.declared.one.Reached.{Reached}
 
@@ -27,6 +28,10 @@ stepped d x f l =
       at = l .at + 1;
       best = better d (nextIn d (l .state) (getD x (l .at) 0)) f (l .at + 1) (l .best);
     }
+
+-- and two bytes more, before the text's end
+abbrev pub steppedTwice : List ℕ → List ℕ → Reached → Reached
+steppedTwice d x l = stepped d x false (stepped d x false l)
 
 -- the end of the longest match from s, of at least one and fewer than n bytes; s if there is none
 abbrev pub endTo : List ℕ → List ℕ → ℕ → ℕ → ℕ → ℕ
@@ -54,6 +59,12 @@ pub record Bounds (x : List ℕ) (s : ℕ) (l : Reached) : Type 0 where
   pub inside : l .at ≤ length x
   pub from : s ≤ l .best
   pub to : l .best ≤ l .at
+
+-- a start s that is followed to l, in a text that is not too long
+pub record Begun (d : List ℕ) (k : ℕ) (x : List ℕ) (s : ℕ) (l : Reached) : Type 0 where
+  pub ready : Ready d k (l .state)
+  pub bounds : Bounds x s l
+  pub small : length x < 2 ^ 63
 
 -- from l to r by pairs: r goes on, or the longest match is known
 pub record Paired (d x : List ℕ) (s until : ℕ) (l r : Reached) : Type 0 where

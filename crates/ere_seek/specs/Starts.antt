@@ -1,6 +1,6 @@
 -- Internal: cited by private contracts only. Places at which no match starts.
 use mathlib.Core.Path.{_≡_}
-use mathlib.Core.Bool.{Bool, false, cond}
+use mathlib.Core.Bool.{Bool, false, not, cond}
 use mathlib.Core.List.{List}
 use Prim.Native.Nat.{ℕ, _+_, _≤_, _<_}
 use lib.ListN.{length, getD}
@@ -25,6 +25,10 @@ Hulled t d = eqb (skipsWord d) 0 ≡ false → Hull t d
 -- the state in which a match starts, at the text's start (first) or not
 abbrev pub entryState : List ℕ → Bool → ℕ
 entryState d first = cond first (firstState d) (laterState d)
+
+-- a match may begin with the byte: it leads to a state in which something may come next
+abbrev pub mayBegin : List ℕ → ℕ → Bool
+mayBegin d b = not (eqb (nextIn d (laterState d) b) (acceptedState d))
 
 -- no match starts between `from` and r, by the first byte
 pub record Passed (d x : List ℕ) (from r : ℕ) : Type 0 where

@@ -7,7 +7,7 @@ ghost use lib.Dec.{eqb};
 ghost use Rattle.ere_automaton.specs.Layout.{pairsWord};
 ghost use Rattle.ere_automaton.specs.Automaton.{Ranged};
 ghost use Rattle.ere_automaton.specs.Scan.{Ready};
-ghost use Rattle.ere_seek.specs.One.{stepped, Bounds, Paired, Followed, Longest};
+ghost use Rattle.ere_seek.specs.One.{stepped, steppedTwice, Begun, Paired, Followed, Longest};
 use crate::states;
 use ere_automaton::ACCEPTED;
 use ere_automaton::CLASS_COUNT;
@@ -23,7 +23,7 @@ struct Reached {
 // Follows a start by two bytes.
 fn two_more(d: &[u16], k: usize, x: &[u8], l: Reached) -> Reached
     requires { ⌜ (Ready (now d) k (l .state)) × (eqb (pairsWord (now d)) 0 ≡ false) × (l .at + 3 ≤ length (now x)) ⌝ }
-    ensures { λ r. ⌜ r ≡ stepped (now (d .entry)) (now (x .entry)) false (stepped (now (d .entry)) (now (x .entry)) false l) ⌝ }
+    ensures { λ r. ⌜ r ≡ steppedTwice (now (d .entry)) (now (x .entry)) l ⌝ }
 {
     let i = l.at;
     let s = l.state;
@@ -39,9 +39,10 @@ fn two_more(d: &[u16], k: usize, x: &[u8], l: Reached) -> Reached
     }
 }
 
-// Follows a start by pairs, as long as two bytes and one more are left. Where no match has ended at `until`, it gives up.
+// Follows a start by pairs, as long as two bytes and one more are left. Where no match has ended at `until`, it gives
+// up.
 fn by_two(d: &[u16], k: usize, x: &[u8], from: Reached, s: usize, until: usize) -> Reached
-    requires { ⌜ (Ready (now d) k (from .state)) × (eqb (pairsWord (now d)) 0 ≡ false) × (Bounds (now x) s from) × (length (now x) < 2 ^ 63) ⌝ }
+    requires { ⌜ (Begun (now d) k (now x) s from) × (eqb (pairsWord (now d)) 0 ≡ false) ⌝ }
     ensures { λ r. ⌜ Paired (now (d .entry)) (now (x .entry)) s until from r ⌝ }
 {
     let dead = d[ACCEPTED] as usize;

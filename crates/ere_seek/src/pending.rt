@@ -1,13 +1,12 @@
 // All starts before a place: where nothing of them is pending.
 ghost use mathlib.Core.Path.{_≡_};
 ghost use mathlib.Core.Bool.{false, not};
-ghost use Prim.Native.Nat.{_+_, _-_, _≤_, _<_, _^_};
+ghost use Prim.Native.Nat.{_-_, _≤_, _<_, _^_};
 ghost use lib.ListN.{length};
 ghost use lib.Dec.{eqb};
-ghost use Rattle.ere_automaton.specs.Layout.{State, pairsWord, laterState};
+ghost use Rattle.ere_automaton.specs.Layout.{pairsWord};
 ghost use Rattle.ere_automaton.specs.Automaton.{Ranged};
-ghost use Rattle.ere_automaton.specs.Scan.{Ready};
-ghost use Rattle.ere_seek.specs.Pending.{Ran, Cleared};
+ghost use Rattle.ere_seek.specs.Pending.{RanBy, Block, Part, Cleared};
 use crate::states;
 use ere_automaton::ACCEPTED;
 use ere_automaton::BLOCK;
@@ -24,8 +23,8 @@ struct Fresh {
 
 // Goes on by 16 bytes, two at a time.
 fn pairs_seen(d: &[u16], k: usize, x: &[u8], i: usize, from: Fresh, later: usize) -> Fresh
-    requires { ⌜ (Ready (now d) k (from .state)) × (eqb (pairsWord (now d)) 0 ≡ false) × (i + 16 ≤ length (now x)) × (later ≡ laterState (now d)) ⌝ }
-    ensures { λ r. ⌜ Ran (now (d .entry)) (now (x .entry)) i 16 (from .state) (from .seen) (r .state) (r .seen) ⌝ }
+    requires { ⌜ (Block (now d) k (now x) i (from .state) later) × (eqb (pairsWord (now d)) 0 ≡ false) ⌝ }
+    ensures { λ r. ⌜ RanBy (now (d .entry)) (now (x .entry)) i 16 from r ⌝ }
 {
     let mut s = from.state;
     let mut f = from.seen;
@@ -40,8 +39,8 @@ fn pairs_seen(d: &[u16], k: usize, x: &[u8], i: usize, from: Fresh, later: usize
 
 // Goes on by the bytes from `start` to `end`.
 fn bytes_seen(d: &[u16], x: &[u8], start: usize, end: usize, from: Fresh, later: usize) -> Fresh
-    requires { ⌜ (Ranged (now d)) × (State (now d) (from .state)) × (start ≤ end) × (end ≤ length (now x)) × (later ≡ laterState (now d)) ⌝ }
-    ensures { λ r. ⌜ Ran (now (d .entry)) (now (x .entry)) start (end - start) (from .state) (from .seen) (r .state) (r .seen) ⌝ }
+    requires { ⌜ Part (now d) (now x) start end (from .state) later ⌝ }
+    ensures { λ r. ⌜ RanBy (now (d .entry)) (now (x .entry)) start (end - start) from r ⌝ }
 {
     let mut s = from.state;
     let mut f = from.seen;
@@ -64,8 +63,8 @@ fn block_seen(
     from: Fresh,
     later: usize,
 ) -> Fresh
-    requires { ⌜ (Ready (now d) k (from .state)) × («pairs» ≡ not (eqb (pairsWord (now d)) 0)) × (i + 16 ≤ length (now x)) × (later ≡ laterState (now d)) ⌝ }
-    ensures { λ r. ⌜ Ran (now (d .entry)) (now (x .entry)) i 16 (from .state) (from .seen) (r .state) (r .seen) ⌝ }
+    requires { ⌜ (Block (now d) k (now x) i (from .state) later) × («pairs» ≡ not (eqb (pairsWord (now d)) 0)) ⌝ }
+    ensures { λ r. ⌜ RanBy (now (d .entry)) (now (x .entry)) i 16 from r ⌝ }
 {
     if pairs {
         return pairs_seen(d, k, x, i, from, later);

@@ -90,7 +90,8 @@ fn seek_both(d: &[u16], p: &[u16], x: &[u8], at: usize, least: usize) -> Found
 // Finds the leftmost longest match of at least so many bytes. `rest` is the whole text from place `at` on.
 pub fn seek(d: &[u16], rest: &[u8], at: usize, least: usize) -> Found
     requires { ⌜ (SeekRanged (now d)) × (at + length (now rest) < 2 ^ 63) × (least ≤ 1) ⌝ }
-    ensures { λ r. ⌜ (Inside at least (length (now (rest .entry))) r) × ((t : List ℕ) → Seeks t (now (d .entry)) → Finds t (now (rest .entry)) at least r) ⌝ }
+    ensures { λ r. ⌜ (Inside at least (length (now (rest .entry))) r)
+        × ((t : List ℕ) → Seeks t (now (d .entry)) → Finds t (now (rest .entry)) at least r) ⌝ }
 {
     let n = d[LENGTH] as usize;
     seek_both(&d[..n], &d[n..], rest, at, least)

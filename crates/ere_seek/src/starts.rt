@@ -1,12 +1,9 @@
 // Where a match may start.
 ghost use mathlib.Core.Path.{_≡_};
-ghost use mathlib.Core.Bool.{not};
 ghost use Prim.Native.Nat.{_≤_, _<_, _^_};
 ghost use lib.ListN.{length};
-ghost use lib.Dec.{eqb};
-ghost use Rattle.ere_automaton.specs.Layout.{laterState, acceptedState, nextIn};
 ghost use Rattle.ere_automaton.specs.Automaton.{Ranged};
-ghost use Rattle.ere_seek.specs.Starts.{Passed, Candidate};
+ghost use Rattle.ere_seek.specs.Starts.{mayBegin, Passed, Candidate};
 use crate::states;
 use ere_automaton::ACCEPTED;
 use ere_automaton::FIRST;
@@ -16,7 +13,7 @@ use ere_automaton::SKIPS;
 // Tells whether a match may begin with the byte.
 fn begins(d: &[u16], b: u8) -> bool
     requires { ⌜ Ranged (now d) ⌝ }
-    ensures { λ r. ⌜ r ≡ not (eqb (nextIn (now (d .entry)) (laterState (now (d .entry))) b) (acceptedState (now (d .entry)))) ⌝ }
+    ensures { λ r. ⌜ r ≡ mayBegin (now (d .entry)) b ⌝ }
 {
     states::next(d, d[LATER] as usize, b) != d[ACCEPTED] as usize
 }

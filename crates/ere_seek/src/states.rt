@@ -1,7 +1,7 @@
 // The states of an automaton.
 ghost use mathlib.Core.Path.{_≡_};
 ghost use mathlib.Core.Bool.{cond};
-ghost use Prim.Native.Nat.{_+_, _≤_, _<_};
+ghost use Prim.Native.Nat.{_+_, _<_};
 ghost use Rattle.ere_automaton.specs.Layout.{State, nextIn, endWord};
 ghost use Rattle.ere_automaton.specs.Automaton.{Ranged};
 ghost use Rattle.ere_automaton.specs.Scan.{Ready};

@@ -12,12 +12,11 @@ use Rattle.ere_seek.proofs.Following.{at-next, bounds-next, ready-stepp
 use Rattle.ere_seek.proofs.Following.{followed}
 use Rattle.ere_seek.proofs.one.by_one.Statement.{statement}
 use Rattle.ere_seek.proofs.one.by_one.Tie as tie
-use Rattle.ere_seek.proofs.one.by_one.Reads as reads
-use Rattle.ere_seek.proofs.one.by_one.Lts as lts
-use Rattle.ere_seek.proofs.one.one_more.Reads as one-more-reads
 
 abbrev Inv-loop : tie.InvT-loop
-Inv-loop d k x dead l₀ l = (Ready d k (l .state)) × (Bounds x (l₀ .best) l) × (l₀ .at ≤ l .at) × ((s : ℕ) (first : Bool) → s ≤ l₀ .at → Means d x s first l₀ → Means d x s first l)
+Inv-loop d k x dead l₀ l =
+    (Ready d k (l .state)) × (Bounds x (l₀ .best) l) × (l₀ .at ≤ l .at)
+    × ((s : ℕ) (first : Bool) → s ≤ l₀ .at → Means d x s first l₀ → Means d x s first l)
 
 abbrev μ-loop : tie.MeasureT-loop
 μ-loop d k x dead l₀ l = length x - l .at
@@ -30,7 +29,7 @@ cast-dead c = omega (arith, c .shared-slice-known3 .given 3)
 
 loop-holds : tie.Need-loop-holds Inv-loop μ-loop
 loop-holds c =
-    let p = (c .before .before .before .pre) in (
+    let p = c .before .before .before .pre in (
       p .0,
       record { on = p .1; inside = p .2; from = le-refl _; to = p .1 },
       le-refl _,
@@ -42,10 +41,13 @@ one-more-requires c κs = (c .before .before .loop .inv .0, c .if1 .taken)
 
 returns : tie.Need-returns Inv-loop μ-loop
 returns c =
-    let a = (c .before .before .before .before .before .before .before .before .before .args) in
-    let l = (c .before .before .before .before .before .loop) in
-    let r = (c .before .before .one-more) in
-    let bytes : (n : ℕ) → getD (a .x .now) n 0 < 256 = λ n. c .before .before .before .before .before .before .before .shared-slice-known2 .given n .fits in
+    let in-loop = c .before .before .before .before .before in
+    let known = in-loop .before .before in
+    let start = known .before .before in
+    let a = start .args in
+    let l = in-loop .loop in
+    let r = c .before .before .one-more in
+    let bytes : (n : ℕ) → getD (a .x .now) n 0 < 256 = λ n. known .shared-slice-known2 .given n .fits in
     let h = c .before .before .before .if1 .taken in
     let i = l .inv in
     let d = a .d .now in
@@ -61,9 +63,9 @@ returns c =
 
 loop-less : tie.Need-loop-less Inv-loop μ-loop
 loop-less c =
-    let a = (c .before .before .before .before .before .before .before .before .before .args) in
-    let l = (c .before .before .before .before .before .loop) in
-    let r = (c .before .before .one-more) in
+    let a = c .before .before .before .before .before .before .before .before .before .args in
+    let l = c .before .before .before .before .before .loop in
+    let r = c .before .before .one-more in
     let f = eqb (l .l .at + 1) (length (a .x .now)) in
     let z = at-next (a .d .now) (a .x .now) f (l .l) (r .result) (r .ensures) in
     let h = c .before .before .before .if1 .taken in
@@ -71,10 +73,13 @@ loop-less c =
 
 loop-again : tie.Need-loop-again Inv-loop μ-loop
 loop-again c =
-    let a = (c .before .before .before .before .before .before .before .before .before .args) in
-    let l = (c .before .before .before .before .before .loop) in
-    let r = (c .before .before .one-more) in
-    let bytes : (n : ℕ) → getD (a .x .now) n 0 < 256 = λ n. c .before .before .before .before .before .before .before .shared-slice-known2 .given n .fits in
+    let in-loop = c .before .before .before .before .before in
+    let known = in-loop .before .before in
+    let start = known .before .before in
+    let a = start .args in
+    let l = in-loop .loop in
+    let r = c .before .before .one-more in
+    let bytes : (n : ℕ) → getD (a .x .now) n 0 < 256 = λ n. known .shared-slice-known2 .given n .fits in
     let h = c .before .before .before .if1 .taken in
     let i = l .inv in
     let d = a .d .now in
@@ -91,9 +96,11 @@ loop-again c =
 
 returns-2 : tie.Need-returns-2 Inv-loop μ-loop
 returns-2 c =
-    let a = (c .before .before .before .before .before .before .args) in
-    let l = (c .before .before .loop) in
-    let bytes : (n : ℕ) → getD (a .x .now) n 0 < 256 = λ n. c .before .before .before .before .shared-slice-known2 .given n .fits in
+    let known = c .before .before .before .before in
+    let start = known .before .before in
+    let a = start .args in
+    let l = c .before .before .loop in
+    let bytes : (n : ℕ) → getD (a .x .now) n 0 < 256 = λ n. known .shared-slice-known2 .given n .fits in
     let i = l .inv in
     let z : l .l .at ≡ length (a .x .now) = omega (arith, c .if1 .left, i .1 .inside) in
     followed (a .d .now) (a .x .now) (a .from) (l .l) (i .1)

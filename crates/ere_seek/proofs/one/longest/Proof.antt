@@ -1,5 +1,5 @@
 -- `longest` meets its contract: the start is followed by pairs, if there are some, and then by bytes.
-use mathlib.Core.Path.{_≡_, refl, sym, subst}
+use mathlib.Core.Path.{refl, sym, subst}
 use mathlib.Core.Logic.{⊎-elim}
 use Prim.Native.Nat.{ℕ, _<_}
 use native.Mathlib.Omega.{arith}
@@ -36,20 +36,28 @@ shared-slice-read-if1 c = search needs
 
 by-two-requires : tie.Need-by-two-requires
 by-two-requires c κs =
-    let a = (c .before .before .before .before .before .before .before .args) in
-    let p = (c .before .before .before .before .before .before .before .pre) in (
-      entry-ready (a .d .now) (a .first) _ (p .0) (c .before .before .entered .ensures),
+    let y = c .before .before in
+    let e = y .before .before .before .before .before in
+    let a = e .args in
+    let p = e .pre in (
+      record {
+        ready = entry-ready (a .d .now) (a .first) _ (p .0) (y .entered .ensures);
+        bounds = bounds-start (a .x .now) (a .s) _ (p .1) refl refl;
+        small = p .2;
+      },
       ne-eqb _ _ (c .if1 .taken),
-      bounds-start (a .x .now) (a .s) _ (p .1) refl refl,
-      p .2,
     )
 
 returns : tie.Need-returns
 returns c =
-    let a = (c .before .before .before .before .before .before .before .before .before .before .args) in
-    let bytes : (n : ℕ) → getD (a .x .now) n 0 < 256 = λ n. c .before .before .before .before .before .before .before .before .shared-slice-known2 .given n .fits in
+    let in-entered = c .before .before .before .before .before in
+    let known = in-entered .before .before .before in
+    let start = known .before .before in
+    let a = start .args in
+    let bytes : (n : ℕ) → getD (a .x .now) n 0 < 256 = λ n. known .shared-slice-known2 .given n .fits in
     longest-paired (a .d .now) (a .x .now) (a .s) (a .first) (a .until) _ (c .before .before .by-two .result)
-    (means-start (a .d .now) (a .x .now) bytes (a .s) (a .first) _ (c .before .before .before .before .before .entered .ensures) refl refl) (c .before .before .by-two .ensures)
+    (means-start (a .d .now) (a .x .now) bytes (a .s) (a .first) _ (in-entered .entered .ensures) refl refl)
+    (c .before .before .by-two .ensures)
     (c .if2 .taken)
 
 -- where the rest is followed by bytes
@@ -64,13 +72,17 @@ AtRest =
       by-one-reads.Learnt,
     ) reads.Pre reads.Post
 
-going : (c : AtRest) → let a = (c .before .before .before .before .before .before .before .args) in Going (a .d .now) (a .x .now) (a .s) (a .first) (c .if1 .l)
+going : (c : AtRest)
+    → let a = c .before .before .before .before .before .before .before .args in
+    Going (a .d .now) (a .x .now) (a .s) (a .first) (c .if1 .l)
 going c =
-    let a = (c .before .before .before .before .before .before .before .args) in
-    let p = (c .before .before .before .before .before .before .before .pre) in
+    let known = c .before .before .before .before .before in
+    let start = known .before .before in
+    let a = start .args in
+    let p = start .pre in
     let d = a .d .now in
     let x = a .x .now in
-    let bytes : (n : ℕ) → getD x n 0 < 256 = λ n. c .before .before .before .before .before .shared-slice-known2 .given n .fits in
+    let bytes : (n : ℕ) → getD x n 0 < 256 = λ n. known .shared-slice-known2 .given n .fits in
     let M = means-start d x bytes (a .s) (a .first) _ (c .before .before .entered .ensures) refl refl in
     ⊎-elim
     (λ w.
@@ -86,12 +98,13 @@ going c =
 
 by-one-requires : tie.Need-by-one-requires
 by-one-requires c κs =
+    let start = c .before .before .before .before .before .before .before in
     let g = going c in
-    (record { ranged = c .before .before .before .before .before .before .before .pre .0; state = g .0; classes = refl }, g .1 .to, g .1 .inside)
+    (record { ranged = start .pre .0; state = g .0; classes = refl }, g .1 .to, g .1 .inside)
 
 returns-2 : tie.Need-returns-2
 returns-2 c =
-    let a = (c .before .before .before .before .before .before .before .before .args) in
+    let a = c .before .before .before .before .before .before .before .before .args in
     longest-followed (a .d .now) (a .x .now) (a .s) (a .first) (a .until) _ _ (going (c .before)) (c .by-one .ensures)
 
 pub longest-spec : {M : Type 1} → statement M

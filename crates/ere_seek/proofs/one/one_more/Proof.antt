@@ -6,12 +6,6 @@ use Rattle.ere_seek.proofs.Following.{ready-next, stepped-is}
 use borrow.Author.Needs.{needs}
 use Rattle.ere_seek.proofs.one.one_more.Statement.{statement}
 use Rattle.ere_seek.proofs.one.one_more.Tie as tie
-use Rattle.ere_seek.proofs.one.one_more.Reads as reads
-use Rattle.ere_seek.proofs.one.one_more.Lts as lts
-use Rattle.ere_seek.proofs.states.accept_bits.Reads as accept-bits-reads
-use Rattle.ere_seek.proofs.states.accepted.Reads as accepted-reads
-use Rattle.ere_seek.proofs.states.either.Reads as either-reads
-use Rattle.ere_seek.proofs.states.next.Reads as next-reads
 
 shared-slice-read-next : tie.Need-shared-slice-read-next
 shared-slice-read-next c = search needs
@@ -21,9 +15,11 @@ next-requires c κs = search needs
 
 accept-bits-requires : tie.Need-accept-bits-requires
 accept-bits-requires c κs =
-    let a = (c .before .before .before .before .args) in
+    let start = c .before .before .before .before in
+    let a = start .args in
     let b = getD (a .x .now) (a .l .at) 0 in
-    ready-next (a .d .now) (a .k) (a .l .state) b _ (c .before .before .before .before .pre .0) (c .before .shared-slice-known3 .given (a .l .at) .fits) (c .next .ensures)
+    ready-next (a .d .now) (a .k) (a .l .state) b _ (start .pre .0)
+    (c .before .shared-slice-known3 .given (a .l .at) .fits) (c .next .ensures)
 
 add-accepted : tie.Need-add-accepted
 add-accepted c = search needs
@@ -42,8 +38,10 @@ either-requires c κs = search needs
 
 returns : tie.Need-returns
 returns c =
-    let a = (c .before .before .before .before .before .before .before .args) in
-    stepped-is (a .d .now) (a .x .now) (a .l) (eqb (a .l .at + 1) (length (a .x .now))) _ _ _ _ (c .before .before .before .next .ensures) (c .before .before .accept-bits .ensures) (c .before .accepted .ensures)
+    let start = c .before .before .before .before .before .before .before in
+    let a = start .args in
+    stepped-is (a .d .now) (a .x .now) (a .l) (eqb (a .l .at + 1) (length (a .x .now))) _ _ _ _
+    (c .before .before .before .next .ensures) (c .before .before .accept-bits .ensures) (c .before .accepted .ensures)
     (c .either .ensures)
 
 pub one-more-spec : {M : Type 1} → statement M

@@ -1,5 +1,5 @@
 -- `two_more` meets its contract, part by part.
-use mathlib.Core.Path.{_≡_, refl}
+use mathlib.Core.Path.{refl}
 use Prim.Native.Nat.{_+_}
 use lib.ListN.{getD}
 use Rattle.ere_automaton.specs.Layout.{nextIn}
@@ -7,13 +7,6 @@ use Rattle.ere_seek.proofs.Following.{ready-next, pair-two, stepped-two
 use borrow.Author.Needs.{needs}
 use Rattle.ere_seek.proofs.one.two_more.Statement.{statement}
 use Rattle.ere_seek.proofs.one.two_more.Tie as tie
-use Rattle.ere_seek.proofs.one.two_more.Reads as reads
-use Rattle.ere_seek.proofs.one.two_more.Lts as lts
-use Rattle.ere_automaton.proofs.pair.Reads as pair-reads
-use Rattle.ere_seek.proofs.states.accept_bits.Reads as accept-bits-reads
-use Rattle.ere_seek.proofs.states.accepted.Reads as accepted-reads
-use Rattle.ere_seek.proofs.states.either.Reads as either-reads
-use Rattle.ere_seek.proofs.states.next.Reads as next-reads
 
 shared-slice-read-next : tie.Need-shared-slice-read-next
 shared-slice-read-next c = search needs
@@ -35,9 +28,12 @@ pair-requires c κs = search needs
 
 accept-bits-requires : tie.Need-accept-bits-requires
 accept-bits-requires c κs =
-    let a = (c .before .before .before .before .before .before .before .args) in
+    let known = c .before .before .before .before in
+    let start = known .before .before .before in
+    let a = start .args in
     let b = getD (a .x .now) (a .l .at) 0 in
-    ready-next (a .d .now) (a .k) (a .l .state) b _ (c .before .before .before .before .before .before .before .pre .0) (c .before .before .before .before .shared-slice-known3 .given (a .l .at) .fits) (c .before .before .before .next .ensures)
+    ready-next (a .d .now) (a .k) (a .l .state) b _ (start .pre .0) (known .shared-slice-known3 .given (a .l .at) .fits)
+    (c .before .before .before .next .ensures)
 
 accepted-requires : tie.Need-accepted-requires
 accepted-requires c κs = search needs

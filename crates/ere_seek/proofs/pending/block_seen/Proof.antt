@@ -7,13 +7,9 @@ use Rattle.ere_seek.specs.Pending.{Ran}
 use borrow.Author.Needs.{needs}
 use Rattle.ere_seek.proofs.pending.block_seen.Statement.{statement}
 use Rattle.ere_seek.proofs.pending.block_seen.Tie as tie
-use Rattle.ere_seek.proofs.pending.block_seen.Reads as reads
-use Rattle.ere_seek.proofs.pending.block_seen.Lts as lts
-use Rattle.ere_seek.proofs.pending.bytes_seen.Reads as bytes-seen-reads
-use Rattle.ere_seek.proofs.pending.pairs_seen.Reads as pairs-seen-reads
 
 pairs-seen-requires : tie.Need-pairs-seen-requires
-pairs-seen-requires c κs = let p = (c .before .before .before .pre) in (p .0, not-true _ (sym (p .1) ∙ c .if1 .taken), p .2, p .3)
+pairs-seen-requires c κs = let p = c .before .before .before .pre in (p .0, not-true _ (sym (p .1) ∙ c .if1 .taken))
 
 returns : tie.Need-returns
 returns c = search needs
@@ -26,7 +22,7 @@ bytes-seen-requires c κs = search needs
 
 returns-2 : tie.Need-returns-2
 returns-2 c =
-    let a = (c .before .before .before .before .args) in
+    let a = c .before .before .before .before .args in
     let f = a .from in
     let r = c .bytes-seen .result in
     let z : a .i + 16 - a .i ≡ 16 = omega arith in

@@ -1,5 +1,5 @@
 -- `first_start` meets its contract: no start from s to where nothing was pending has a match.
-use mathlib.Core.Path.{_≡_, refl, sym, ap, subst, _∙_}
+use mathlib.Core.Path.{_≡_, refl, sym, subst, _∙_}
 use mathlib.Core.Bool.{true, not}
 use mathlib.Core.Logic.{⊎-elim}
 use mathlib.Core.List.{List}
@@ -59,9 +59,11 @@ entered-requires c κs = c .before .before .before .before .before .before .befo
 
 loop-holds : tie.Need-loop-holds Inv-loop μ-loop
 loop-holds c =
-    let a = (c .before .before .before .before .before .before .before .before .args) in
-    let bytes : (n : ℕ) → getD (a .x .now) n 0 < 256 = λ n. c .before .before .before .before .before .before .shared-slice-known2 .given n .fits in
-    kept-start (a .d .now) (a .x .now) bytes (a .s) (a .first) _ (c .before .before .before .before .before .before .before .before .pre .0) (c .before .before .before .before .before .before .before .before .pre .2) (c .entered .ensures)
+    let known = c .before .before .before .before .before .before in
+    let start = known .before .before in
+    let a = start .args in
+    let bytes : (n : ℕ) → getD (a .x .now) n 0 < 256 = λ n. known .shared-slice-known2 .given n .fits in
+    kept-start (a .d .now) (a .x .now) bytes (a .s) (a .first) _ (start .pre .0) (start .pre .2) (c .entered .ensures)
 
 add-loop : tie.Need-add-loop Inv-loop μ-loop
 add-loop c = omega (arith, c .loop .inv .inside)
@@ -92,25 +94,35 @@ bytes c n = c .before .before .before .before .before .before .before .shared-sl
 
 -- where a turn may be
 abbrev KeptAt : AtLoop → ℕ → Type 0
-KeptAt c i = Kept (words c) (textOf c) (c .before .before .before .before .before .before .before .before .before .args .s) (c .before .before .before .before .before .before .before .before .before .args .first) (c .loop .f .state) i (c .loop .f .seen)
+KeptAt c i =
+    let a = c .before .before .before .before .before .before .before .before .before .args in
+    Kept (words c) (textOf c) (a .s) (a .first) (c .loop .f .state) i (c .loop .f .seen)
 
 -- past blocks, to j
 skip-kept : (c : AtLoop) (r j : ℕ) → Skipped (rangesOf (words c)) (textOf c) (c .loop .i) r → j ≡ r
     → eqb (c .loop .f .state) (laterState (words c)) ≡ true → not (eqb (skipsWord (words c)) 0) ≡ true → KeptAt c j
 skip-kept c r j S e later skips =
-    let a = (c .before .before .before .before .before .before .before .before .before .args) in
+    let a = c .before .before .before .before .before .before .before .before .before .args in
     let f = c .loop .f in
     kept-skipped (words c) (textOf c) (bytes c) (a .s) (a .first) (f .state) (c .loop .i) (f .seen) r j
     (eqb-true _ _ later) (not-true _ skips) S e (c .loop .inv)
 
 next-block-requires : tie.Need-next-block-requires Inv-loop μ-loop
-next-block-requires c κs = (c .before .before .before .before .before .before .before .before .before .before .before .before .before .pre .0 .head, c .before .before .before .before .before .before .before .before .before .before .before .before .before .pre .1, c .before .before .before .before .loop .inv .inside)
+next-block-requires c κs =
+    let in-loop = c .before .before .before .before in
+    let start = in-loop .before .before .before .before .before .before .before .before .before in
+    (start .pre .0 .head, start .pre .1, in-loop .loop .inv .inside)
 
 add-if3 : tie.Need-add-if3 Inv-loop μ-loop
 add-if3 c =
-    let l = (c .before .before .before .before .before) in
-    let r = (c .next-block) in
-    omega (arith, skipped-inside (rangesOf (words l)) (textOf l) (l .loop .i) (r .result) (r .ensures) (l .loop .inv .inside))
+    let in-5 = c .before .before .before .before .before in
+    let l = in-5 in
+    let r = c .next-block in
+    omega (
+      arith,
+      skipped-inside (rangesOf (words l)) (textOf l) (l .loop .i) (r .result) (r .ensures)
+          (l .loop .inv .inside),
+    )
 
 -- where a block is taken
 abbrev AtBlock : Type 0
@@ -131,7 +143,7 @@ AtBlock =
 at-block : (c : AtBlock) → let l = (c .before .before) in
     (l .loop .i ≤ c .if1 .i) × (c .if1 .i + 16 < length (textOf l)) × (KeptAt l (c .if1 .i))
 at-block c =
-    let l = (c .before .before) in
+    let l = c .before .before in
     ⊎-elim
     (λ w. (
       omega (arith, w .5, w .3 .ensures .on),
@@ -148,7 +160,15 @@ at-block c =
 block-seen-requires : tie.Need-block-seen-requires Inv-loop μ-loop
 block-seen-requires c κs =
     let w = at-block c in
-    (record { ranged = c .before .before .before .before .before .before .before .before .before .before .before .pre .0; state = c .before .before .loop .inv .state; classes = refl }, refl, omega arith, refl)
+    let l = c .before .before in
+    let R = l .before .before .before .before .before .before .before .before .before .pre .0 in (
+      record {
+        ready = record { ranged = R; state = l .loop .inv .state; classes = refl };
+        inside = omega arith;
+        is-later = refl;
+      },
+      refl,
+    )
 
 -- after it
 abbrev Blocked : Type 0
@@ -166,22 +186,30 @@ Blocked =
       accept-bits-reads.Learnt,
     ) reads.Pre reads.Post Inv-loop μ-loop
 
-block-kept : (c : Blocked) → let l = (c .before .before .before) in let r = c .block-seen .result in
-    Kept (words l) (textOf l) (c .before .before .before .before .before .before .before .before .before .before .before .before .args .s) (c .before .before .before .before .before .before .before .before .before .before .before .before .args .first) (r .state) (c .before .if1 .i + 16) (r .seen)
+block-kept : (c : Blocked)
+    → let l = c .before .before .before in
+    let a = l .before .before .before .before .before .before .before .before .before .args in
+    let r = c .block-seen .result in
+    Kept (words l) (textOf l) (a .s) (a .first) (r .state) (c .before .if1 .i + 16) (r .seen)
 block-kept c =
-    let l = (c .before .before .before) in
-    let a = (c .before .before .before .before .before .before .before .before .before .before .before .before .args) in
+    let start = c .before .before .before .before .before .before .before .before .before .before .before .before in
+    let l = c .before .before .before in
+    let a = start .args in
     let f = l .loop .f in
     let r = c .block-seen .result in
     let w = at-block (c .before) in
-    kept-ran (words l) (textOf l) (bytes l) (a .s) (a .first) (c .before .if1 .i) 16 (f .state) (f .seen) (r .state) (r .seen)
-    (c .before .before .before .before .before .before .before .before .before .before .before .before .pre .0) (omega arith) (c .block-seen .ensures) (w .2)
+    kept-ran (words l) (textOf l) (bytes l) (a .s) (a .first) (c .before .if1 .i) 16 (f .state) (f .seen) (r .state)
+    (r .seen)
+    (start .pre .0) (omega arith) (c .block-seen .ensures) (w .2)
 
 returns : tie.Need-returns Inv-loop μ-loop
 returns c =
-    let l = (c .before .before .before .before .before) in
+    let in-5 = c .before .before .before .before .before in
+    let start = in-5 .before .before .before .before .before .before .before .before .before in
+    let l = in-5 in
     let r = c .before .before .block-seen .result in
-    kept-cleared (words l) (textOf l) (bytes l) (c .before .before .before .before .before .before .before .before .before .before .before .before .before .before .args .s) (c .before .before .before .before .before .before .before .before .before .before .before .before .before .before .args .first) (r .state) (c .before .before .before .if1 .i + 16) (r .seen)
+    kept-cleared (words l) (textOf l) (bytes l) (start .args .s) (start .args .first) (r .state)
+    (c .before .before .before .if1 .i + 16) (r .seen)
     (block-kept (c .before .before))
 
 add-i : tie.Need-add-i Inv-loop μ-loop
@@ -212,7 +240,7 @@ Out =
 
 at-exit : (c : Out) → KeptAt (c .before) (c .loop-test .i)
 at-exit c =
-    let l = (c .before) in
+    let l = c .before in
     ⊎-elim (λ w. subst (KeptAt l) (sym (w .1)) (l .loop .inv))
     (λ w. skip-kept l (w .4 .result) (c .loop-test .i) (w .4 .ensures) (w .6) (w .3 .taken) (w .1 .taken))
     (c .loop-test .came)
@@ -220,7 +248,8 @@ at-exit c =
 bytes-seen-requires : tie.Need-bytes-seen-requires Inv-loop μ-loop
 bytes-seen-requires c κs =
     let w = at-exit c in
-    (c .before .before .before .before .before .before .before .before .before .before .pre .0, w .state, w .inside, omega arith, refl)
+    let R = c .before .before .before .before .before .before .before .before .before .before .pre .0 in
+    record { ranged = R; state = w .state; order = w .inside; inside = omega arith; is-later = refl }
 
 -- after the rest of the text
 abbrev Last : Type 0
@@ -238,11 +267,15 @@ Last =
       accept-bits-reads.Learnt,
     ) reads.Pre reads.Post Inv-loop μ-loop
 
-last-kept : (c : Last) → let l = (c .before .before) in let r = c .bytes-seen .result in
-    Kept (words l) (textOf l) (c .before .before .before .before .before .before .before .before .before .before .before .args .s) (c .before .before .before .before .before .before .before .before .before .before .before .args .first) (r .state) (length (textOf l)) (r .seen)
+last-kept : (c : Last)
+    → let l = c .before .before in
+    let a = l .before .before .before .before .before .before .before .before .before .args in
+    let r = c .bytes-seen .result in
+    Kept (words l) (textOf l) (a .s) (a .first) (r .state) (length (textOf l)) (r .seen)
 last-kept c =
-    let l = (c .before .before) in
-    let a = (c .before .before .before .before .before .before .before .before .before .before .before .args) in
+    let start = c .before .before .before .before .before .before .before .before .before .before .before in
+    let l = c .before .before in
+    let a = start .args in
     let f = l .loop .f in
     let r = c .bytes-seen .result in
     let w = at-exit (c .before) in
@@ -251,16 +284,21 @@ last-kept c =
     let z : i + (n - i) ≡ n = omega (arith, w .inside) in
     subst (λ (j : ℕ). Kept (words l) (textOf l) (a .s) (a .first) (r .state) j (r .seen)) z
     (kept-ran (words l) (textOf l) (bytes l) (a .s) (a .first) i (n - i) (f .state) (f .seen) (r .state) (r .seen)
-    (c .before .before .before .before .before .before .before .before .before .before .before .pre .0) (omega arith) (c .bytes-seen .ensures) w)
+    (start .pre .0) (omega arith) (c .bytes-seen .ensures) w)
 
 accept-bits-requires : tie.Need-accept-bits-requires Inv-loop μ-loop
-accept-bits-requires c κs = record { ranged = c .before .before .before .before .before .before .before .before .before .before .before .pre .0; state = last-kept c .state; classes = refl }
+accept-bits-requires c κs =
+    let start = c .before .before .before .before .before .before .before .before .before .before .before in
+    record { ranged = start .pre .0; state = last-kept c .state; classes = refl }
 
 returns-2 : tie.Need-returns-2 Inv-loop μ-loop
 returns-2 c =
-    let l = (c .before .before .before .before) in
+    let in-4 = c .before .before .before .before in
+    let start = in-4 .before .before .before .before .before .before .before .before .before in
+    let l = in-4 in
     let r = c .before .before .bytes-seen .result in
-    kept-cleared (words l) (textOf l) (bytes l) (c .before .before .before .before .before .before .before .before .before .before .before .before .before .args .s) (c .before .before .before .before .before .before .before .before .before .before .before .before .before .args .first) (r .state) (length (textOf l)) (r .seen)
+    kept-cleared (words l) (textOf l) (bytes l) (start .args .s) (start .args .first) (r .state) (length (textOf l))
+    (r .seen)
     (last-kept (c .before .before))
 
 add-result : tie.Need-add-result Inv-loop μ-loop
@@ -268,9 +306,12 @@ add-result c = omega arith
 
 returns-3 : tie.Need-returns-3 Inv-loop μ-loop
 returns-3 c =
-    let l = (c .before .before .before .before) in
+    let in-4 = c .before .before .before .before in
+    let start = in-4 .before .before .before .before .before .before .before .before .before in
+    let l = in-4 in
     let r = c .before .before .bytes-seen .result in
-    kept-none (words l) (textOf l) (bytes l) (c .before .before .before .before .before .before .before .before .before .before .before .before .before .args .s) (c .before .before .before .before .before .before .before .before .before .before .before .before .before .args .first) (r .state) (length (textOf l)) (r .seen) refl
+    kept-none (words l) (textOf l) (bytes l) (start .args .s) (start .args .first) (r .state) (length (textOf l))
+    (r .seen) refl
     (sym (c .before .accept-bits .ensures) ∙ c .if5 .left) (last-kept (c .before .before))
 
 pub first-start-spec : {M : Type 1} → statement M

@@ -1,5 +1,5 @@
 -- `pairs_seen` meets its contract: s is the state after j bytes, f the last place where nothing was pending.
-use mathlib.Core.Path.{_≡_, refl, sym, ap, subst, _∙_}
+use mathlib.Core.Path.{_≡_, refl, sym, subst}
 use Prim.Native.Nat.{ℕ, _+_, _-_, _%_, _≤_, _<_}
 use native.Mathlib.Omega.{arith}
 use lib.ListN.{getD}
@@ -9,10 +9,6 @@ use Rattle.ere_seek.proofs.Following.{ready-next, pair-two}
 use Rattle.ere_seek.proofs.Waiting.{ran-none, ran-two}
 use Rattle.ere_seek.proofs.pending.pairs_seen.Statement.{statement}
 use Rattle.ere_seek.proofs.pending.pairs_seen.Tie as tie
-use Rattle.ere_seek.proofs.pending.pairs_seen.Reads as reads
-use Rattle.ere_seek.proofs.pending.pairs_seen.Lts as lts
-use Rattle.ere_automaton.proofs.pair.Reads as pair-reads
-use Rattle.ere_seek.proofs.states.either.Reads as either-reads
 
 abbrev Inv-loop : tie.InvT-loop
 Inv-loop d k x i later s₀ f₀ j₀ s f j = (j ≤ 16) × (j % 2 ≡ 0) × (Ready d k s) × (Ran d x i j s₀ f₀ s f)
@@ -21,7 +17,7 @@ abbrev μ-loop : tie.MeasureT-loop
 μ-loop d k x i later s₀ f₀ j₀ s f j = 16 - j
 
 loop-holds : tie.Need-loop-holds Inv-loop μ-loop
-loop-holds c = (omega arith, refl, c .before .before .pre .0, ran-none _ _ _ _ _)
+loop-holds c = (omega arith, refl, c .before .before .pre .0 .ready, ran-none _ _ _ _ _)
 
 add-either : tie.Need-add-either Inv-loop μ-loop
 add-either c = omega arith
@@ -45,7 +41,10 @@ shared-slice-read-pair-2 : tie.Need-shared-slice-read-pair-2 Inv-loop μ-loop
 shared-slice-read-pair-2 c = omega arith
 
 pair-requires : tie.Need-pair-requires Inv-loop μ-loop
-pair-requires c κs = (c .before .before .before .before .loop .inv .2, c .before .before .before .before .before .before .before .pre .1)
+pair-requires c κs =
+    let in-loop = c .before .before .before .before in
+    let start = in-loop .before .before .before in
+    (in-loop .loop .inv .2, start .pre .1)
 
 add-j : tie.Need-add-j Inv-loop μ-loop
 add-j c = omega arith
@@ -55,28 +54,33 @@ loop-less c = omega arith
 
 loop-again : tie.Need-loop-again Inv-loop μ-loop
 loop-again c =
-    let a = (c .before .before .before .before .before .before .before .before .args) in
+    let in-loop = c .before .before .before .before .before in
+    let known = in-loop .before in
+    let start = known .before .before in
+    let a = start .args in
     let d = a .d .now in
     let x = a .x .now in
-    let l = (c .before .before .before .before .before .loop) in
+    let l = in-loop .loop in
     let i = a .i + l .j in
-    let bytes : (n : ℕ) → getD x n 0 < 256 = λ n. c .before .before .before .before .before .before .shared-slice-known2 .given n .fits in
+    let bytes : (n : ℕ) → getD x n 0 < 256 = λ n. known .shared-slice-known2 .given n .fits in
     let b = getD x i 0 in
     let e = getD x (i + 1) 0 in
     let A = l .inv .2 in
-    let two = pair-two d (a .k) (l .s) b e _ A (c .before .before .before .before .before .before .before .before .pre .1) (bytes i) (bytes (i + 1)) (c .pair .ensures) in (
+    let o = c .before .before .before .either in
+    let two = pair-two d (a .k) (l .s) b e _ A (start .pre .1) (bytes i) (bytes (i + 1)) (c .pair .ensures) in (
       omega arith,
       omega arith,
       ready-next d (a .k) _ e _ (ready-next d (a .k) (l .s) b _ A (bytes i) refl) (bytes (i + 1)) two,
-      subst (λ (q : ℕ). Ran d x (a .i) (l .j + 2) (a .from .state) (a .from .seen) q (c .before .before .before .either .result)) (sym two)
-          (ran-two d x (a .i) (a .from .state) (a .from .seen) (l .j) (l .s) (l .f) (l .inv .3) (a .later) _ (c .before .before .before .before .before .before .before .before .pre .3)
+      subst (λ (q : ℕ). Ran d x (a .i) (l .j + 2) (a .from .state) (a .from .seen) q (o .result)) (sym two)
+          (ran-two d x (a .i) (a .from .state) (a .from .seen) (l .j) (l .s) (l .f) (l .inv .3) (a .later) _
+          (start .pre .0 .is-later)
           (c .before .before .before .either .ensures)),
     )
 
 returns : tie.Need-returns Inv-loop μ-loop
 returns c =
-    let a = (c .before .before .before .before .args) in
-    let l = (c .before .loop) in
+    let a = c .before .before .before .before .args in
+    let l = c .before .loop in
     let z : l .j ≡ 16 = omega arith in
     subst (λ (n : ℕ). Ran (a .d .now) (a .x .now) (a .i) n (a .from .state) (a .from .seen) (l .s) (l .f)) z (l .inv .3)
 

@@ -1,13 +1,10 @@
 -- `empty_at` meets its contract, by whether the text starts.
-use mathlib.Core.Path.{_≡_, sym, ap, _∙_}
+use mathlib.Core.Path.{sym, ap, _∙_}
 use mathlib.Core.Bool.{Bool}
 use Rattle.ere_seek.specs.Seeking.{emptyAt}
 use borrow.Author.Needs.{needs}
 use Rattle.ere_seek.proofs.seeking.empty_at.Statement.{statement}
 use Rattle.ere_seek.proofs.seeking.empty_at.Tie as tie
-use Rattle.ere_seek.proofs.seeking.empty_at.Reads as reads
-use Rattle.ere_seek.proofs.seeking.empty_at.Lts as lts
-use Rattle.ere_seek.proofs.states.accepted.Reads as accepted-reads
 
 shared-slice-read-accepted : tie.Need-shared-slice-read-accepted
 shared-slice-read-accepted c = search needs
@@ -17,7 +14,7 @@ accepted-requires c κs = search needs
 
 returns : tie.Need-returns
 returns c =
-    let a = (c .before .before .before .before .args) in
+    let a = c .before .before .before .before .args in
     c .accepted .ensures ∙ ap (λ (y : Bool). emptyAt (a .d .now) y (a .last)) (sym (c .before .before .if1 .taken))
 
 add-accepted : tie.Need-add-accepted
@@ -34,7 +31,7 @@ accepted-requires-2 c κs = search needs
 
 returns-2 : tie.Need-returns-2
 returns-2 c =
-    let a = (c .before .before .before .before .args) in
+    let a = c .before .before .before .before .args in
     c .accepted2 .ensures ∙ ap (λ (y : Bool). emptyAt (a .d .now) y (a .last)) (sym (c .before .before .if1 .left))
 
 pub empty-at-spec : {M : Type 1} → statement M

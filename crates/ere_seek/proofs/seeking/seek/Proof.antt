@@ -1,7 +1,7 @@
 -- `seek` meets its contract: the words of both automata, one after the other.
 use mathlib.Core.Path.{_≡_, sym, subst}
 use mathlib.Core.List.{List}
-use Prim.Native.Nat.{ℕ, _-_, _≤_}
+use Prim.Native.Nat.{ℕ, _-_}
 use native.Mathlib.Nat.{le-refl}
 use native.Mathlib.Omega.{arith}
 use lib.ListN.{length, take, length-drop, length-take}
@@ -13,9 +13,6 @@ use Rattle.ere_seek.proofs.Leftmost.{both-of}
 use borrow.Author.Needs.{needs}
 use Rattle.ere_seek.proofs.seeking.seek.Statement.{statement}
 use Rattle.ere_seek.proofs.seeking.seek.Tie as tie
-use Rattle.ere_seek.proofs.seeking.seek.Reads as reads
-use Rattle.ere_seek.proofs.seeking.seek.Lts as lts
-use Rattle.ere_seek.proofs.seeking.seek_both.Reads as seek-both-reads
 
 shared-slice-read-n : tie.Need-shared-slice-read-n
 shared-slice-read-n c = omega (arith, simp length-take at (c .before .before .before .pre .0 .one .head))
@@ -24,7 +21,9 @@ cast-n : tie.Need-cast-n
 cast-n c = search needs
 
 slice-aggregate-seek-both : tie.Need-slice-aggregate-seek-both
-slice-aggregate-seek-both c = sym (length-take-le (oneLength (c .before .before .before .before .args .d .now)) (c .before .before .before .before .args .d .now) (c .before .before .before .before .pre .0 .inside))
+slice-aggregate-seek-both c =
+    let start = c .before .before .before .before in
+    sym (length-take-le (oneLength (start .args .d .now)) (start .args .d .now) (start .pre .0 .inside))
 
 mul-seek-both : tie.Need-mul-seek-both
 mul-seek-both c = search needs
@@ -44,15 +43,19 @@ rest-is d = take-all (length d - oneLength d) (pendingIn d) (simp length-drop (l
 
 seek-both-requires : tie.Need-seek-both-requires
 seek-both-requires c κs =
-    let p = (c .before .before .before .before .before .pre) in
-    (p .0 .one, subst Ranged (sym (rest-is (c .before .before .before .before .before .args .d .now))) (p .0 .pending), p .1, p .2)
+    let start = c .before .before .before .before .before in
+    let p = start .pre in
+    (p .0 .one, subst Ranged (sym (rest-is (start .args .d .now))) (p .0 .pending), p .1, p .2)
 
 returns : tie.Need-returns
 returns c =
-    let a = (c .before .before .before .before .before .before .args) in
+    let start = c .before .before .before .before .before .before in
+    let a = start .args in
     let d = a .d .now in
     let x = a .rest .now in
-    let F = subst (λ (l : List ℕ). FindsBoth (oneIn d) l x (a .at) (a .least) (c .seek-both .result)) (rest-is d) (c .seek-both .ensures) in
+    let r = c .seek-both in
+    let F =
+    subst (λ (l : List ℕ). FindsBoth (oneIn d) l x (a .at) (a .least) (r .result)) (rest-is d) (r .ensures) in
     (F .inside, λ t S. F .finds t (both-of t d S))
 
 pub seek-spec : {M : Type 1} → statement M

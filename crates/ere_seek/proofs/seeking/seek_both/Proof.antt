@@ -1,7 +1,13 @@
--- `seek_both` meets its contract: an empty match where the search starts, one of at least a byte, or an empty one at the end.
+-- `seek_both` meets its contract: an empty match where the search starts, one of at least a byte, or an empty one at
+-- the end.
 use mathlib.Core.Path.{_≡_, sym, _∙_}
+use mathlib.Core.Bool.{true, false}
 use mathlib.Core.Logic.{inl, inr, ⊎-elim}
+use Prim.Native.Nat.{_+_}
 use native.Mathlib.Omega.{arith}
+use lib.ListN.{length}
+use lib.Dec.{eqb}
+use Rattle.ere_seek.specs.Seeking.{emptyAt}
 use Rattle.ere_seek.proofs.Leftmost.{Missing, finds-first, finds-some, finds-last, finds-none}
 use borrow.Author.Needs.{needs}
 use Rattle.ere_seek.proofs.seeking.seek_both.Statement.{statement}
@@ -20,8 +26,10 @@ longest-requires c κs = search needs
 
 returns : tie.Need-returns
 returns c =
-    let a = (c .before .before .before .before .before .before .before .args) in
-    finds-first (a .d .now) (a .p .now) (a .x .now) (a .at) (a .least) (c .longest .result) (c .before .before .before .if1 .taken)
+    let start = c .before .before .before .before .before .before .before in
+    let a = start .args in
+    finds-first (a .d .now) (a .p .now) (a .x .now) (a .at) (a .least) (c .longest .result)
+    (c .before .before .before .if1 .taken)
     (sym (c .before .before .empty-at .ensures) ∙ c .before .if2 .taken) (c .longest .ensures)
 
 -- where no empty match is at the start of the search
@@ -36,10 +44,12 @@ Missed =
       seek-some-reads.Learnt,
     ) reads.Pre reads.Post
 
-missing : (c : Missed) → let a = (c .before .before .before .before .args) in Missing (a .d .now) (a .x .now) (a .at) (a .least)
+missing : (c : Missed)
+    → let a = c .before .before .before .before .args in Missing (a .d .now) (a .x .now) (a .at) (a .least)
 missing c =
+    let start = c .before .before .before .before in
     ⊎-elim (λ w. inl (w .0 .taken, sym (w .1 .ensures) ∙ w .2 .left))
-    (λ w. inr (omega (arith, w .left, c .before .before .before .before .pre .3)))
+    (λ w. inr (omega (arith, w .left, start .pre .3)))
     (c .if1 .came)
 
 seek-some-requires : tie.Need-seek-some-requires
@@ -62,22 +72,36 @@ add-t24 c = search needs
 
 returns-2 : tie.Need-returns-2
 returns-2 c =
-    let a = (c .before .before .before .before .before .before .before .before .before .before .args) in
-    finds-last (a .d .now) (a .p .now) (a .x .now) (a .at) (a .least) (c .before .before .before .before .before .seek-some .result) (c .before .before .before .enum-told .given .1)
-    (c .before .before .if3 .taken) (missing (c .before .before .before .before .before .before)) (sym (c .before .empty-at2 .ensures) ∙ c .if4 .taken) (c .before .before .before .before .before .seek-some .ensures)
+    let in-seek-some = c .before .before .before .before .before in
+    let in-6 = in-seek-some .before in
+    let start = in-6 .before .before .before .before in
+    let a = start .args in
+    finds-last (a .d .now) (a .p .now) (a .x .now) (a .at) (a .least) (in-seek-some .seek-some .result)
+    (c .before .before .before .enum-told .given .1)
+    (c .before .before .if3 .taken) (missing in-6) (sym (c .before .empty-at2 .ensures) ∙ c .if4 .taken)
+    (in-seek-some .seek-some .ensures)
 
 returns-3 : tie.Need-returns-3
 returns-3 c =
-    let a = (c .before .before .before .before .before .before .before .before .args) in
-    finds-some (a .d .now) (a .p .now) (a .x .now) (a .at) (a .least) (c .before .before .before .seek-some .result) _ _ (c .before .f .given .1)
-    (missing (c .before .before .before .before)) (c .before .before .before .seek-some .ensures)
+    let in-4 = c .before .before .before .before in
+    let start = in-4 .before .before .before .before in
+    let a = start .args in
+    finds-some (a .d .now) (a .p .now) (a .x .now) (a .at) (a .least) (c .before .before .before .seek-some .result) _ _
+    (c .before .f .given .1)
+    (missing in-4) (c .before .before .before .seek-some .ensures)
 
 returns-4 : tie.Need-returns-4
 returns-4 c =
-    let a = (c .before .before .before .before .before .before .before .before .args) in
-    finds-none (a .d .now) (a .p .now) (a .x .now) (a .at) (a .least) (c .before .before .before .seek-some .result) (c .before .enum-told .given .1)
-    (missing (c .before .before .before .before))
-    (λ z. ⊎-elim (λ w. sym (w .1 .ensures) ∙ w .2 .left) (λ w. absurd (w .left z)) (c .if3 .came)) (c .before .before .before .seek-some .ensures)
+    let in-4 = c .before .before .before .before in
+    let start = in-4 .before .before .before .before in
+    let a = start .args in
+    finds-none (a .d .now) (a .p .now) (a .x .now) (a .at) (a .least) (c .before .before .before .seek-some .result)
+    (c .before .enum-told .given .1)
+    (missing in-4)
+    (λ z.
+    ⊎-elim {C = emptyAt (a .d .now) (eqb (a .at + length (a .x .now)) 0) true ≡ false}
+    (λ w. sym (w .1 .ensures) ∙ w .2 .left) (λ w. absurd (w .left z)) (c .if3 .came))
+    (c .before .before .before .seek-some .ensures)
 
 pub seek-both-spec : {M : Type 1} → statement M
 seek-both-spec =

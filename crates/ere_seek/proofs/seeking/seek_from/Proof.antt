@@ -1,25 +1,22 @@
 -- `seek_from` meets its contract: no start from `from` to s has a match.
-use mathlib.Core.Path.{_≡_, refl}
+use mathlib.Core.Path.{refl}
 use mathlib.Core.List.{List}
 use mathlib.Core.Logic.{⊎-elim}
-use Prim.Native.Nat.{ℕ, _+_, _-_, _≤_, _<_}
+use Prim.Native.Nat.{ℕ, _+_, _-_, _≤_}
 use native.Mathlib.Nat.{le-refl}
 use native.Mathlib.Omega.{arith}
 use lib.ListN.{length}
 use lib.Dec.{eqb}
 use Rattle.ere_automaton.specs.Follows.{FollowsOne}
-use Rattle.ere_seek.specs.Starts.{Bare, Bares, Hulled}
+use Rattle.ere_seek.specs.Starts.{Bares, Hulled}
 use Rattle.ere_seek.proofs.Bareness.{bare-end}
 use Rattle.ere_seek.proofs.Leftmost.{found-from, none-from, bares-one, bares-to, longest-none}
 use Rattle.ere_seek.proofs.seeking.seek_from.Statement.{statement}
 use Rattle.ere_seek.proofs.seeking.seek_from.Tie as tie
-use Rattle.ere_seek.proofs.seeking.seek_from.Reads as reads
-use Rattle.ere_seek.proofs.seeking.seek_from.Lts as lts
-use Rattle.ere_seek.proofs.one.longest.Reads as longest-reads
-use Rattle.ere_seek.proofs.starts.candidate.Reads as candidate-reads
 
 abbrev Inv-loop : tie.InvT-loop
-Inv-loop d x at from s₀ s = (s ≤ length x + 1) × ((t : List ℕ) → FollowsOne t d → Hulled t d → Bares t x at 0 from → Bares t x at 0 s)
+Inv-loop d x at from s₀ s =
+    (s ≤ length x + 1) × ((t : List ℕ) → FollowsOne t d → Hulled t d → Bares t x at 0 from → Bares t x at 0 s)
 
 abbrev μ-loop : tie.MeasureT-loop
 μ-loop d x at from s₀ s = length x + 1 - s
@@ -47,12 +44,15 @@ sub-t13 c = omega arith
 
 returns : tie.Need-returns Inv-loop μ-loop
 returns c =
-    let a = (c .before .before .before .before .before .before .before .before .args) in
+    let in-loop = c .before .before .before .before .before in
+    let start = in-loop .before .before .before in
+    let a = start .args in
     let d = a .d .now in
     let x = a .x .now in
-    let l = (c .before .before .before .before .before .loop) in
+    let l = in-loop .loop in
     let s = c .before .before .before .candidate .result in
-    found-from d x (a .at) (a .from) s (length x) (c .before .longest .result) (c .before .before .before .candidate .ensures .inside) (c .if2 .taken)
+    found-from d x (a .at) (a .from) s (length x) (c .before .longest .result)
+    (c .before .before .before .candidate .ensures .inside) (c .if2 .taken)
     (c .before .longest .ensures)
     (λ t D H b. bares-to t d x (a .at) (l .s) s D H (l .inv .1 t D H b) (c .before .before .before .candidate .ensures))
 
@@ -61,15 +61,16 @@ add-s c = omega (arith, c .before .candidate .ensures .inside)
 
 loop-less : tie.Need-loop-less Inv-loop μ-loop
 loop-less c =
-    let l = (c .before .before .before .loop) in
-    omega (arith, c .before .candidate .ensures .on, c .before .candidate .ensures .inside, c .before .before .loop-test .taken)
+    let l = c .before .before .before .loop in
+    let s = c .before .candidate .ensures in
+    omega (arith, s .on, s .inside, c .before .before .loop-test .taken)
 
 loop-again : tie.Need-loop-again Inv-loop μ-loop
 loop-again c =
-    let a = (c .before .before .before .before .before .before .args) in
+    let a = c .before .before .before .before .before .before .args in
     let d = a .d .now in
     let x = a .x .now in
-    let l = (c .before .before .before .loop) in
+    let l = c .before .before .before .loop in
     let s = c .before .candidate .result in (
       omega (arith, c .before .candidate .ensures .inside),
       λ t D H b.
@@ -85,8 +86,8 @@ loop-again c =
 
 returns-2 : tie.Need-returns-2 Inv-loop μ-loop
 returns-2 c =
-    let a = (c .before .before .before .before .args) in
-    let l = (c .before .loop) in
+    let a = c .before .before .before .before .args in
+    let l = c .before .loop in
     none-from (a .d .now) (a .x .now) (a .at) (a .from) (l .s) (c .loop-test .left) (l .inv .1)
 
 pub seek-from-spec : {M : Type 1} → statement M

@@ -1,23 +1,18 @@
 -- `seek_some` meets its contract: from the first candidate, or from where nothing is pending.
-use native.Mathlib.Omega.{arith}
 use Rattle.ere_seek.proofs.Leftmost.{both-none, both-some, both-from}
 use borrow.Author.Needs.{needs}
 use Rattle.ere_seek.proofs.seeking.seek_some.Statement.{statement}
 use Rattle.ere_seek.proofs.seeking.seek_some.Tie as tie
-use Rattle.ere_seek.proofs.seeking.seek_some.Reads as reads
-use Rattle.ere_seek.proofs.seeking.seek_some.Lts as lts
-use Rattle.ere_seek.proofs.one.longest.Reads as longest-reads
-use Rattle.ere_seek.proofs.pending.first_start.Reads as first-start-reads
-use Rattle.ere_seek.proofs.seeking.seek_from.Reads as seek-from-reads
-use Rattle.ere_seek.proofs.starts.candidate.Reads as candidate-reads
 
 candidate-requires : tie.Need-candidate-requires
 candidate-requires c κs = search needs
 
 returns : tie.Need-returns
 returns c =
-    let a = (c .before .before .before .before .before .args) in
-    both-none (a .d .now) (a .p .now) (a .x .now) (a .at) (c .before .candidate .result) (c .before .candidate .ensures) (c .if1 .taken)
+    let start = c .before .before .before .before .before in
+    let a = start .args in
+    both-none (a .d .now) (a .p .now) (a .x .now) (a .at) (c .before .candidate .result) (c .before .candidate .ensures)
+    (c .if1 .taken)
 
 add-longest : tie.Need-add-longest
 add-longest c = search needs
@@ -36,8 +31,10 @@ sub-t12 c = search needs
 
 returns-2 : tie.Need-returns-2
 returns-2 c =
-    let a = (c .before .before .before .before .before .before .before .args) in
-    both-some (a .d .now) (a .p .now) (a .x .now) (a .at) (c .before .before .before .candidate .result) (c .before .before .before .candidate .ensures) _ (c .before .longest .result)
+    let start = c .before .before .before .before .before .before .before in
+    let a = start .args in
+    both-some (a .d .now) (a .p .now) (a .x .now) (a .at) (c .before .before .before .candidate .result)
+    (c .before .before .before .candidate .ensures) _ (c .before .longest .result)
     (c .before .before .before .candidate .ensures .inside) (c .if2 .taken) (c .before .longest .ensures)
 
 add-first-start : tie.Need-add-first-start
@@ -51,8 +48,11 @@ seek-from-requires c κs = search needs
 
 returns-3 : tie.Need-returns-3
 returns-3 c =
-    let a = (c .before .before .before .before .before .before .before .before .before .args) in
-    both-from (a .d .now) (a .p .now) (a .x .now) (a .at) (c .before .before .before .before .before .candidate .result) (c .before .before .before .before .before .candidate .ensures)
+    let in-candidate = c .before .before .before .before .before in
+    let start = in-candidate .before .before .before .before in
+    let a = start .args in
+    both-from (a .d .now) (a .p .now) (a .x .now) (a .at) (in-candidate .candidate .result)
+    (in-candidate .candidate .ensures)
     (c .before .first-start .result) (c .seek-from .result) (c .before .first-start .ensures) (c .seek-from .ensures)
 
 pub seek-some-spec : {M : Type 1} → statement M

@@ -1,18 +1,13 @@
 -- `beginning` meets its contract: each byte before i leads to the state in which nothing may come next.
-use mathlib.Core.Path.{_≡_, sym, ap, _∙_}
-use Prim.Native.Nat.{ℕ, _-_, _≤_, _<_}
-use native.Mathlib.Nat.{le-refl}
+use mathlib.Core.Path.{sym, _∙_}
+use Prim.Native.Nat.{_-_}
 use native.Mathlib.Omega.{arith}
 use lib.ListN.{length}
-use borrow.Author.Needs.{needs}
 use borrow.Author.Tests.{eqb-true, not-false}
 use Rattle.ere_seek.specs.Starts.{Passed}
 use Rattle.ere_seek.proofs.Bareness.{passed-none, passed-more}
 use Rattle.ere_seek.proofs.starts.beginning.Statement.{statement}
 use Rattle.ere_seek.proofs.starts.beginning.Tie as tie
-use Rattle.ere_seek.proofs.starts.beginning.Reads as reads
-use Rattle.ere_seek.proofs.starts.beginning.Lts as lts
-use Rattle.ere_seek.proofs.starts.begins.Reads as begins-reads
 
 abbrev Inv-loop : tie.InvT-loop
 Inv-loop d x from i₀ i = Passed d x from i
@@ -40,9 +35,12 @@ loop-less c = omega arith
 
 loop-again : tie.Need-loop-again Inv-loop μ-loop
 loop-again c =
-    let l = c .before .before .before .before .loop in
+    let in-loop = c .before .before .before .before in
+    let start = in-loop .before .before .before in
+    let l = in-loop .loop in
     let off = eqb-true _ _ (not-false _ (sym (c .before .begins .ensures) ∙ c .if1 .left)) in
-    passed-more (c .before .before .before .before .before .before .before .args .d .now) (c .before .before .before .before .before .before .before .args .x .now) (c .before .before .before .before .before .before .before .args .from) (l .i) (l .inv) (c .before .before .before .loop-test .taken) off
+    passed-more (start .args .d .now) (start .args .x .now) (start .args .from) (l .i) (l .inv)
+    (c .before .before .before .loop-test .taken) off
 
 returns-2 : tie.Need-returns-2 Inv-loop μ-loop
 returns-2 c = c .before .loop .inv

@@ -1,5 +1,5 @@
 -- `begins` meets its contract.
-use mathlib.Core.Path.{_≡_, ap}
+use mathlib.Core.Path.{ap}
 use mathlib.Core.Bool.{not}
 use Prim.Native.Nat.{ℕ}
 use native.Mathlib.Omega.{arith}
@@ -8,9 +8,6 @@ use Rattle.ere_automaton.specs.Layout.{acceptedState}
 use borrow.Author.Needs.{needs}
 use Rattle.ere_seek.proofs.starts.begins.Statement.{statement}
 use Rattle.ere_seek.proofs.starts.begins.Tie as tie
-use Rattle.ere_seek.proofs.starts.begins.Reads as reads
-use Rattle.ere_seek.proofs.starts.begins.Lts as lts
-use Rattle.ere_seek.proofs.states.next.Reads as next-reads
 
 shared-slice-read-next : tie.Need-shared-slice-read-next
 shared-slice-read-next c = search needs
@@ -28,7 +25,9 @@ cast-result : tie.Need-cast-result
 cast-result c = omega (arith, c .shared-slice-known3 .given 3)
 
 returns : tie.Need-returns
-returns c = ap (λ (q : ℕ). not (eqb q (acceptedState (c .before .before .before .before .args .d .now)))) (c .before .next .ensures)
+returns c =
+    let start = c .before .before .before .before in
+    ap (λ (q : ℕ). not (eqb q (acceptedState (start .args .d .now)))) (c .before .next .ensures)
 
 pub begins-spec : {M : Type 1} → statement M
 begins-spec =

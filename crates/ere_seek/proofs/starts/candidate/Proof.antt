@@ -11,10 +11,6 @@ use Rattle.ere_seek.proofs.Bareness.{candidate-none, candidate-blocks}
 use borrow.Author.Needs.{needs}
 use Rattle.ere_seek.proofs.starts.candidate.Statement.{statement}
 use Rattle.ere_seek.proofs.starts.candidate.Tie as tie
-use Rattle.ere_seek.proofs.starts.candidate.Reads as reads
-use Rattle.ere_seek.proofs.starts.candidate.Lts as lts
-use Rattle.ere_automaton.proofs.next_block.Reads as next-block-reads
-use Rattle.ere_seek.proofs.starts.beginning.Reads as beginning-reads
 
 shared-slice-read-if1 : tie.Need-shared-slice-read-if1
 shared-slice-read-if1 c = search needs
@@ -33,22 +29,30 @@ next-block-requires c κs = search needs
 
 beginning-requires : tie.Need-beginning-requires
 beginning-requires c κs =
-    let a = (c .before .before .before .before .before .before .before .args) in
-    let p = (c .before .before .before .before .before .before .before .pre) in (
+    let start = c .before .before .before .before .before .before .before in
+    let a = start .args in
+    let p = start .pre in (
       p .0,
       ⊎-elim
           (λ w.
-          omega (arith, w .2, skipped-inside (rangesOf (a .d .now)) (a .x .now) (a .from) (w .1 .result) (w .1 .ensures) (p .2)))
+          omega (
+            arith,
+            w .2,
+            skipped-inside (rangesOf (a .d .now)) (a .x .now) (a .from) (w .1 .result) (w .1 .ensures)
+                (p .2),
+          ))
           (λ w. omega (arith, w .1, p .2))
           (c .if2 .came),
     )
 
 returns-2 : tie.Need-returns-2
 returns-2 c =
-    let a = (c .before .before .before .before .before .before .before .before .args) in
+    let known = c .before .before .before .before .before .before in
+    let start = known .before .before in
+    let a = start .args in
     let d = a .d .now in
     let x = a .x .now in
-    let bytes : (n : ℕ) → getD x n 0 < 256 = λ n. c .before .before .before .before .before .before .shared-slice-known2 .given n .fits in
+    let bytes : (n : ℕ) → getD x n 0 < 256 = λ n. known .shared-slice-known2 .given n .fits in
     candidate-blocks d x bytes (a .from) (c .before .if2 .s) (a .first) _
     (⊎-elim (λ w. inl (ne-eqb _ _ (w .0 .taken), subst (Skipped (rangesOf d) x (a .from)) (sym (w .2)) (w .1 .ensures)))
     (λ w. inr (w .1)) (c .before .if2 .came))

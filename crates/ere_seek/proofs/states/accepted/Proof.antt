@@ -1,11 +1,8 @@
 -- `accepted` meets its contract, by whether the text ends.
 use mathlib.Core.Path.{sym, ap}
-use mathlib.Core.Bool.{Bool}
 use Rattle.ere_seek.specs.One.{accepts}
 use Rattle.ere_seek.proofs.states.accepted.Statement.{statement}
 use Rattle.ere_seek.proofs.states.accepted.Tie as tie
-use Rattle.ere_seek.proofs.states.accepted.Reads as reads
-use Rattle.ere_seek.proofs.states.accepted.Lts as lts
 
 returns : tie.Need-returns
 returns c = let a = c .before .args in ap (accepts (a .bits)) (sym (c .if1 .taken))

@@ -5,8 +5,6 @@ use Rattle.ere_seek.specs.Starts.{entryState}
 use borrow.Author.Needs.{needs}
 use Rattle.ere_seek.proofs.states.entered.Statement.{statement}
 use Rattle.ere_seek.proofs.states.entered.Tie as tie
-use Rattle.ere_seek.proofs.states.entered.Reads as reads
-use Rattle.ere_seek.proofs.states.entered.Lts as lts
 
 shared-slice-read-result : tie.Need-shared-slice-read-result
 shared-slice-read-result c = search needs

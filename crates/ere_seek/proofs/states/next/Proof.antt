@@ -1,7 +1,7 @@
 -- `next` meets its contract: the word lies in the row of s.
 use Prim.Native.Nat.{ℕ, _+_, _<_}
 use native.Mathlib.Omega.{arith}
-use lib.ListN.{length, getD}
+use lib.ListN.{length}
 use Rattle.ere_automaton.specs.Layout.{classIn}
 use Rattle.ere_automaton.proofs.States.{next-fits}
 use borrow.Author.Needs.{needs}
