@@ -24,16 +24,20 @@ after-same : (t s : List ℕ) (b c : ℕ) → step t s b ≡ step t s c → afte
 unfolding after
 after-same t s b c e = ap (λ (u : List ℕ). cond (stopIn s false) s (collapsed (join u (row t 1)))) e
 
-pending-same : (t s : List ℕ) (b c : ℕ) → step t (join s (row t 1)) b ≡ step t (join s (row t 1)) c → pendingAfter t s b ≡ pendingAfter t s c
+pending-same : (t s : List ℕ) (b c : ℕ) → step t (join s (row t 1)) b ≡ step t (join s (row t 1)) c
+    → pendingAfter t s b ≡ pendingAfter t s c
 unfolding pendingAfter
 pending-same t s b c e = ap (λ (u : List ℕ). cond (stopIn s false) s (collapsed u)) e
 
 -- bytes that do the same to each set do so in each mode
-pub change-same : (mode : ℕ) (t s : List ℕ) (b c : ℕ) → ((u : List ℕ) → step t u b ≡ step t u c) → changeBy mode t s b ≡ changeBy mode t s c
+pub change-same : (mode : ℕ) (t s : List ℕ) (b c : ℕ) → ((u : List ℕ) → step t u b ≡ step t u c)
+    → changeBy mode t s b ≡ changeBy mode t s c
 unfolding changeBy
 change-same mode t s b c e =
-    ap₂ (λ (x y : List ℕ). cond (eqb mode 0) x (cond (eqb mode 1) y (pendingAfter t s b))) (after-same t s b c (e s)) (e s)
-    ∙ ap (λ (x : List ℕ). cond (eqb mode 0) (after t s c) (cond (eqb mode 1) (step t s c) x)) (pending-same t s b c (e (join s (row t 1))))
+    ap₂ (λ (x y : List ℕ). cond (eqb mode 0) x (cond (eqb mode 1) y (pendingAfter t s b)))
+    (after-same t s b c (e s)) (e s)
+    ∙ ap (λ (x : List ℕ). cond (eqb mode 0) (after t s c) (cond (eqb mode 1) (step t s c) x))
+    (pending-same t s b c (e (join s (row t 1))))
 
 -- ---- accept bits
 
@@ -98,4 +102,8 @@ follows-drives F H = record {
 }
 
 pub derived-all : {t d d' : List ℕ} {r : ℕ} → DerivedBy 0 t d r d' → Derived t d r d'
-derived-all {t} D = record { size = D .size; inside = D .inside; drives = λ h. follows-drives (follows-all t (D .follows h)) (D .hull h) }
+derived-all {t} D = record {
+  size = D .size;
+  inside = D .inside;
+  drives = λ h. follows-drives (follows-all t (D .follows h)) (D .hull h);
+}

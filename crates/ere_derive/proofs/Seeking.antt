@@ -5,7 +5,8 @@ use mathlib.Core.List.{List, _++_, append-nil}
 use mathlib.Core.Logic.{⊎-elim}
 use Prim.Native.Nat.{ℕ, _+_, _-_, _*_, _/_, _%_, _≤_, _<_}
 use native.Mathlib.Omega.{arith}
-use lib.ListN.{length, getD, set, take, drop, length-set, length-append, length-drop, drop-of-length-le, List·getD-append, List·getD-eq-default}
+use lib.ListN.{length, getD, set, take, drop, length-set, length-append, length-drop, drop-of-length-le}
+use lib.ListN.{List·getD-append, List·getD-eq-default}
 use lib.Seq.{getD-set-same, getD-set-other, getD-take, length-take-le, take-at, drop-at, take-all, take-append-add}
 use lib.Bits.{bitOr}
 use lib.Dec.{eqb, leb}
@@ -14,8 +15,8 @@ use borrow.Author.Tests.{eqb-true, eq-eqb, leb-true}
 use Rattle.lists.proofs.Tests.{and-true}
 use Rattle.ere_table.specs.Table.{row, join}
 use Rattle.ere_table.specs.Wiring.{stopIn}
-use Rattle.ere_automaton.specs.Layout.{classCount, firstState, laterState, acceptedState, rowsAt, strideBy, strideOf, stateCount}
-use Rattle.ere_automaton.specs.Layout.{State, classIn, nextIn, pairIn, endWord}
+use Rattle.ere_automaton.specs.Layout.{classCount, firstState, laterState, acceptedState, rowsAt}
+use Rattle.ere_automaton.specs.Layout.{strideBy, strideOf, stateCount, State, classIn, nextIn, pairIn, endWord}
 use Rattle.ere_automaton.specs.Automaton.{Ranged, Hull}
 use Rattle.ere_automaton.specs.Follows.{Follows, FollowsOne, FollowsPending, Seeks, oneLength, oneIn, pendingIn}
 use Rattle.ere_derive.specs.Modes.{FollowsBy}
@@ -54,8 +55,13 @@ nested-is t h = record { wider = three _ _ _ _ _ _ (eqb-true _ _ (x .0)) (eqb-tr
 pub headed-both : (t : List ℕ) (n : ℕ) (d : List ℕ) → rowsAt ≤ length d
     → HeadedBoth t n d (set (set (set d 10 n) 11 (getD t 2 0 % 4)) 12 (getD t 5 0 % 4))
 headed-both t n d room = record {
-  frame = frame-on (frame-on (wide d 10 n (omega arith) (omega arith)) (wide d1 11 x (omega arith) (omega arith))) (wide d2 12 y (omega arith) (omega arith));
-  size = getD-set-other d2 12 10 y 0 (omega arith) ∙ getD-set-other d1 11 10 x 0 (omega arith) ∙ getD-set-same d 10 n 0 (omega arith);
+  frame =
+      frame-on
+      (frame-on (wide d 10 n (omega arith) (omega arith)) (wide d1 11 x (omega arith) (omega arith)))
+      (wide d2 12 y (omega arith) (omega arith));
+  size =
+      getD-set-other d2 12 10 y 0 (omega arith) ∙ getD-set-other d1 11 10 x 0 (omega arith)
+      ∙ getD-set-same d 10 n 0 (omega arith);
   empty-first = getD-set-other d2 12 11 y 0 (omega arith) ∙ getD-set-same d1 11 x 0 (simp length-set (omega arith));
   empty-later = getD-set-same d2 12 y 0 (simp length-set (omega arith));
 }
@@ -122,17 +128,22 @@ module _ (d d' : List ℕ) (f : Frame 10 13 d d') where
   ranged-on : Ranged d → Ranged d'
   ranged-on R = record {
     head = subst (λ (x : ℕ). rowsAt ≤ x) (sym (f .size)) (R .head);
-    classes = λ b h. subst (λ (x : ℕ). x < classCount d') (sym (class-is b)) (subst (λ (x : ℕ). classIn d b < x) (sym count-is) (R .classes b h));
+    classes = λ b h.
+        subst (λ (x : ℕ). x < classCount d') (sym (class-is b))
+        (subst (λ (x : ℕ). classIn d b < x) (sym count-is) (R .classes b h));
     first = state-in (firstState d) (firstState d') (f .below 1 (omega arith)) (R .first);
     later = state-in (laterState d) (laterState d') (f .below 2 (omega arith)) (R .later);
-    moves = λ q b s h. let z = state-of q s in state-in (nextIn d q b) (nextIn d' q b) (next-is q z b) (R .moves q b z h);
+    moves = λ q b s h.
+        let z = state-of q s in
+        state-in (nextIn d q b) (nextIn d' q b) (next-is q z b) (R .moves q b z h);
     pairs = λ q b c s h l p.
         let z = state-of q s in
         pair-is q z b c ∙ R .pairs q b c z h l (ap (λ (x : ℕ). eqb x 0) (sym (f .below 4 (omega arith))) ∙ p)
         ∙ sym (ap (λ (x : ℕ). nextIn d' x c) (next-is q z b) ∙ next-is (nextIn d q b) (R .moves q b z h) c);
   }
 
-  pub follows-on : {change : List ℕ → ℕ → List ℕ} {first later last : List ℕ} → Follows change first later last d → Follows change first later last d'
+  pub follows-on : {change : List ℕ → ℕ → List ℕ} {first later last : List ℕ}
+      → Follows change first later last d → Follows change first later last d'
   follows-on F = record {
     ranged = ranged-on (F .ranged);
     sets = F .sets;
@@ -182,7 +193,8 @@ rest-lent l a = take-all (length l - a) (drop a l) (rw length-drop (omega arith)
 rest-back : (l : List ℕ) (a : ℕ) (b : List ℕ) → putMid a (length l - a) l b ≡ take a l ++ b
 rest-back l a b =
     let h : length (drop a l) ≤ length l - a = rw length-drop (omega arith) in
-    ap (λ (r : List ℕ). take a l ++ (b ++ r)) (drop-of-length-le (drop a l) h) ∙ ap (λ (r : List ℕ). take a l ++ r) (append-nil b)
+    ap (λ (r : List ℕ). take a l ++ (b ++ r)) (drop-of-length-le (drop a l) h)
+    ∙ ap (λ (r : List ℕ). take a l ++ r) (append-nil b)
 
 -- no automata
 pub underived-both : (t d d' : List ℕ) → length d' ≡ length d → DerivedBoth t d 0 d'
@@ -215,15 +227,22 @@ module _ (t d : List ℕ) (n : ℕ) (d1 : List ℕ) (D : DerivedBy 1 t d n d1) (
     front-frame : Frame 10 13 (take n d1) (take n d2)
     front-frame = record {
       size = front2 ∙ sym front;
-      below = λ i h. let z = one-long in word2 i (omega arith) ∙ H .frame .below i h ∙ sym (getD-take n d1 i 0 (omega arith));
-      above = λ i h. ⊎-elim (λ g. getD-take n d2 i 0 g ∙ H .frame .above i h ∙ sym (getD-take n d1 i 0 g)) (λ g. past2 i g ∙ sym (past i g)) (ordered i n);
+      below = λ i h.
+          let z = one-long in
+          word2 i (omega arith) ∙ H .frame .below i h ∙ sym (getD-take n d1 i 0 (omega arith));
+      above = λ i h.
+          ⊎-elim
+          (λ g. getD-take n d2 i 0 g ∙ H .frame .above i h ∙ sym (getD-take n d1 i 0 g))
+          (λ g. past2 i g ∙ sym (past i g))
+          (ordered i n);
     }
 
     pub rest-inside : n ≤ length d2
     rest-inside = let x = D .size in let y = D .inside in let z = H .frame .size in omega arith
 
     -- the rest is lent for the second
-    pub rest-size : (m : ℕ) (f : List ℕ) → DerivedBy 2 t (midOf n (length d2 - n) d2) m f → length (putMid n (length d2 - n) d2 f) ≡ length d
+    pub rest-size : (m : ℕ) (f : List ℕ) → DerivedBy 2 t (midOf n (length d2 - n) d2) m f
+        → length (putMid n (length d2 - n) d2 f) ≡ length d
     rest-size m f E = same-len-mid n (length d2 - n) d2 f (E .size) ∙ H .frame .size ∙ D .size
 
     pub rest-fits : (m : ℕ) (f : List ℕ) → DerivedBy 2 t (midOf n (length d2 - n) d2) m f → n + m ≤ length d
@@ -236,7 +255,11 @@ module _ (t d : List ℕ) (n : ℕ) (d1 : List ℕ) (D : DerivedBy 1 t d n d1) (
 
     pub derived-both : (m : ℕ) (f : List ℕ) → DerivedBy 2 t (midOf n (length d2 - n) d2) m f → 0 < m → Nested t
         → DerivedBoth t d (n + m) (putMid n (length d2 - n) d2 f)
-    derived-both m f E more N = record { size = rest-size m f E; inside = rest-fits m f E; seeks = λ h. subst (Seeks t) (sym cut) both }
+    derived-both m f E more N = record {
+      size = rest-size m f E;
+      inside = rest-fits m f E;
+      seeks = λ h. subst (Seeks t) (sym cut) both;
+    }
       where
         cut : take (n + m) (putMid n (length d2 - n) d2 f) ≡ take n d2 ++ take m f
         cut =

@@ -1,5 +1,5 @@
--- Internal: cited by private contracts only. What both automata of a search ask of a table, and the words that say where
--- the second starts and whether a match may be empty.
+-- Internal: cited by private contracts only. What both automata of a search ask of a table, and the words that say
+-- where the second starts and whether a match may be empty.
 use mathlib.Core.Path.{_≡_}
 use mathlib.Core.Bool.{true, false}
 use mathlib.Core.List.{List}

@@ -44,7 +44,8 @@ pub record Classed (t : List ℕ) (n m : ℕ) (columns : List ℕ) (k : ℕ) (by
   pub alike : (b : ℕ) → b < m → Alike t n b (getD bytes (classIn d b) 0)
 
 -- r classes after the byte m, of k before it
-pub record Classifies (t : List ℕ) (n m : ℕ) (columns : List ℕ) (k : ℕ) (bytes d : List ℕ) (r : ℕ) (columns' bytes' d' : List ℕ) : Type 0 where
+pub record Classifies (t : List ℕ) (n m : ℕ) (columns : List ℕ) (k : ℕ) (bytes d : List ℕ) (r : ℕ)
+    (columns' bytes' d' : List ℕ) : Type 0 where
   pub few : r ≤ suc k
   pub columnSize : length columns' ≡ length columns
   pub byteSize : length bytes' ≡ length bytes

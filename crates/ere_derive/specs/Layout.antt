@@ -22,13 +22,15 @@ pub record RowAt (mode : ℕ) (t bytes : List ℕ) (k : ℕ) (a : List ℕ) (n s
   pub marks : getD d (p + k) 0 ≡ getD s 2 0 % 4
 
 -- what a function that may enter sets has done to sets and words, if there is room
-pub record PutEntry (mode : ℕ) (t a : List ℕ) (n most stride : ℕ) (s : List ℕ) (b p : ℕ) (d : List ℕ) (r : ℕ) (a' d' : List ℕ) : Type 0 where
+pub record PutEntry (mode : ℕ) (t a : List ℕ) (n most stride : ℕ) (s : List ℕ) (b p : ℕ) (d : List ℕ) (r : ℕ)
+    (a' d' : List ℕ) : Type 0 where
   pub size : length a' ≡ length a
   pub frame : Frame p (p + 1) d d'
   pub grows : r ≤ most → Grows a n a' r
   pub leads : r ≤ most → Leads mode t a' r stride s b (getD d' p 0)
 
-pub record PutRow (mode : ℕ) (t bytes : List ℕ) (k : ℕ) (a : List ℕ) (n most stride : ℕ) (s : List ℕ) (p : ℕ) (d : List ℕ) (r : ℕ) (a' d' : List ℕ) : Type 0 where
+pub record PutRow (mode : ℕ) (t bytes : List ℕ) (k : ℕ) (a : List ℕ) (n most stride : ℕ) (s : List ℕ)
+    (p : ℕ) (d : List ℕ) (r : ℕ) (a' d' : List ℕ) : Type 0 where
   pub size : length a' ≡ length a
   pub frame : Frame p (p + (k + 1)) d d'
   pub grows : r ≤ most → Grows a n a' r
@@ -38,7 +40,8 @@ pub record PutRow (mode : ℕ) (t bytes : List ℕ) (k : ℕ) (a : List ℕ) (n 
 abbrev pub Rows : ℕ → List ℕ → List ℕ → ℕ → List ℕ → ℕ → ℕ → List ℕ → ℕ → Type 0
 Rows mode t bytes k a n stride d m = (i : ℕ) → i < m → RowAt mode t bytes k a n stride (row a i) d (rowsAt + stride * i)
 
-pub record PutRows (mode : ℕ) (t bytes : List ℕ) (k : ℕ) (a : List ℕ) (n most stride : ℕ) (d : List ℕ) (r : ℕ) (a' d' : List ℕ) : Type 0 where
+pub record PutRows (mode : ℕ) (t bytes : List ℕ) (k : ℕ) (a : List ℕ) (n most stride : ℕ) (d : List ℕ)
+    (r : ℕ) (a' d' : List ℕ) : Type 0 where
   pub frame : Frame rowsAt (length d) d d'
   pub size : length a' ≡ length a
   pub grows : r ≤ most → Grows a n a' r

@@ -1,4 +1,4 @@
--- An automaton from the table of an ERE: classes of bytes, the sets that its states stand for, rows, pairs, and the
+-- Automata from the table of an ERE: classes of bytes, the sets that their states stand for, rows, pairs, and the
 -- ranges of a match's first two bytes.
 pub mod Column
 pub mod Modes

@@ -30,8 +30,8 @@ fn put_both(t: &[u64], d: &mut [u16], n: usize)
 }
 
 // Makes the automata of one start and of the starts before a place, one after the other, each with pairs if they fit
-// below `pairs` words, and gives how many words they have; 0 if there is no room, or if what may start elsewhere may not
-// at the text's start.
+// below `pairs` words, and gives how many words they have; 0 if there is no room, or if what may start elsewhere may
+// not at the text's start.
 pub fn derive_both(t: &[u64], d: &mut [u16], pairs: usize) -> usize
     requires { ⌜ (length (now t) ≡ tableWords) × (length (now d) < 65536) ⌝ }
     ensures { λ r. ⌜ DerivedBoth (now (t .entry)) (now (d .entry)) r (now (d .exit)) ⌝ }

@@ -52,8 +52,8 @@ fn stride_of(k: usize, paired: u16) -> usize
     k + 1 + k * k
 }
 
-// Makes the rows and the head of an automaton whose classes and ranges are stored, and gives how many words it has; 0 if
-// there is no room.
+// Makes the rows and the head of an automaton whose classes and ranges are stored, and gives how many words it has;
+// 0 if there is no room.
 fn attempt(t: &[u64], mode: u64, bytes: &[u8], k: usize, d: &mut [u16], paired: u16) -> usize
     requires { ⌜ (length (now t) ≡ tableWords) × (k ≤ length (now bytes)) × (rowsAt ≤ length (now d))
         × (length (now d) < 65536) × (Classified (now t) (now bytes) k (now d)) × (Hull (now t) (now d)) ⌝ }
@@ -98,8 +98,8 @@ fn with_pairs(t: &[u64], mode: u64, bytes: &[u8], k: usize, d: &mut [u16], pairs
     attempt(t, mode, bytes, k, &mut d[..pairs], 1)
 }
 
-// Makes the automaton of a table by a mode, with pairs if they fit below `pairs` words, and gives how many words it has;
-// 0 if there is no room.
+// Makes the automaton of a table by a mode, with pairs if they fit below `pairs` words, and gives how many words it
+// has; 0 if there is no room.
 pub fn derive_by(t: &[u64], mode: u64, d: &mut [u16], pairs: usize) -> usize
     requires { ⌜ (length (now t) ≡ tableWords) × (length (now d) < 65536) ⌝ }
     ensures { λ r. ⌜ DerivedBy mode (now (t .entry)) (now (d .entry)) r (now (d .exit)) ⌝ }
@@ -120,8 +120,8 @@ pub fn derive_by(t: &[u64], mode: u64, d: &mut [u16], pairs: usize) -> usize
     attempt(t, mode, &bytes, k, d, 0)
 }
 
-// Makes the automaton for the existence of a match, with pairs if they fit below `pairs` words, and gives how many words
-// it has; 0 if there is no room.
+// Makes the automaton for the existence of a match, with pairs if they fit below `pairs` words, and gives how many
+// words it has; 0 if there is no room.
 pub fn derive(t: &[u64], d: &mut [u16], pairs: usize) -> usize
     requires { ⌜ (length (now t) ≡ tableWords) × (length (now d) < 65536) ⌝ }
     ensures { λ r. ⌜ Derived (now (t .entry)) (now (d .entry)) r (now (d .exit)) ⌝ }

@@ -81,8 +81,8 @@ fn first_word(n: usize) -> usize
     if n < 64 { n } else { 64 }
 }
 
-// Stores the class of the byte b, of k classes, and the column and the byte of a new class; gives how many classes there
-// are then.
+// Stores the class of the byte b, of k classes, and the column and the byte of a new class; gives how many classes
+// there are then.
 fn classify(
     t: &[u64],
     b: u8,

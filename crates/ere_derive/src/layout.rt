@@ -1,6 +1,6 @@
 // The words of an automaton: a head, the class of each byte, and a row for each state. A state is the index of its row.
-// A row: the state after a byte of each class; 1 if a match ends where the text ends, else 0; and with pairs, the state
-// after two bytes, of each class and each class.
+// A row: the state after a byte of each class; the accept bits, that a match may end before the text's end (1) and at
+// it (2); and with pairs, the state after two bytes, of each class and each class.
 pub const CLASS_COUNT: usize = 0;
 
 pub const FIRST: usize = 1;

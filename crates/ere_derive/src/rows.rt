@@ -128,8 +128,8 @@ pub struct Begun {
 // Enters the sets that an automaton begins with.
 pub fn begin(t: &[u64], mode: u64, sets: &mut [u64], most: usize) -> Begun
     requires { ⌜ (length (now t) ≡ tableWords) × (most ≤ 96) × (length (now sets) ≡ 288) ⌝ }
-    ensures { λ r. ⌜ Begins mode (now (t .entry)) (now (sets .entry)) most (r .count) (r .accepted) (r .later) (r .first)
-        (now (sets .exit)) ⌝ }
+    ensures { λ r. ⌜ Begins mode (now (t .entry)) (now (sets .entry)) most (r .count) (r .accepted) (r .later)
+        (r .first) (now (sets .exit)) ⌝ }
 {
     let a = sets::enter(sets, 0, most, sets::last(mode));
     if most < a.count {
