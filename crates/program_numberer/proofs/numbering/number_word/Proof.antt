@@ -81,7 +81,7 @@ returns-2 c =
     let v = c .before .instruction in
     word-known (a .edition .number) (a .s .now) (a .what) (a .section .now) (a .i) (a .table .now) (a .n) (q .0) (q .1)
     (f .result) (f .ensures) (e .result) (e .ensures) (k .result) (k .ensures .0) (k .last .1 .0) (k .ensures .1)
-    (c .before .before .before .before .before .before .before .before .before .before .before .op-in .result) (d .result) (v .result) (c .before .before .before .before .before .before .before .before .before .before .before .op-in .ensures) (d .ensures) (v .ensures) _ refl (c .if2 .taken)
+    (c .before .before .before .before .before .before .before .before .before .before .before .op-in .result) (d .result) (v .result) (c .before .before .before .before .before .before .before .before .before .before .before .op-in .ensures) (d .ensures) (v .ensures) _ refl (omega (arith, c .if2 .taken))
 
 add-result : tie.Need-add-result
 add-result c =
@@ -108,7 +108,7 @@ returns-3 c =
     let v = c .before .instruction in
     word-new (a .edition .number) (a .s .now) (a .what) (a .section .now) (a .i) (a .table .now) (a .n) (q .0) (q .1)
     (f .result) (f .ensures) (e .result) (e .ensures) (k .result) (k .ensures .0) (k .last .1 .0) (k .ensures .1)
-    (c .before .before .before .before .before .before .before .before .before .before .before .op-in .result) (d .result) (v .result) (c .before .before .before .before .before .before .before .before .before .before .before .op-in .ensures) (d .ensures) (v .ensures) _ refl (c .if2 .left)
+    (c .before .before .before .before .before .before .before .before .before .before .before .op-in .result) (d .result) (v .result) (c .before .before .before .before .before .before .before .before .before .before .before .op-in .ensures) (d .ensures) (v .ensures) _ refl (omega (arith, c .if2 .left))
 
 pub number-word-spec : {M : Type 1} → statement M
 number-word-spec =

@@ -1,5 +1,6 @@
 -- `write_fitting`: one size after the other.
 use mathlib.Core.Path.{sym, _∙_}
+use native.Mathlib.Omega.{arith}
 use borrow.Author.Tests.{not-true, not-false}
 use Rattle.translator.proofs.Storing.{judged-counts, judged-depths, judged-constants, judged-fits}
 use borrow.Author.Needs.{needs}
@@ -37,7 +38,7 @@ constants-fit-requires c κs =
     let p = c .before .before .before .before .before .before .before .before .before .before .before .pre in
     let counts = sym (c .before .before .before .counts-fit .ensures) ∙ not-false (c .before .before .before .counts-fit .result) (c .before .before .if1 .left) in
     let q = p .2 counts in
-    (q .1 .room, q .1 .inside)
+    (omega (arith, q .1 .room), λ k h. q .1 .inside k (omega (arith, h)))
 
 returns-3 : tie.Need-returns-3
 returns-3 c =
