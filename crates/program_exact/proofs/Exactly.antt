@@ -12,8 +12,9 @@ use lib.ListN.{length}
 use borrow.Author.Tests.{ltb-true, ltb-false}
 use Rattle.lists.proofs.Options.{none-some, some-one}
 use Rattle.edition.specs.Outcomes.{sizePassed, badToken, badEre, misplacedToken}
-use Rattle.program_tokens.specs.Kinds.{Kind, text-end, bad, bad-ere, ERE}
+use Rattle.program_tokens.specs.Kinds.{Kind, text-end, bad, bad-ere, ERE, among, rank}
 use Rattle.program_tokens.specs.Tokens.{Token, is, tokenAt, tokenAfter, asOperand}
+use Rattle.program_tree.specs.Functions.{an-expression, an-ere}
 use Rattle.program_tree.specs.Tree.{Program}
 use Rattle.program_grammar.specs.Grammar.{Sentence}
 use Rattle.program_grammar.specs.Viable.{Viable, Taken, operand as taken-operand, operator as taken-operator, Reached, first, after as reached-after, Refused}
@@ -21,8 +22,8 @@ use Rattle.program_reader.specs.Read.{Read, ok, no, refuse}
 use Rattle.program_reader.specs.Programs.{readProgram}
 use Rattle.program_parser.specs.Reading.{refusedBy}
 use Rattle.program_exact.specs.Claims.{Accepted, Deep, TooDeep, ReadsExactly, RefusedExactly, SlashExactly}
-use Rattle.program_exact.specs.Machine.{plain, pattern, State, start, done, after, step, stepIn, run}
-use Rattle.program_exact.proofs.Facts.{by-test, run-none, run-append}
+use Rattle.program_exact.specs.Machine.{fresh, plain, Blocks, Context, group, call, condition, value, listed, pattern, State, start, between, done, action-next, operand, operand-line, operand-field, ere-next, after, open-next, ere-argument, argument-line, argument-end, condition-next, body, print-next, finished, list, argumentEnd, finishedStep, exit, callStep, primaryStep, fieldStep, argumentStep, beginStep, listStep, itemStep, step, stepIn, run}
+use Rattle.program_exact.proofs.Facts.{by-test, no-function, run-none, run-append, after-quiet, idle-operand, quiet-starts}
 use Rattle.program_exact.proofs.Sentences.{sentence-run, not-viable}
 use Rattle.program_exact.proofs.Viability.{run-viable, viable-run, run-sentence}
 use Rattle.program_exact.proofs.Walks.{Live, read-again, Here, reaches, begins, walk-live}
@@ -85,6 +86,62 @@ module _ (edition : ℕ) where
   unfolding run step
   over-done [] x e h = subst Live (sym (some-one refl e)) h
   over-done (k ∷ l) x e h = none-some (sym (run-none edition l) ∙ e)
+
+  -- ---- the text's end
+
+  exit-end : (c : Context) → (exit c text-end ≡ none) ⊎ (exit c text-end ≡ some done)
+  unfolding exit argumentEnd finishedStep among rank
+  exit-end (group m c) = inl refl
+  exit-end (call [] m c) = inl refl
+  exit-end (call (x ∷ l) m c) = inl refl
+  exit-end (condition n b) = inl refl
+  exit-end (value n b) = inl refl
+  exit-end (listed n b) = inl refl
+  exit-end pattern = inr refl
+
+  begin-end : (n : ℕ) (b : Blocks) → beginStep edition n b text-end ≡ none
+  unfolding beginStep among rank
+  begin-end n b = idle-operand edition fresh (value n b) text-end refl
+
+  print-end : (n : ℕ) (b : Blocks) → step edition (print-next n b) text-end ≡ none
+  unfolding step finishedStep among rank
+  print-end n b = rw (quiet-starts edition text-end refl)
+
+  -- the text's end is taken at the end alone
+  end-step : (x : State) → (step edition x text-end ≡ none) ⊎ (step edition x text-end ≡ some done)
+  unfolding step itemStep listStep fieldStep primaryStep argumentStep argumentEnd finishedStep among rank
+  end-step start = inr refl
+  end-step between = inr refl
+  end-step done = inl refl
+  end-step action-next = inl refl
+  end-step (operand m c) = inl (idle-operand edition m c text-end refl)
+  end-step (operand-line m c) = inl (idle-operand edition m c text-end refl)
+  end-step (operand-field m c) = inl (ap (callStep edition m c) (no-function edition text-end refl))
+  end-step (ere-next c) = inl refl
+  end-step (after m c) =
+      let e = after-quiet edition m c text-end refl in
+      ⊎-elim (λ z. inl (e ∙ z)) (λ z. inr (e ∙ z)) (exit-end c)
+  end-step (open-next l m c) = inl refl
+  end-step (ere-argument l m c) = inl refl
+  end-step (argument-line an-expression l m c) = inl (idle-operand edition fresh (call l m c) text-end refl)
+  end-step (argument-line an-ere l m c) = inl refl
+  end-step (argument-end [] m c) = inl refl
+  end-step (argument-end (x ∷ l) m c) = inl refl
+  end-step (condition-next n b) = inl refl
+  end-step (body n b) = inl (begin-end n b)
+  end-step (print-next n b) = inl (print-end n b)
+  end-step (finished n b) = inl refl
+  end-step (list n p b) = inl (begin-end 0 b)
+
+  -- what can be completed after the text's end is complete
+  end-sentence : (l : List Kind) → Viable edition (l ++ (text-end ∷ [])) → Sentence edition (l ++ (text-end ∷ []))
+  unfolding run
+  end-sentence l v =
+      let i = viable-run edition l (viable-more l (text-end ∷ []) v) in
+      let j = viable-run edition (l ++ (text-end ∷ [])) v in
+      let last : run edition (l ++ (text-end ∷ [])) (some start) ≡ step edition (i .0) text-end =
+      run-append edition l (text-end ∷ []) (some start) ∙ ap (λ o. stepIn edition o text-end) (i .1) in
+      ⊎-elim (λ z. absurd (none-some (sym z ∙ (sym last ∙ j .1)))) (λ z. run-sentence edition (l ++ (text-end ∷ [])) (last ∙ z)) (end-step (i .0))
 
   module _ (s : List ℕ) where
     -- ---- the tokens of a text, one after the other
@@ -253,6 +310,13 @@ module _ (edition : ℕ) where
               let r = answer (no sizePassed p) e in
               ⊎-elim (λ z. absurd (no-level (r .token) (sym (z .1)))) (λ z. deep-token sizePassed p r (z .0 .0) (z .0 .1)) (r .why);
           refuses = λ t f n. decide t f n (readProgram edition s) refl;
+          at-end = λ l t r k v n. record {
+            before = l;
+            reached = r;
+            viable = v;
+            stuck = λ w. n (end-sentence l (subst (λ (j : Kind). Viable edition (l ++ (j ∷ []))) k w));
+          };
+          no-sentence = λ t r k h. r .stuck (subst (λ (j : Kind). Viable edition ((r .before) ++ (j ∷ []))) (sym k) (sentence-viable ((r .before) ++ (text-end ∷ [])) h));
         }
       where
         decide : (t : Token) → Refused edition s t → (Accepted edition s → ⊥) → (r : Read Program) → readProgram edition s ≡ r

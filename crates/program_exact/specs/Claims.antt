@@ -47,6 +47,11 @@ module _ (edition : ℕ) (s : List ℕ) where
     pub deep : (place : ℕ) → readProgram edition s ≡ no sizePassed place → Deep place
     pub refuses : (t : Token) → Refused edition s t → (Accepted → ⊥)
         → (readProgram edition s ≡ refuse {A = Program} t) ⊎ TooDeep
+    -- the text's end is such a token exactly if all tokens before it can be completed, and are no sentence with it
+    pub at-end : (before : List Kind) (t : Token) → Reached edition s before t → t .kind ≡ text-end
+        → Viable edition before → (Sentence edition (before ++ (text-end ∷ [])) → ⊥) → Refused edition s t
+    pub no-sentence : (t : Token) (r : Refused edition s t) → t .kind ≡ text-end
+        → Sentence edition (r .before ++ (text-end ∷ [])) → ⊥
 
   -- "`/` starts an ERE where the grammar below allows one, else it divides": it is told whether one can stand after
   -- some tokens, and each text's tokens are read in one way
