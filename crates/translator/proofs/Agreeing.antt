@@ -14,7 +14,7 @@ use Rattle.program_tree.specs.Tree.{Program}
 use Rattle.program_reader.specs.Read.{Read, ok}
 use Rattle.program_reader.specs.Programs.{readProgram}
 use Rattle.program_reader.proofs.Fine.{Good}
-use Rattle.program_reader.proofs.Tokens.{Readable, IsName, read-fine}
+use Rattle.program_reader.proofs.Tokens.{IsName, read-fine, Spelled, Said}
 use Rattle.program_code.specs.Emitted.{Operand, nothing, the-constant, the-variable, the-ere, the-instruction, the-count, Emitted, emit, opcode, actionCode, flowCode, arithmeticCode, comparisonCode}
 use Rattle.program_code.specs.Sections.{compileStatement, partsOf, sectionCode}
 use Rattle.program_numbering.specs.Names.{has}
@@ -129,7 +129,7 @@ module _ (edition : ℕ) (s : List ℕ) (p : Program) where
       → Agrees (variables edition s p) i
   unfolding isNamed opcode actionCode flowCode hasOperand
   sound-agrees inMain i (plain a d e g) = plain-agrees (variables edition s p) a d e
-  sound-agrees inMain i (constant-sound c d) =
+  sound-agrees inMain i (constant-sound c d g) =
       record { constants = refl; variables = refl; eres = refl; operand = refl; listed = tt }
   sound-agrees inMain i (get-sound v d n q) =
       record { constants = refl; variables = refl; eres = refl; operand = refl; listed = q n }
@@ -160,7 +160,7 @@ module _ (edition : ℕ) (s : List ℕ) (p : Program) where
   unfolding sectionCode
   section-agrees t e z =
       let fine : FineP edition s (Listed edition s p) p =
-      subst (λ (r : Read Program). Good edition s (Readable edition s) (IsName edition s)
+      subst (λ (r : Read Program). Good edition s (Spelled edition s) (IsName edition s) (Said edition s)
       (FineP edition s (Listed edition s p)) r) e (read-fine edition s) .0 in
       let body : List Emitted = compileStatement (partsOf z p) 0 in
       let inMain : Bool = isMain edition s (Listed edition s p) z in
