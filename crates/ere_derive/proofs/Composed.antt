@@ -10,36 +10,17 @@ use lib.Seq.{getD-set-same, getD-set-other}
 use Rattle.ere_table.specs.Table.{row}
 use Rattle.ere_automaton.specs.Layout.{rowsAt}
 use Rattle.ere_derive.specs.Growth.{Grows, Leads}
-use Rattle.ere_derive.specs.Layout.{Frame, Apart, RowAt, Rows, RowOf, Closed, Paired, PutPairs}
-use Rattle.ere_derive.proofs.Columns.{upTo, ordered}
+use Rattle.ere_classes.specs.Frames.{Frame}
+use Rattle.ere_derive.specs.Layout.{Apart, RowAt, Rows, RowOf, Closed, Paired, PutPairs}
+use Rattle.ere_classes.proofs.Columns.{upTo, ordered}
+use Rattle.ere_classes.proofs.Framed.{frame-on, frame-wider}
 use Rattle.ere_derive.proofs.Grown.{leads-on}
 
 -- row j lies before row i
 pub rows-below : (stride j i : ℕ) → j < i → stride * j + stride ≤ stride * i
 rows-below stride j i h = let m = mul-le-mul-left stride h in let e = mul-suc stride j in omega arith
 
--- ---- frames
-
-pub frame-none : (low high : ℕ) (d : List ℕ) → Frame low high d d
-frame-none low high d = record { size = refl; below = λ i h. refl; above = λ i h. refl }
-
-pub frame-on : {low high : ℕ} {d e f : List ℕ} → Frame low high d e → Frame low high e f → Frame low high d f
-frame-on p q = record {
-  size = q .size ∙ p .size;
-  below = λ i h. q .below i h ∙ p .below i h;
-  above = λ i h. q .above i h ∙ p .above i h;
-}
-
--- a wider frame
-pub frame-wider : {low high low' high' : ℕ} {d e : List ℕ} → low' ≤ low → high ≤ high' → Frame low high d e → Frame low' high' d e
-frame-wider l h p = record { size = p .size; below = λ i g. p .below i (omega arith); above = λ i g. p .above i (omega arith) }
-
-pub frame-set : (d : List ℕ) (p v : ℕ) → Frame p (p + 1) d (set d p v)
-frame-set d p v = record {
-  size = length-set d p v;
-  below = λ i h. getD-set-other d p i v 0 (omega arith);
-  above = λ i h. getD-set-other d p i v 0 (omega arith);
-}
+-- ---- words that are copied
 
 -- a word more of those that are copied from p to q
 pub copied-more : (d s : List ℕ) (p q k e : ℕ) → Apart p k q (q + k) → e < k → q + k ≤ length d → Frame q (q + k) d s

@@ -12,18 +12,8 @@ use borrow.Author.Tests.{eqb-true}
 use Rattle.lists.proofs.Tests.{and-true}
 use Rattle.ere_table.specs.Table.{row}
 use Rattle.ere_derive.specs.Growth.{Fair, Grows, Has, Put, Leads}
-use Rattle.ere_derive.proofs.Columns.{upTo}
-
-pub three : (x y z x' y' z' : ℕ) → x ≡ x' → y ≡ y' → z ≡ z' → x ∷ y ∷ z ∷ [] ≡ x' ∷ y' ∷ z' ∷ []
-three x y z x' y' z' e f g = cc
-
--- a list of three
-pub spelled : (s : List ℕ) → length s ≡ 3 → getD s 0 0 ∷ getD s 1 0 ∷ getD s 2 0 ∷ [] ≡ s
-spelled [] e = absurd (omega arith)
-spelled (x ∷ []) e = absurd (omega arith)
-spelled (x ∷ y ∷ []) e = absurd (omega arith)
-spelled (x ∷ y ∷ z ∷ []) e = refl
-spelled (x ∷ y ∷ z ∷ w ∷ s) e = absurd (omega arith)
+use Rattle.ere_classes.proofs.Columns.{upTo}
+use Rattle.ere_classes.proofs.Framed.{three, spelled}
 
 pub row-is : (a : List ℕ) (i : ℕ) (s : List ℕ) → length s ≡ 3
     → (eqb (getD a (3 * i) 0) (getD s 0 0) && (eqb (getD a (3 * i + 1) 0) (getD s 1 0) && eqb (getD a (3 * i + 2) 0) (getD s 2 0))) ≡ true → row a i ≡ s

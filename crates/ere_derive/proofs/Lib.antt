@@ -1,8 +1,6 @@
 -- The laws of an automaton that is made from a table.
-pub mod Columns
 pub mod Grown
 pub mod Composed
-pub mod Bounded
 pub mod Following
 pub mod Driving
 pub mod Seeking

@@ -20,13 +20,13 @@ use Rattle.ere_automaton.specs.Layout.{strideBy, strideOf, stateCount, State, c
 use Rattle.ere_automaton.specs.Automaton.{Ranged, Hull}
 use Rattle.ere_automaton.specs.Follows.{Follows, FollowsOne, FollowsPending, Seeks, oneLength, oneIn, pendingIn}
 use Rattle.ere_derive.specs.Modes.{FollowsBy}
-use Rattle.ere_derive.specs.Layout.{Frame}
+use Rattle.ere_classes.specs.Frames.{Frame}
 use Rattle.ere_derive.specs.Both.{Nested, HeadedBoth}
 use Rattle.ere_derive.specs.Derived.{DerivedBy, DerivedBoth}
-use Rattle.ere_derive.proofs.Columns.{ordered}
-use Rattle.ere_derive.proofs.Grown.{three}
-use Rattle.ere_derive.proofs.Composed.{frame-on, frame-wider, frame-set}
-use Rattle.ere_derive.proofs.Bounded.{hull-on}
+use Rattle.ere_classes.proofs.Columns.{ordered}
+use Rattle.ere_classes.proofs.Framed.{three}
+use Rattle.ere_classes.proofs.Framed.{frame-on, frame-wider, frame-set}
+use Rattle.ere_classes.proofs.Bounded.{hull-on}
 use Rattle.ere_derive.proofs.Following.{follows-one, follows-pending}
 
 -- ---- what a table has

@@ -8,7 +8,7 @@ use lib.ListN.{getD}
 use Rattle.ere_table.specs.Table.{row, join}
 use Rattle.ere_table.specs.Wiring.{stopIn}
 use Rattle.ere_automaton.specs.Follows.{places}
-use Rattle.ere_derive.specs.Layout.{Frame}
+use Rattle.ere_classes.specs.Frames.{Frame}
 
 -- all that may start elsewhere may start at the text's start, an empty match too
 pub record Nested (t : List ℕ) : Type 0 where

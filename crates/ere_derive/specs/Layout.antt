@@ -6,14 +6,9 @@ use Prim.Native.Nat.{ℕ, _+_, _-_, _*_, _%_, _≤_, _<_}
 use lib.ListN.{length, getD}
 use Rattle.ere_table.specs.Table.{row}
 use Rattle.ere_automaton.specs.Layout.{rowsAt}
+use Rattle.ere_classes.specs.Frames.{Frame}
 use Rattle.ere_derive.specs.Modes.{firstBy, laterBy, lastBy}
 use Rattle.ere_derive.specs.Growth.{Fair, Grows, Has, Leads}
-
--- only the words from `low` up to `high` may differ
-pub record Frame (low high : ℕ) (d d' : List ℕ) : Type 0 where
-  pub size : length d' ≡ length d
-  pub below : (i : ℕ) → i < low → getD d' i 0 ≡ getD d i 0
-  pub above : (i : ℕ) → high ≤ i → getD d' i 0 ≡ getD d i 0
 
 -- the words at p are the row of the set s
 pub record RowAt (mode : ℕ) (t bytes : List ℕ) (k : ℕ) (a : List ℕ) (n stride : ℕ) (s d : List ℕ) (p : ℕ) : Type 0 where

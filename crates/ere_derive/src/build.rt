@@ -5,11 +5,9 @@ ghost use lib.ListN.{length};
 ghost use Rattle.ere_table.specs.Table.{tableWords};
 ghost use Rattle.ere_automaton.specs.Layout.{rowsAt, strideBy};
 ghost use Rattle.ere_automaton.specs.Automaton.{Hull};
-ghost use Rattle.ere_derive.specs.Column.{Classified};
+ghost use Rattle.ere_classes.specs.Column.{Classified};
 ghost use Rattle.ere_derive.specs.Layout.{Headed};
 ghost use Rattle.ere_derive.specs.Derived.{Derived, DerivedBy, Attempted};
-use crate::classes;
-use crate::hull;
 use crate::layout;
 use crate::layout::ROWS;
 use crate::pairs;
@@ -107,12 +105,12 @@ pub fn derive_by(t: &[u64], mode: u64, d: &mut [u16], pairs: usize) -> usize
     if d.len() < ROWS {
         return 0;
     }
-    let mut bytes = [0u8; layout::MOST_CLASSES];
-    let k = classes::classes(t, &mut bytes, d);
+    let mut bytes = [0u8; ere_classes::MOST_CLASSES];
+    let k = ere_classes::put_classes(t, &mut bytes, d);
     if k == 0 {
         return 0;
     }
-    hull::put_hull(t, &bytes, k, d);
+    ere_classes::put_hull(t, &bytes, k, d);
     let r = with_pairs(t, mode, &bytes, k, d, pairs);
     if 0 < r {
         return r;

@@ -11,12 +11,6 @@ pub const ACCEPTED: usize = 3;
 
 pub const PAIRS: usize = 4;
 
-pub const SKIPS: usize = 5;
-
-pub const LOW: usize = 6;
-
-pub const NEXT_LOW: usize = 8;
-
 // In the first of both automata of a search: its length, and the accept bits of the empty match at the text's start and
 // elsewhere.
 pub const LENGTH: usize = 10;
@@ -26,7 +20,5 @@ pub const EMPTY: usize = 11;
 pub const CLASSES: usize = 16;
 
 pub const ROWS: usize = CLASSES + 256;
-// At most so many classes, and states.
-pub const MOST_CLASSES: usize = 64;
-
+// At most so many states.
 pub const MOST_STATES: usize = 96;

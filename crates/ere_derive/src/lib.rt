@@ -1,9 +1,7 @@
-// Finite automata from the table of an ERE, for the existence of a match and for the leftmost longest: the classes of
-// the bytes, the sets of places that can be reached, a row for each, and the ranges of a match's first two bytes.
+// Finite automata from the table of an ERE, for the existence of a match and for the leftmost longest: the sets of
+// places that can be reached, a row for each, and the states after two bytes.
 mod both;
 mod build;
-mod classes;
-mod hull;
 mod layout;
 mod pairs;
 mod rows;

@@ -5,7 +5,8 @@ ghost use Prim.Native.Nat.{ℕ, _+_, _*_, _≤_, _<_};
 ghost use lib.ListN.{length, getD};
 ghost use lib.Dec.{eqb};
 ghost use Rattle.ere_automaton.specs.Layout.{rowsAt, strideBy};
-ghost use Rattle.ere_derive.specs.Layout.{Apart, Frame, Closed, Paired, PutPairs};
+ghost use Rattle.ere_classes.specs.Frames.{Frame};
+ghost use Rattle.ere_derive.specs.Layout.{Apart, Closed, Paired, PutPairs};
 use crate::layout::ROWS;
 
 // Copies k words from p to q.

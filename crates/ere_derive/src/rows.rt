@@ -95,7 +95,7 @@ pub fn put_rows(
     let mut n = count;
     let mut i: usize = 0;
     while i < n {
-        let s = sets::set_at(sets, i);
+        let s = ere_classes::set_at(sets, i);
         n = put_row(
             t,
             mode,

@@ -17,14 +17,6 @@ pub const ONE: u64 = 1;
 
 pub const PENDING: u64 = 2;
 
-// Set i of some.
-pub fn set_at(sets: &[u64], i: usize) -> [u64; 3]
-    requires { ⌜ 3 * i + 3 ≤ length (now sets) ⌝ }
-    ensures { λ r. ⌜ r ≡ row (now (sets .entry)) i ⌝ }
-{
-    [sets[3 * i], sets[3 * i + 1], sets[3 * i + 2]]
-}
-
 // The set u; but a set in which a match has ended is the same whatever else is in it.
 fn collapsed(u: [u64; 3]) -> [u64; 3]
     ensures { λ r. ⌜ r ≡ collapsedOf u ⌝ }
@@ -44,7 +36,7 @@ fn after(t: &[u64], s: [u64; 3], b: u8) -> [u64; 3]
         return s;
     }
     let x = ere_search::step(t, s, b);
-    let y = ere_table::union(x, set_at(t, 1));
+    let y = ere_table::union(x, ere_classes::set_at(t, 1));
     collapsed(y)
 }
 
@@ -56,7 +48,7 @@ fn pending_after(t: &[u64], s: [u64; 3], b: u8) -> [u64; 3]
     if ere_table::has(s, PLACES) {
         return s;
     }
-    let x = ere_table::union(s, set_at(t, 1));
+    let x = ere_table::union(s, ere_classes::set_at(t, 1));
     collapsed(ere_search::step(t, x, b))
 }
 
@@ -79,7 +71,7 @@ pub fn first(t: &[u64], mode: u64) -> [u64; 3]
     requires { ⌜ length (now t) ≡ tableWords ⌝ }
     ensures { λ r. ⌜ r ≡ firstBy mode (now (t .entry)) ⌝ }
 {
-    let s = set_at(t, 0);
+    let s = ere_classes::set_at(t, 0);
     if mode == ALL {
         return collapsed(s);
     }
@@ -94,7 +86,7 @@ pub fn later(t: &[u64], mode: u64) -> [u64; 3]
     requires { ⌜ length (now t) ≡ tableWords ⌝ }
     ensures { λ r. ⌜ r ≡ laterBy mode (now (t .entry)) ⌝ }
 {
-    let s = set_at(t, 1);
+    let s = ere_classes::set_at(t, 1);
     if mode == ALL {
         return collapsed(s);
     }

@@ -1,5 +1,6 @@
-use Rattle.ere_derive.specs.Layout.{Frame}
-use Rattle.ere_derive.proofs.Composed.{frame-none, frame-on, frame-wider, frame-set, copied-more}
+use Rattle.ere_classes.specs.Frames.{Frame}
+use Rattle.ere_classes.proofs.Framed.{frame-none, frame-on, frame-wider, frame-set}
+use Rattle.ere_derive.proofs.Composed.{copied-more}
 use borrow.Author.Needs.{needs}
 use Prim.Native.Nat.{ℕ, _+_, _-_, _≤_, _<_}
 use mathlib.Core.Path.{_≡_}

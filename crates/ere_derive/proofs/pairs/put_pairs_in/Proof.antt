@@ -3,8 +3,10 @@ use Prim.Native.Nat.{ℕ, _+_, _-_, _*_, _≤_}
 use mathlib.Core.Path.{sym, subst}
 use native.Mathlib.Omega.{arith}
 use lib.ListN.{getD}
-use Rattle.ere_derive.specs.Layout.{Frame, Apart, Paired}
-use Rattle.ere_derive.proofs.Composed.{frame-none, square-below, apart-in, pairs-frame, pairs-more}
+use Rattle.ere_classes.specs.Frames.{Frame}
+use Rattle.ere_derive.specs.Layout.{Apart, Paired}
+use Rattle.ere_classes.proofs.Framed.{frame-none}
+use Rattle.ere_derive.proofs.Composed.{square-below, apart-in, pairs-frame, pairs-more}
 use Rattle.ere_derive.proofs.pairs.put_pairs_in.Statement.{statement}
 use Rattle.ere_derive.proofs.pairs.put_pairs_in.Tie as tie
 

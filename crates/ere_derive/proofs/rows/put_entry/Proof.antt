@@ -4,7 +4,8 @@ use native.Mathlib.Omega.{arith}
 use mathlib.Core.List.{List}
 use lib.Seq.{getD-set-same}
 use Rattle.ere_derive.specs.Growth.{Has}
-use Rattle.ere_derive.proofs.Composed.{rows-below, frame-none, frame-set}
+use Rattle.ere_classes.proofs.Framed.{frame-none, frame-set}
+use Rattle.ere_derive.proofs.Composed.{rows-below}
 use borrow.Author.Needs.{needs}
 use Rattle.ere_derive.proofs.rows.put_entry.Statement.{statement}
 use Rattle.ere_derive.proofs.rows.put_entry.Tie as tie

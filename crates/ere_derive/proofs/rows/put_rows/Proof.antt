@@ -6,9 +6,11 @@ use lib.ListN.{length}
 use mathlib.Core.List.{List}
 use Rattle.ere_automaton.specs.Layout.{rowsAt}
 use Rattle.ere_derive.specs.Growth.{Grows}
-use Rattle.ere_derive.specs.Layout.{Frame, RowAt, Rows}
+use Rattle.ere_classes.specs.Frames.{Frame}
+use Rattle.ere_derive.specs.Layout.{RowAt, Rows}
 use Rattle.ere_derive.proofs.Grown.{grows-none, grows-on}
-use Rattle.ere_derive.proofs.Composed.{rows-below, frame-none, frame-on, frame-wider, rows-more}
+use Rattle.ere_classes.proofs.Framed.{frame-none, frame-on, frame-wider}
+use Rattle.ere_derive.proofs.Composed.{rows-below, rows-more}
 use Rattle.ere_derive.proofs.rows.put_rows.Statement.{statement}
 use Rattle.ere_derive.proofs.rows.put_rows.Tie as tie
 

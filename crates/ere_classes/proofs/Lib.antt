@@ -1,0 +1,4 @@
+-- The laws of classes and ranges.
+pub mod Columns
+pub mod Framed
+pub mod Bounded
