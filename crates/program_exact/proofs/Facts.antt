@@ -344,7 +344,7 @@ module _ (edition : ℕ) where
 
   -- ---- what follows an operand and is no operator of a tier
 
-  tier-other : (p : Bool) (k : Kind) → among (tilde ∷ no-match ∷ assign ∷ []) k ≡ true → tierOf edition p k ≡ fields
+  pub tier-other : (p : Bool) (k : Kind) → among (tilde ∷ no-match ∷ assign ∷ []) k ≡ true → tierOf edition p k ≡ fields
   unfolding operatorIn rank among
   tier-other p k h =
       let known = each (λ k. (same k greater ≡ false) × (operatorIn k binary ≡ none) × (among joined k ≡ false) × (among words k ≡ false)) (tilde ∷ no-match ∷ assign ∷ [])

@@ -64,7 +64,7 @@ module _ (edition : ℕ) where
   swapped f g (k ∷ l) x b h =
       ⊎-elim (λ e. absurd (none-some (sym (run-none edition l) ∙ (ap (run edition l) (sym e) ∙ h)))) (λ e. ap (run edition l) e ∙ h) (b k)
 
-  not-prefix : (named m : Mode) (c : Context) (k : Kind) → among prefixes k ≡ true → fieldStep edition named m c k ≡ none
+  pub not-prefix : (named m : Mode) (c : Context) (k : Kind) → among prefixes k ≡ true → fieldStep edition named m c k ≡ none
   unfolding fieldStep primaryStep among rank
   not-prefix named m c k h =
       each (λ k. fieldStep edition named m c k ≡ none) prefixes
@@ -76,7 +76,7 @@ module _ (edition : ℕ) where
       by-test (λ x. (fieldStep edition m (settle m) c k ≡ none) ⊎ (x ≡ fieldStep edition m (settle m) c k)) (among prefixes k) _ _
       (λ e. inl (not-prefix m (settle m) c k e)) (λ e. inr refl)
 
-  from-primary : (named m : Mode) (c : Context) (k : Kind) → (primaryStep edition named m c k ≡ none) ⊎ (fieldStep edition named m c k ≡ primaryStep edition named m c k)
+  pub from-primary : (named m : Mode) (c : Context) (k : Kind) → (primaryStep edition named m c k ≡ none) ⊎ (fieldStep edition named m c k ≡ primaryStep edition named m c k)
   unfolding fieldStep primaryStep among rank
   from-primary named m c k =
       by-test (λ x. (primaryStep edition named m c k ≡ none) ⊎ (x ≡ primaryStep edition named m c k)) (same k dollar) _ _
@@ -148,7 +148,7 @@ module _ (edition : ℕ) where
       let known = each three words ((refl, refl, refl), ((refl, refl, refl), ((refl, refl, refl), ((refl, refl, refl), tt)))) k (function-word edition k f h) in
       word-step named m c k f h (known .0) (known .1) (known .2)
 
-  comparing : (p : Place) (c : Context) (k : Kind) → Compares p k → At p c → tierOf edition (printed c) k ≡ compared
+  pub comparing : (p : Place) (c : Context) (k : Kind) → Compares p k → At p c → tierOf edition (printed c) k ≡ compared
   comparing p c k (any o) a = rw a (tier-compared edition k (one-of o))
   comparing p c k (no-greater o g) a = rw a (tier-printed edition k (one-of o) g)
 

@@ -13,3 +13,4 @@ pub mod Tiers
 pub mod Bodies
 pub mod Whole
 pub mod Exactly
+pub mod Sayings

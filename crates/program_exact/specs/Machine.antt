@@ -1,6 +1,6 @@
 -- Internal: cited by private contracts only. The grammar of programs as a machine: what it knows after some kinds of
--- tokens, and what it knows after one more. It looks at no token ahead, so what it takes is what can go on. (proofs/ shows
--- that it takes what the grammar has, and nothing else.)
+-- tokens, and what it knows after one more. It looks at no token ahead, so what it takes is what can go on. (proofs/
+-- shows that it takes what the grammar has, and nothing else.)
 use mathlib.Core.Bool.{Bool, true, false, not, cond, _&&_}
 use mathlib.Core.List.{List, [], _∷_}
 use mathlib.Core.Option.{Option, some, none}
