@@ -1,4 +1,5 @@
--- Internal: cited by contracts between crates. How far a room is filled: no contract can say which bytes a call gives.
+-- Internal: cited by private contracts only. Internal: cited by contracts between crates. How far a room is filled: no
+-- contract can say which bytes a call gives.
 use Prim.Native.Nat.{ℕ, _+_, _≤_}
 use Rattle.front_files.specs.declared.reading.Filled.{Filled}
 use Rattle.front_files.specs.declared.reading.Filled.the-variants.{To, Full, Failed}

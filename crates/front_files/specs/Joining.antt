@@ -1,4 +1,5 @@
--- "Files are joined, with a newline where one that isn't empty lacks its last."
+-- Internal: cited by private contracts only. "Files are joined, with a newline where one that isn't empty lacks its
+-- last."
 use mathlib.Core.Bool.{Bool, cond, not, _&&_}
 use mathlib.Core.List.{List}
 use Prim.Native.Nat.{ℕ, _+_, _-_}

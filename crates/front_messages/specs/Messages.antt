@@ -1,4 +1,4 @@
--- What the program says.
+-- Internal: cited by private contracts only. What the program says.
 use mathlib.Core.List.{List, [], _∷_, _++_}
 use Prim.Native.Nat.{ℕ}
 use Prim.Native.Char.{code}

@@ -1,4 +1,5 @@
--- What a function that writes to a room does: the bytes stand from an index on, as far as the room goes.
+-- Internal: cited by private contracts only. What a function that writes to a room does: the bytes stand from an index
+-- on, as far as the room goes.
 use mathlib.Core.Path.{_≡_}
 use mathlib.Core.List.{List}
 use Prim.Native.Nat.{ℕ, _+_}

@@ -1,8 +1,6 @@
--- What options ask for.
---
---     flowawk [-b N] [-s] 'FILTER' [FILE..]          flowawk [-b N] [-s] -f FILTERFILE [FILE..]
---     flowawk [-b N] [-s] -i IMAGE [FILE..]          flowawk -o IMAGE 'FILTER' | -o IMAGE -f FILTERFILE
---     flowawk --check IMAGE | --content IMAGE        flowawk -h | -V
+-- Internal: cited by private contracts only. What options ask for.      flowawk [-b N] [-s] 'FILTER' [FILE..]
+-- flowawk [-b N] [-s] -f FILTERFILE [FILE..]     flowawk [-b N] [-s] -i IMAGE [FILE..]          flowawk -o IMAGE
+-- 'FILTER' | -o IMAGE -f FILTERFILE     flowawk --check IMAGE | --content IMAGE        flowawk -h | -V
 use mathlib.Core.Bool.{cond}
 use mathlib.Core.List.{List, [], _∷_}
 use Prim.Native.Nat.{ℕ, _+_}

@@ -1,4 +1,4 @@
--- The argument of -b: digits alone, at least one; the number is below 2^64.
+-- Internal: cited by private contracts only. The argument of -b: digits alone, at least one; the number is below 2^64.
 use mathlib.Core.Bool.{cond, _&&_}
 use mathlib.Core.List.{List, [], _∷_}
 use Prim.Native.Nat.{ℕ, _+_, _-_, _*_}

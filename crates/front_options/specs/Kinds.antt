@@ -1,4 +1,4 @@
--- The words that are options.
+-- Internal: cited by private contracts only. The words that are options.
 use mathlib.Core.Bool.{Bool, cond, _&&_}
 use mathlib.Core.List.{List, [], _∷_}
 use Prim.Native.Nat.{ℕ, suc}

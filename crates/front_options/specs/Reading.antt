@@ -1,4 +1,5 @@
--- The options that words give, read from left to right. "`--` ends options"; `-` is an operand; the first operand ends them too.
+-- Internal: cited by private contracts only. The options that words give, read from left to right. "`--` ends
+-- options"; `-` is an operand; the first operand ends them too.
 use mathlib.Core.Bool.{cond, not}
 use mathlib.Core.List.{List, [], _∷_}
 use Prim.Native.Nat.{ℕ, _+_}

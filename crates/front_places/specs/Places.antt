@@ -1,4 +1,4 @@
--- Places of a text: the line and the column of a byte, both from 1.
+-- Internal: cited by private contracts only. Places of a text: the line and the column of a byte, both from 1.
 use Prim.Native.Nat.{ℕ, suc, _+_, _-_}
 use mathlib.Core.Bool.{cond}
 use mathlib.Core.List.{List, [], _∷_}

@@ -1,5 +1,5 @@
--- A line as it is shown to a person: bytes that print, and tabs, as they are, any other as a backslash and three octal digits; of
--- a long line the part around a place.
+-- Internal: cited by private contracts only. A line as it is shown to a person: bytes that print, and tabs, as they
+-- are, any other as a backslash and three octal digits; of a long line the part around a place.
 use Prim.Native.Nat.{ℕ, suc, _+_, _-_, _/_, _%_}
 use mathlib.Core.Bool.{Bool, cond, _||_, _&&_}
 use mathlib.Core.List.{List, [], _∷_, _++_}

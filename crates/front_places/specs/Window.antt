@@ -1,4 +1,5 @@
--- Internal: cited by contracts between crates. Where the bytes that are shown around a place stand in the text.
+-- Internal: cited by private contracts only. Internal: cited by contracts between crates. Where the bytes that are
+-- shown around a place stand in the text.
 use mathlib.Core.Path.{_≡_}
 use mathlib.Core.List.{List}
 use Prim.Native.Nat.{ℕ, _-_, _≤_}

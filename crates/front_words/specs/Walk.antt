@@ -1,4 +1,4 @@
--- Internal: cited by contracts between crates. A walk from word to word.
+-- Internal: cited by private contracts only. Internal: cited by contracts between crates. A walk from word to word.
 use mathlib.Core.Path.{_≡_}
 use mathlib.Core.List.{List, _∷_}
 use Prim.Native.Nat.{ℕ, _-_, _≤_, _<_}

@@ -1,4 +1,5 @@
--- The words of a block of bytes: each is ended by a NUL, the last one by a NUL or by the end of the block.
+-- Internal: cited by private contracts only. The words of a block of bytes: each is ended by a NUL, the last one by a
+-- NUL or by the end of the block.
 use Prim.Native.Nat.{ℕ, zero, suc}
 use mathlib.Core.Bool.{cond}
 use mathlib.Core.List.{List, [], _∷_}

@@ -1,4 +1,5 @@
--- The tree that a derivation of an expression says, by the tokens whose kinds it derives.
+-- Internal: cited by private contracts only. The tree that a derivation of an expression says, by the tokens whose
+-- kinds it derives.
 use mathlib.Core.Bool.{cond}
 use mathlib.Core.List.{List, [], _∷_}
 use Prim.Native.Nat.{ℕ}
