@@ -18,6 +18,7 @@ import sys
 from wrong_definitions import ROOT, copied, edited, read, specs, write
 
 GRAMMAR = ('program_grammar', 'Grammar.antt')
+OPERATORS = ('program_reader', 'Operators.antt')
 EXPRESSIONS = ('program_reader', 'Expressions.antt')
 STATEMENTS = ('program_reader', 'Statements.antt')
 PROGRAMS = ('program_reader', 'Programs.antt')
@@ -40,6 +41,7 @@ WRONG = [
     ('reader: `next` in BEGIN and END', STATEMENTS, [('(cond (is NEXT t && inMain)', '(cond (is NEXT t && true)')]),
     ('reader: a chain of comparisons', EXPRESSIONS,
      [('turns s tier = cond (eqb tier compared) 1 (length s)', 'turns s tier = cond (eqb tier compared) 2 (length s)')]),
+    ('reader: `%` with `+` and `-`', OPERATORS, [('operator percent products', 'operator percent sums')]),
     ('reader: an `else` after two `;`', STATEMENTS,
      [('(cond (is semicolon t && not semicolons) mark', '(cond (is semicolon t && not false) mark')]),
 ]
