@@ -2,6 +2,7 @@
  * Runs an image over lines, for bench/run.py: run IMAGE LINES OUTPUT. Writes the output, and to standard error the outcome, the steps and the
  * seconds of processor time that the run alone took.
  */
+#define _GNU_SOURCE
 #include <fcntl.h>
 #include <inttypes.h>
 #include <stdio.h>
@@ -24,7 +25,7 @@ static const uint8_t *mapped(const char *name, size_t *length)
         exit(2);
     }
     *length = s.st_size;
-    void *at = s.st_size == 0 ? work : mmap(NULL, s.st_size, PROT_READ, MAP_PRIVATE, file, 0);
+    void *at = s.st_size == 0 ? work : mmap(NULL, s.st_size, PROT_READ, MAP_PRIVATE | MAP_POPULATE, file, 0);
     if (at == MAP_FAILED) {
         perror(name);
         exit(2);
@@ -63,6 +64,8 @@ int main(int count, char **words)
     const uint8_t *image = mapped(words[1], &n), *lines = mapped(words[2], &m);
     size_t room = 2 * m + 4096;
     uint8_t *output = mmap(NULL, room, PROT_READ | PROT_WRITE, MAP_PRIVATE | MAP_ANONYMOUS | MAP_NORESERVE, -1, 0);
+    /* large pages, where the system has them: the room is written once, from front to back */
+    madvise(output, room, MADV_HUGEPAGE);
     uint64_t steps, records, bytes;
     double start = seconds();
     uint64_t outcome = flowawk_run(image, n, lines, m, output, room, work, sizeof work, UINT64_MAX, &steps, &records, &bytes);
