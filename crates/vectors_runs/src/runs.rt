@@ -34,7 +34,7 @@ fn shows(output: &[u8], written: &[u8]) -> bool {
 }
 
 // Runs the image with a part of a room, and returns whether the answer and the room are as expected.
-fn runs(
+pub fn runs(
     p: &[u8],
     written: &[u8],
     image: &[u8],
