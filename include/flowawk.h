@@ -83,7 +83,7 @@ uint64_t flowawk_check(const uint8_t *image, size_t image_length);
  * than image_length bytes; both with the text's length as place. Else 0, with the image at the front of the room and its length as place.
  *
  * *place is stored on every call. The room's bytes beyond the image, and with outcomes 1 to 7 all of them, are as they were. An image that was written passes
- * `flowawk_check`. A call uses under 256 KiB of stack.
+ * `flowawk_check`. A call uses under 320 KiB of stack.
  */
 uint64_t flowawk_translate(const uint8_t *text, size_t text_length, uint8_t *image, size_t image_length, uint64_t *place);
 

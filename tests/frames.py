@@ -7,7 +7,7 @@ Reads `objdump -dr` of FILE (default: what `rt staticlib capi` writes). A functi
 the stack pointer. The 128 bytes below the stack pointer, which a function may use unasked while it calls nothing, are added once, at the end.
 Calls are followed from NAME (default: each function of include/flowawk.h); functions that call each other in a circle count for each level, one level more than the edition
 allows. The circles that may be there are in the table CIRCLES: how often a function can be on the stack in one level is said there. Functions outside the archive (memset and its like) are named, and not
-counted. BYTES is 16,384 unless given, and for `flowawk_check`, which has a section's index of 4 KiB beside the ERE reader's table, 20,992, and for `flowawk_run`, which has tables of EREs, 65,536. Calls through a pointer, and other changes of the stack pointer than those known here, are errors.
+counted. BYTES is 16,384 unless given, and for `flowawk_check`, which has a section's index of 4 KiB beside the ERE reader's table, 20,992, for `flowawk_run`, which has automata and tables of EREs, 65,536, and for `flowawk_translate`, whose reader calls itself for each level, 327,680. Calls through a pointer, and other changes of the stack pointer than those known here, are errors.
 """
 import argparse
 import os
@@ -22,7 +22,7 @@ RELOCATION = re.compile(r'^\s+[0-9a-f]+: R_X86_64_(?:PLT32|PC32)\s+(?:\.text\.)?
 PLACE = re.compile(r'^[0-9a-f]+ <([^+>]*)>$')
 RED_ZONE = 128
 MOST = 16384
-MOST_OF = {'flowawk_check': MOST + 4096 + 512, 'flowawk_run': 65536}
+MOST_OF = {'flowawk_check': MOST + 4096 + 512, 'flowawk_translate': 327680, 'flowawk_run': 65536}
 
 
 # The circles of calls: how the names of their functions begin, the edition's constant that bounds their levels, and how often a function can be on the stack
