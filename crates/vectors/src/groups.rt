@@ -40,7 +40,7 @@ pub fn passes(group: Group, p: &[u8]) -> bool {
         Group::Check => vectors_images::checking::passes(p),
         Group::Operations => vectors_runs::operations::passes(p),
         Group::Records => vectors_runs::records::passes(p),
-        Group::Runs => vectors_runs::runs::passes(p),
+        Group::Runs => vectors_programs::runs::passes(p),
         Group::Translate => vectors_programs::translating::passes(p),
         Group::Ways => vectors_programs::ways::passes(p),
     }

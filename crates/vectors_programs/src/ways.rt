@@ -2,6 +2,8 @@
 //
 // Payload: as that of a run, with the text in the place of the image. The text is one that is translated.
 
+use crate::runs;
+
 // The most bytes that an image and an output room have here, and what is in the rooms before.
 const IMAGE: usize = 16384;
 
@@ -34,7 +36,7 @@ fn goes(
     if image.len() < n {
         return false;
     }
-    vectors_runs::runs::runs(
+    runs::runs(
         p,
         written,
         &image[0..n],

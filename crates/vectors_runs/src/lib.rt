@@ -1,6 +1,5 @@
-// The judges of cases on runs and their operations. A group is a module, whose function `passes` says whether the case in
+// The judges of cases on the operations of a run. A group is a module, whose function `passes` says whether the case in
 // a payload passes; a payload that is not of the group's layout does not.
 pub mod operations;
 pub mod records;
-pub mod runs;
 mod slots;
