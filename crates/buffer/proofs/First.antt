@@ -73,7 +73,7 @@ not-here : (t s : List ℕ) → (startsWith t s ≡ true → ⊥) → Stands t s
 unfolding part startsWith
 not-here t s n w = n (same-equal (take (length t) s) t (w .same))
 
--- an answer that is right for s is right for x and s, one further, where t does not stand at the front
+-- an answer that is right for s is right for x and s, one further, where t is not at the front
 further-right : (t s : List ℕ) (x : ℕ) (o : Option ℕ) → (Stands t (x ∷ s) 0 → ⊥) → IsFirst t s o → IsFirst t (x ∷ s) (further o)
 further-right t s x (some k) n w =
     record {
@@ -106,7 +106,7 @@ one-right t s none none v w = refl
 pub first-part-is : (t s : List ℕ) (o : Option ℕ) → IsFirst t s o → firstPart t s ≡ o
 first-part-is t s o w = one-right t s (firstPart t s) o (first-part-right t s) w
 
--- `some k` exactly if t stands at k and at no lower index, `none` exactly if it stands nowhere
+-- `some k` exactly if t is at k and at no lower index, `none` exactly if it is nowhere
 pub first-part-some : (t s : List ℕ) (k : ℕ) → firstPart t s ≡ some k → FirstAt t s k
 first-part-some t s k e = subst (IsFirst t s) e (first-part-right t s)
 
@@ -119,7 +119,7 @@ first-part-none t s e = subst (IsFirst t s) e (first-part-right t s)
 pub none-first-part : (t s : List ℕ) → ((j : ℕ) → Stands t s j → ⊥) → firstPart t s ≡ none
 none-first-part t s w = first-part-is t s none w
 
--- the empty part stands at the front
+-- the empty part is at the front
 pub first-part-empty : (s : List ℕ) → firstPart [] s ≡ some 0
 unfolding firstPart startsWith equalBytes
 first-part-empty [] = refl

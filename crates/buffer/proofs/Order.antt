@@ -113,7 +113,7 @@ ordering-swap (x ∷ a) (y ∷ b) =
     (λ m. ordering-less y x b a m ∙ ap swapped (sym (ordering-more x y a b m)))
     (λ e. ordering-on y x b a (sym e) ∙ ordering-swap a b ∙ ap swapped (sym (ordering-on x y a b e)))
 
--- ---- less in order is what stands before
+-- ---- less in order is what comes before
 
 before-on : {a b : List ℕ} (x y : ℕ) → x ≡ y → Before a b → Before (x ∷ a) (y ∷ b)
 before-on x y e (shorter z b' q) = shorter z b' (ap₂ _∷_ (sym e) q)

@@ -45,7 +45,7 @@ pub part-part : (l : List ℕ) (a n k m : ℕ) → k + m ≤ n → part k m (par
 unfolding part
 part-part l a n k m h = part-take k m n (drop a l) h ∙ ap (take m) (drop-drop k a l)
 
--- what stands before a part with the part's front, and the part's rest with what stands behind it
+-- what is before a part with the part's front, and the part's rest with what comes after it
 take-part : (l : List ℕ) (a n m : ℕ) → m ≤ n → take a l ++ take m (part a n l) ≡ take (a + m) l
 unfolding part
 take-part l a n m h = ap (λ (x : List ℕ). take a l ++ x) (take-take m n (drop a l) h) ∙ sym (take-add a m l)
@@ -58,7 +58,7 @@ drop-part l a n m h fits =
     ∙ ap (drop m) (take-append-drop n (drop a l))
     ∙ drop-drop m a l
 
--- ---- a list with b from index a on: what stands before, in and behind b
+-- ---- a list with b from index a on: what is before, in and after b
 
 module _ (l : List ℕ) (a : ℕ) (b : List ℕ) (fits : a + length b ≤ length l) where
   length-before : length (take a l) ≡ a

@@ -1,4 +1,5 @@
--- Document 01, "Values": texts are compared "of unsigned bytes, the shorter first": dictionary order, a proper prefix first.
+-- Document 01, "Values": texts are compared "of unsigned bytes, the shorter first": dictionary order, a proper prefix
+-- first.
 use Prim.Native.Nat.{ℕ, _<_}
 use mathlib.Core.Path.{_≡_}
 use mathlib.Core.Bool.{Bool, true, false, cond}
@@ -19,7 +20,7 @@ swapped Less = Greater
 swapped Equal = Equal
 swapped Greater = Less
 
--- a stands before b: b goes on where a ends, or at the first place where they differ a has the lower byte
+-- a comes before b: b goes on where a ends, or at the first place where they differ a has the lower byte
 pub data Before (a b : List ℕ) : Type 0 where
   shorter : (y : ℕ) (b' : List ℕ) → b ≡ a ++ y ∷ b' → Before a b
   lower : (p : List ℕ) (x y : ℕ) (a' b' : List ℕ) → x < y → a ≡ p ++ x ∷ a' → b ≡ p ++ y ∷ b' → Before a b

@@ -28,7 +28,7 @@ pub fn copy_within(s: &mut [u8], from: usize, to: usize, n: usize)
     }
 }
 
-// To a lower index, the first byte first: none is overwritten before it is read.
+// Copies to a lower index, the first byte first: no byte is overwritten before it is read.
 fn copy_down(s: &mut [u8], from: usize, to: usize, n: usize)
     requires { ⌜ (from + n ≤ length (now s)) × (to ≤ from) ⌝ }
     ensures { λ _. ⌜ now (s .exit) ≡ put (now (s .entry)) to (part from n (now (s .entry))) ⌝ }
@@ -40,7 +40,7 @@ fn copy_down(s: &mut [u8], from: usize, to: usize, n: usize)
     }
 }
 
-// To a higher index, the last byte first.
+// Copies to a higher index, the last byte first: no byte is overwritten before it is read.
 fn copy_up(s: &mut [u8], from: usize, to: usize, n: usize)
     requires { ⌜ (to + n ≤ length (now s)) × (from ≤ to) ⌝ }
     ensures { λ _. ⌜ now (s .exit) ≡ put (now (s .entry)) to (part from n (now (s .entry))) ⌝ }

@@ -4,7 +4,7 @@ ghost use lib.ListN.{length};
 ghost use Rattle.buffer.specs.Order.{ordering, equalBytes};
 ghost use Rattle.buffer.specs.First.{firstByte};
 
-// How one byte string stands to another.
+// How one byte string compares with another.
 pub enum Order {
     Less,
     Equal,
@@ -17,7 +17,7 @@ pub enum Found {
     Nothing,
 }
 
-// The order of `a` to `b`.
+// Returns the order of `a` to `b`: by the first byte in which they differ; a proper prefix comes first.
 pub fn compare(a: &[u8], b: &[u8]) -> Order
     ensures { λ r. ⌜ r ≡ ordering (now (a .entry)) (now (b .entry)) ⌝ }
 {
@@ -40,7 +40,7 @@ pub fn compare(a: &[u8], b: &[u8]) -> Order
     Order::Equal
 }
 
-// Whether `a` and `b` have the same bytes.
+// Tells whether `a` and `b` have the same bytes.
 pub fn equal(a: &[u8], b: &[u8]) -> bool
     ensures { λ r. ⌜ r ≡ equalBytes (now (a .entry)) (now (b .entry)) ⌝ }
 {
@@ -57,7 +57,7 @@ pub fn equal(a: &[u8], b: &[u8]) -> bool
     true
 }
 
-// The index of the first `b` of `s`, or the length of `s` where there is none.
+// Returns the index of the first `b` of `s`, or the length of `s` where there is none.
 pub fn first_byte(s: &[u8], b: u8) -> usize
     ensures { λ r. ⌜ r ≡ firstByte b (now (s .entry)) ⌝ }
 {

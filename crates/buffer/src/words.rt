@@ -5,7 +5,7 @@ ghost use lib.ListN.{length};
 ghost use Rattle.buffer.specs.Parts.{part, put};
 ghost use Rattle.buffer.specs.Words.{leBytes, leValue};
 
-// A low byte below the bytes above it.
+// Returns the number of a low byte and the bytes above it.
 fn low(b: u8, above: u64) -> u64
     requires { ⌜ above < 2 ^ 56 ⌝ }
     ensures { λ r. ⌜ (r ≡ b + 256 * above) × (r < 256 * (above + 1)) ⌝ }
@@ -13,7 +13,7 @@ fn low(b: u8, above: u64) -> u64
     b as u64 + 256 * above
 }
 
-// The number in the eight bytes from index `at` on.
+// Returns the number in the eight bytes from index `at` on.
 pub fn get_word(s: &[u8], at: usize) -> u64
     requires { ⌜ at + 8 ≤ length (now s) ⌝ }
     ensures { λ r. ⌜ r ≡ leValue (part at 8 (now (s .entry))) ⌝ }
@@ -50,7 +50,7 @@ pub fn put_word(s: &mut [u8], at: usize, w: u64)
     s[at + 7] = (w7 % 256) as u8;
 }
 
-// The number in the two bytes from index `at` on.
+// Returns the number in the two bytes from index `at` on.
 pub fn get_short(s: &[u8], at: usize) -> u16
     requires { ⌜ at + 2 ≤ length (now s) ⌝ }
     ensures { λ r. ⌜ r ≡ leValue (part at 2 (now (s .entry))) ⌝ }

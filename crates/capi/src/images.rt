@@ -3,7 +3,7 @@ ghost use mathlib.Core.Path.{_≡_};
 ghost use Rattle.image.specs.Copy.{copying, readOf, writtenOf};
 ghost use Rattle.image_check.specs.Verdict.{checkOf};
 
-// The content of an image.
+// Reads an image to its content words.
 #[no_mangle]
 pub extern "C" fn flowawk_read(image: &[u8], content: &mut [u64], written: &mut u64) -> u64
     ensures { λ r. ⌜ copying r (now (written .exit)) (now (content .exit))
@@ -14,7 +14,7 @@ pub extern "C" fn flowawk_read(image: &[u8], content: &mut [u64], written: &mut 
     capi_numbers::copied_outcome(c)
 }
 
-// The bytes of an image, from its content.
+// Writes the bytes of an image, from its content words.
 #[no_mangle]
 pub extern "C" fn flowawk_write(content: &[u64], image: &mut [u8], written: &mut u64) -> u64
     ensures { λ r. ⌜ copying r (now (written .exit)) (now (image .exit))
@@ -25,7 +25,7 @@ pub extern "C" fn flowawk_write(content: &[u64], image: &mut [u8], written: &mut
     capi_numbers::copied_outcome(c)
 }
 
-// Whether an image passes the check.
+// Checks an image.
 #[no_mangle]
 pub extern "C" fn flowawk_check(image: &[u8]) -> u64
     ensures { λ r. ⌜ r ≡ checkOf (now (image .entry)) ⌝ }

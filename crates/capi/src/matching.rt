@@ -3,7 +3,7 @@ ghost use mathlib.Core.Path.{_≡_};
 ghost use Rattle.edition.specs.Limits.{firstEdition};
 ghost use Rattle.ere.specs.Answer.{matching, searchOf};
 
-// The leftmost, longest match of the ERE in the text, by the first edition.
+// Finds the leftmost, longest match of the ERE in the text, by the first edition.
 #[no_mangle]
 pub extern "C" fn flowawk_match(ere: &[u8], text: &[u8], rstart: &mut u64, rlength: &mut i64) -> u64
     ensures { λ r. ⌜ matching r (now (rstart .exit)) (now (rlength .exit))

@@ -15,7 +15,7 @@ pub extern "C" fn flowawk_split(record: &[u8], fs: &[u8], count: &mut u64) -> u6
     capi_numbers::split_outcome(s)
 }
 
-// Field k of a record, by the first edition: the outcome of splitting it, and the field's place and length.
+// Finds field k of a record, by the first edition: the outcome of splitting it, and the field's place and length.
 #[no_mangle]
 pub extern "C" fn flowawk_field(
     record: &[u8],

@@ -5,7 +5,7 @@ ghost use Rattle.image.specs.Copy.{copyingOf};
 use edition::Outcome;
 use image::Copied;
 
-// The number of an answer's outcome.
+// Returns the number of an answer's outcome.
 pub fn copied_outcome(c: Copied) -> u64
     ensures { λ r. ⌜ r ≡ copyingOf c [] .outcome ⌝ }
 {
@@ -16,7 +16,7 @@ pub fn copied_outcome(c: Copied) -> u64
     }
 }
 
-// The length written, 0 on a refusal.
+// Returns the length written, 0 on a refusal.
 pub fn copied_length(c: Copied) -> u64
     ensures { λ r. ⌜ r ≡ copyingOf c [] .length ⌝ }
 {

@@ -13,7 +13,7 @@ pub struct MatchAnswer {
     pub rlength: i64,
 }
 
-// The numbers where there is no match.
+// Returns the numbers where there is no match.
 fn without(outcome: u64) -> MatchAnswer
     ensures { λ r. ⌜ matching (r .outcome) (r .rstart) (r .rlength) ≡ withoutMatch outcome ⌝ }
 {
@@ -24,7 +24,7 @@ fn without(outcome: u64) -> MatchAnswer
     }
 }
 
-// The numbers of a search's answer.
+// Returns the numbers of a search's answer.
 pub fn match_numbers(m: Matched) -> MatchAnswer
     requires { ⌜ Within (matchingOf m) ⌝ }
     ensures { λ r. ⌜ matching (r .outcome) (r .rstart) (r .rlength) ≡ matchingOf m ⌝ }

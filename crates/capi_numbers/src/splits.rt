@@ -4,7 +4,7 @@ ghost use Rattle.fields.specs.Answer.{countingOf};
 use edition::Outcome;
 use fields::Splitting;
 
-// The number of a split's outcome.
+// Returns the number of a split's outcome.
 pub fn split_outcome(s: Splitting) -> u64
     ensures { λ r. ⌜ r ≡ countingOf s .outcome ⌝ }
 {
@@ -16,7 +16,7 @@ pub fn split_outcome(s: Splitting) -> u64
     }
 }
 
-// How many fields there are, 0 of a refused record.
+// Returns how many fields there are, 0 of a refused record.
 pub fn split_count(s: Splitting) -> u64
     ensures { λ r. ⌜ r ≡ countingOf s .count ⌝ }
 {

@@ -4,7 +4,7 @@ ghost use Rattle.image_check.specs.Verdict.{outcomeOf};
 use edition::Outcome;
 use image_check::Verdict;
 
-// The number of a verdict.
+// Returns the number of a verdict.
 pub fn verdict_outcome(v: Verdict) -> u64
     ensures { λ r. ⌜ r ≡ outcomeOf v ⌝ }
 {

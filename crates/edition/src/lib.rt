@@ -42,7 +42,8 @@ impl Edition {
     // Open groups of an ERE.
     pub const ERE_GROUPS: usize = 16;
 
-    // Gives the first edition's number and sizes, each under its name: the contract says that code and definitions have the same.
+    // Returns the first edition's number and sizes, each under its name; the contract says that code and definitions
+    // have the same.
     pub fn limits() -> Limits
         ensures { λ r. ⌜ r ≡ Limits·limits ⌝ }
     {
@@ -132,7 +133,7 @@ impl Outcome {
 
     pub const WORKING_ROOM_TOO_SMALL: u64 = 19;
 
-    // Every number, in the order of document 01's table.
+    // Returns every outcome number, in the order of document 01's table.
     pub fn numbers() -> [u64; 20]
         ensures { λ r. ⌜ r ≡ outcomes ⌝ }
     {

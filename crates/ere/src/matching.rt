@@ -15,7 +15,8 @@ pub enum Matched {
     LongText,
 }
 
-// Reads an ERE into a table, for `ere_search::find_from`; whether it is one.
+// Compiles an ERE into a table, for `ere_search::find_from`, and tells whether it is one. Where it is none, what the
+// table has is left open: no caller may use it.
 pub fn compile(ere: &[u8], edition: Edition, t: &mut [u64]) -> bool
     requires { ⌜ length (now t) ≡ tableWords ⌝ }
     ensures { λ r. ⌜ Compiles (edition .number) (now (ere .entry)) (now (t .exit)) r ⌝ }
@@ -40,7 +41,7 @@ pub fn compile(ere: &[u8], edition: Edition, t: &mut [u64]) -> bool
     true
 }
 
-// The leftmost, longest match of the ERE in the text, by the first edition.
+// Finds the leftmost, longest match of the ERE in the text, by the first edition.
 pub fn search(ere: &[u8], text: &[u8]) -> Matched
     ensures { λ r. ⌜ matchingOf r ≡ searchOf firstEdition (now (ere .entry)) (now (text .entry)) ⌝ }
 {

@@ -30,7 +30,7 @@ pub in-any : (x : ℕ) → x < 256 → inClass everyByte x ≡ accepts anyByte x
 unfolding accepts inSome
 in-any x h = class-bit noByte x four-none h .full
 
--- ---- a bracket is its items, behind the `^` where there is one
+-- ---- a bracket is its items, after the `^` where there is one
 
 bracket-other : (t : List ℕ) → true ≡ begins (94 ∷ []) t → readBracket t ≡ bracketOf true (itemsOf true (tail t))
 unfolding begins readBracket itemsOf tail

@@ -115,7 +115,7 @@ module _ {r : Member} {l : List ℕ} {at : ℕ} {o : Option (Parsed ℕ)} (w : R
   pub byte-further : {b k : ℕ} → r ≡ Byte b k → (at < k) × (k ≤ length l)
   byte-further e = subst (λ (m : Member). Further m l at) e (w .further)
 
--- a byte that stands somewhere stands in the list
+-- a byte that is somewhere is in the list
 pub begins-inside : (l : List ℕ) (at : ℕ) (bs : List ℕ) → true ≡ begins bs (drop at l) → at < length l
 begins-inside l at bs e =
     elim (decLt at (length l)) [ yes h ↦ h | no n ↦ absurd (true≢false (e ∙ sym (begins-past l at bs (omega arith)))) ]

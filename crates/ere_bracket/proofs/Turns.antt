@@ -1,4 +1,5 @@
--- The items of a bracket do not depend on the turns, once there are more of them than bytes; so each way in which they go on is an equation.
+-- The items of a bracket do not depend on the turns, once there are more of them than bytes; so each way in which they
+-- go on is an equation.
 use mathlib.Core.Path.{_≡_, refl, sym, ap, ap₂}
 use mathlib.Core.Bool.{Bool, true, false, not, cond, _&&_}
 use mathlib.Core.List.{List, [], _∷_}

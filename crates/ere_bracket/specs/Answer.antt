@@ -11,7 +11,8 @@ use Rattle.ere_grammar.specs.Read.{readBracket}
 use Rattle.ere_bracket.specs.Words.{inClass}
 use Rattle.ere_bracket.specs.declared.brackets.Bracket.{Bracket}
 
--- A class is read from index `at` of l on, the index behind it lies further on, in the list or at its end, and the words have its bytes.
+-- A class is read from index `at` of l on, the index after it lies further on, in the list or at its end, and the words
+-- have its bytes.
 pub record BracketRead (r : Bracket) (l : List ℕ) (at : ℕ) : Type 0 where
   pub class : Class
   pub same : readBracket (drop at l) ≡ parsed class (drop (r .next) l)

@@ -12,12 +12,12 @@ use Rattle.lists.specs.Parsing.{Parsed, parsed}
 abbrev pub classMarks : List ℕ
 classMarks = 58 ∷ 61 ∷ 46 ∷ []
 
--- an answer in the list l: the byte, and what is left behind it
+-- an answer in the list l: the byte, and what is left after it
 abbrev pub memberOf : Member → List ℕ → Option (Parsed ℕ)
 memberOf (members.Byte b next) l = parsed b (drop next l)
 memberOf members.Bad l = none
 
--- the index behind the byte lies further on, in the list or at its end
+-- the index after the byte lies further on, in the list or at its end
 abbrev pub Further : Member → List ℕ → ℕ → Type 0
 Further (members.Byte b next) l at = (at < next) × (next ≤ length l)
 Further members.Bad l at = Unit

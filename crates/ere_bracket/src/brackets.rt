@@ -11,8 +11,8 @@ use crate::classes;
 use crate::members;
 use crate::members::Member;
 
-// How far the items are read: whether more follow; if none do, whether the bracket ended well; the index behind what was read; and the bytes
-// of the items so far.
+// How far the items are read: whether more follow; if none do, whether the bracket ended well; the index after what was
+// read; and the bytes of the items so far.
 struct Step {
     more: bool,
     ok: bool,
@@ -20,7 +20,7 @@ struct Step {
     words: [u64; 4],
 }
 
-// More items may follow from an index on.
+// Makes the step after which more items may follow, from an index on.
 fn goes_on(at: usize, words: [u64; 4]) -> Step
     ensures { λ r. ⌜ r ≡ goesOn at words ⌝ }
 {
@@ -32,7 +32,7 @@ fn goes_on(at: usize, words: [u64; 4]) -> Step
     }
 }
 
-// The bracket ended before an index.
+// Makes the step that ended the bracket before an index.
 fn closed(at: usize, words: [u64; 4]) -> Step
     ensures { λ r. ⌜ r ≡ closedAt at words ⌝ }
 {
@@ -44,7 +44,7 @@ fn closed(at: usize, words: [u64; 4]) -> Step
     }
 }
 
-// There is no bracket.
+// Makes the step that found no bracket.
 fn refused(at: usize, words: [u64; 4]) -> Step
     ensures { λ r. ⌜ r ≡ refusedAt at words ⌝ }
 {
@@ -56,7 +56,7 @@ fn refused(at: usize, words: [u64; 4]) -> Step
     }
 }
 
-// The rest of a range from the byte low, from the index behind its `-` on.
+// Reads the rest of a range from the byte low, from the index after its `-` on.
 fn range_to(ere: &[u8], at: usize, low: u8, words: [u64; 4]) -> Step
     ensures { λ r. ⌜ Leads r (now (ere .entry)) at (worded words (rangeTo (itemsOf false) low (readMember (drop at (now (ere .entry)))))) ⌝ }
 {
@@ -72,7 +72,7 @@ fn range_to(ere: &[u8], at: usize, low: u8, words: [u64; 4]) -> Step
     }
 }
 
-// A byte or a range from an index on.
+// Reads a byte or a range, from an index on.
 fn item(ere: &[u8], at: usize, words: [u64; 4]) -> Step
     ensures { λ r. ⌜ Leads r (now (ere .entry)) at (worded words (afterByte (itemsOf false) (readMember (drop at (now (ere .entry)))))) ⌝ }
 {
@@ -88,7 +88,7 @@ fn item(ere: &[u8], at: usize, words: [u64; 4]) -> Step
     }
 }
 
-// A `-` before an index, which has to be the last item.
+// Reads a `-` before an index, which has to be the last item.
 fn last_hyphen(ere: &[u8], at: usize, words: [u64; 4]) -> Step
     ensures { λ r. ⌜ Leads r (now (ere .entry)) at (worded words (lastHyphen (drop at (now (ere .entry))))) ⌝ }
 {
@@ -99,7 +99,7 @@ fn last_hyphen(ere: &[u8], at: usize, words: [u64; 4]) -> Step
     refused(at, words)
 }
 
-// One item, or the bracket's end, from an index on; `first` where no item stands before it.
+// Reads one item, or the bracket's end, from an index on; `first` where no item is before it.
 fn turn(ere: &[u8], at: usize, first: bool, words: [u64; 4]) -> Step
     requires { ⌜ at < length (now ere) ⌝ }
     ensures { λ r. ⌜ Leads r (now (ere .entry)) at (worded words (itemsOf first (drop at (now (ere .entry))))) ⌝ }
@@ -116,7 +116,7 @@ fn turn(ere: &[u8], at: usize, first: bool, words: [u64; 4]) -> Step
     item(ere, at, words)
 }
 
-// All items from an index on, and the bracket's end.
+// Reads all items from an index on, and the bracket's end.
 fn read_items(ere: &[u8], from: usize) -> Step
     ensures { λ r. ⌜ Ended r (now (ere .entry)) from (worded noByte (itemsOf true (drop from (now (ere .entry))))) ⌝ }
 {
@@ -136,14 +136,14 @@ fn read_items(ere: &[u8], from: usize) -> Step
     refused(at, words)
 }
 
-// A bracket: whether it is one; if it is, the index behind it and the bytes that it takes.
+// A bracket: whether it is one; if it is, the index after it and the bytes that it accepts.
 pub struct Bracket {
     pub ok: bool,
     pub next: usize,
     pub words: [u64; 4],
 }
 
-// The bracket whose `[` stands before an index.
+// Reads the bracket whose `[` is before an index.
 pub fn read_bracket(ere: &[u8], at: usize) -> Bracket
     ensures { λ r. ⌜ BracketReads r (now (ere .entry)) at ⌝ }
 {

@@ -3,21 +3,21 @@ ghost use mathlib.Core.Path.{_≡_};
 ghost use Prim.Native.Nat.{_+_, _-_, _≤_};
 ghost use Rattle.ere_bracket.specs.Words.{inClass, noByte, everyByte, withByte, withBytes, otherWord, otherBytes};
 
-// No byte.
+// Returns the class of no byte.
 pub fn empty() -> [u64; 4]
     ensures { λ r. ⌜ r ≡ noByte ⌝ }
 {
     [0, 0, 0, 0]
 }
 
-// Every byte.
+// Returns the class of every byte.
 pub fn full() -> [u64; 4]
     ensures { λ r. ⌜ r ≡ everyByte ⌝ }
 {
     [u64::MAX, u64::MAX, u64::MAX, u64::MAX]
 }
 
-// Whether the byte b is in the class c.
+// Tells whether the byte b is in the class c.
 pub fn has(c: [u64; 4], b: u8) -> bool
     ensures { λ r. ⌜ r ≡ inClass c b ⌝ }
 {
@@ -25,7 +25,7 @@ pub fn has(c: [u64; 4], b: u8) -> bool
     (c[k] >> (b % 64)) % 2 == 1
 }
 
-// The class c with the byte b.
+// Returns the class c with the byte b.
 pub fn with_byte(c: [u64; 4], b: u8) -> [u64; 4]
     ensures { λ r. ⌜ r ≡ withByte c b ⌝ }
 {
@@ -35,14 +35,14 @@ pub fn with_byte(c: [u64; 4], b: u8) -> [u64; 4]
     d
 }
 
-// The byte b alone.
+// Returns the class of the byte b alone.
 pub fn single(b: u8) -> [u64; 4]
     ensures { λ r. ⌜ r ≡ withByte noByte b ⌝ }
 {
     with_byte([0, 0, 0, 0], b)
 }
 
-// The class c with the bytes from lo up to hi, both of them in it.
+// Returns the class c with the bytes from lo up to hi, both of them in it.
 pub fn with_range(c: [u64; 4], lo: u8, hi: u8) -> [u64; 4]
     requires { ⌜ lo ≤ hi ⌝ }
     ensures { λ r. ⌜ r ≡ withBytes c lo (hi + 1 - lo) ⌝ }
@@ -57,14 +57,14 @@ pub fn with_range(c: [u64; 4], lo: u8, hi: u8) -> [u64; 4]
     with_byte(d, hi)
 }
 
-// The word with each bit turned.
+// Returns the word with each bit flipped.
 fn other_word(w: u64) -> u64
     ensures { λ r. ⌜ r ≡ otherWord w ⌝ }
 {
     u64::MAX - w
 }
 
-// Every byte that is not in the class c.
+// Returns the class of every byte that is not in the class c.
 pub fn flipped(c: [u64; 4]) -> [u64; 4]
     ensures { λ r. ⌜ r ≡ otherBytes c ⌝ }
 {

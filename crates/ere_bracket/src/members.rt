@@ -6,13 +6,13 @@ ghost use Rattle.ere_grammar.specs.Read.{begins, readEscape, readMember, joins 
 ghost use Rattle.ere_bracket.specs.Members.{Reads, classMarks};
 use ere_grammar::Escaped;
 
-// A byte that was read, and the index behind it.
+// A byte that was read, and the index after it.
 pub enum Member {
     Byte(u8, usize),
     Bad,
 }
 
-// Whether the byte b stands at an index.
+// Tells whether the byte b is at an index.
 pub fn stands(ere: &[u8], at: usize, b: u8) -> bool
     ensures { λ r. ⌜ r ≡ begins (b ∷ []) (drop at (now (ere .entry))) ⌝ }
 {
@@ -22,7 +22,7 @@ pub fn stands(ere: &[u8], at: usize, b: u8) -> bool
     ere[at] == b
 }
 
-// Whether `:`, `=` or `.` stands at an index: behind a `[` they would open a class by name.
+// Tells whether `:`, `=` or `.` is at an index: after a `[` they would open a class by name.
 fn names_class(ere: &[u8], at: usize) -> bool
     ensures { λ r. ⌜ r ≡ begins classMarks (drop at (now (ere .entry))) ⌝ }
 {
@@ -33,7 +33,7 @@ fn names_class(ere: &[u8], at: usize) -> bool
     (b == b':') | (b == b'=') | (b == b'.')
 }
 
-// Whether a `-` stands at an index, with a byte behind it that does not end the bracket.
+// Tells whether a `-` is at an index, with a byte after it that does not end the bracket.
 pub fn joins(ere: &[u8], at: usize) -> bool
     ensures { λ r. ⌜ r ≡ joinsOf (drop at (now (ere .entry))) ⌝ }
 {
@@ -49,7 +49,7 @@ pub fn joins(ere: &[u8], at: usize) -> bool
     ere[at + 1] != b']'
 }
 
-// The byte that is escaped by a backslash before an index.
+// Reads the byte that is escaped by a backslash before an index.
 pub fn read_escape(ere: &[u8], at: usize) -> Member
     ensures { λ r. ⌜ Reads r (now (ere .entry)) at (readEscape (drop at (now (ere .entry)))) ⌝ }
 {
@@ -62,7 +62,7 @@ pub fn read_escape(ere: &[u8], at: usize) -> Member
     }
 }
 
-// The byte of a bracket at an index.
+// Reads the byte of a bracket at an index.
 pub fn read_member(ere: &[u8], at: usize) -> Member
     ensures { λ r. ⌜ Reads r (now (ere .entry)) at (readMember (drop at (now (ere .entry)))) ⌝ }
 {

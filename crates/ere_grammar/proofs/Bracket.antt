@@ -45,7 +45,7 @@ member-sound barred (b ∷ t) h =
     opened true n e k u r p = rw (eqb-true b 91 e) (clear (begins-clear _ u r (rw (e, p) at k)))
     opened false n e k u r p = other {b = b} (rw (e, n))
 
--- an unescaped `[`, and one of the bytes that it may not have behind it
+-- an unescaped `[`, and one of the bytes that it may not have after it
 unfoldable blocked : List ℕ → List ℕ → Bool
 blocked [] r = false
 blocked (b ∷ []) r = eqb b 91 && begins (58 ∷ 61 ∷ 46 ∷ []) r
@@ -155,7 +155,7 @@ items-sound (suc turns) false (b ∷ t) =
     holds-cond (ItemsRead false (b ∷ t)) _ (lastHyphen t) _ (λ k. rw (eqb-true b 45 k) (hyphen-sound t)) (λ k.
     after-sound (readItems turns false) (λ u. items-sound turns false u) false (b ∷ t) _ (member-sound (93 ∷ 45 ∷ []) (b ∷ t) (rw (h, k)))))
 
--- an item's first byte, and what is behind it
+-- an item's first byte, and what is after it
 item-complete : (first : Bool) {s : List ℕ} {a : ℕ} → Member (senses first) s a → (turns : ℕ) (r : List ℕ) → blocked s r ≡ false
     → readItems (suc turns) first (s ++ r) ≡ afterByte (readItems turns false) (parsed a r)
 unfolding readItems
@@ -198,7 +198,7 @@ items-complete (span {first} {s} {u} {t} {a} {b} m w o n i) (suc turns) l h =
       items-complete i turns l (omega (arith, length-append s (45 ∷ (u ++ t)), length-append u t)),
     ))
 
--- ---- the bracket, behind its `[`
+-- ---- the bracket, after its `[`
 
 abbrev pub BracketRead : List ℕ → Class → List ℕ → Type 0
 BracketRead t c l = (s : List ℕ) × (t ≡ s ++ l) × Bracket (91 ∷ s) c
@@ -220,7 +220,7 @@ module _ (t : List ℕ) where
   bracket-sound =
       holds-cond _ (begins (94 ∷ []) t) _ _ (λ k. left-out _ (items-sound (length t) true (tail t)) k) (λ k. taken _ (items-sound (suc (length t)) true t) k)
 
--- what stands behind the `[` of a bracket
+-- what comes after the `[` of a bracket
 pub bracket-complete : {s : List ℕ} {c : Class} → Bracket s c → (r : List ℕ) → (t : List ℕ) × (s ++ r ≡ 91 ∷ t) × (readBracket t ≡ parsed c r)
 unfolding readBracket begins tail bracketOf oneOf
 bracket-complete (taking {s} k i) r = (

@@ -34,8 +34,9 @@ abbrev Unmarked : List ℕ → Type 0
 Unmarked r = begins (42 ∷ 43 ∷ 63 ∷ []) r ≡ false
 
 module _ (edition : ℕ) where
-  -- What a part's bytes s do to a reading that has r behind them: an atom is handed on to what may repeat it; a piece goes to the sequence so far, in
-  -- one turn; a sequence is all of the sequence; alternatives leave the last of them to be joined to the others.
+  -- What a part's bytes s do to a reading that has r after them: an atom is handed on to what may repeat it; a piece
+  -- goes to the sequence so far, in one turn; a sequence is all of the sequence; alternatives leave the last of them to
+  -- be joined to the others.
   unfoldable Complete : Part → ℕ → List ℕ → Ere Class → Type 0
   Complete atom n s e =
       (0 < length s) × ((r : List ℕ) → Unmarked (s ++ r))

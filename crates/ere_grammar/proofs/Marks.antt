@@ -1,5 +1,5 @@
--- The marks, a bit for each of them: what the code reads off is what the definition says, at each of the 256 bytes. And a byte that is no escape's.
--- Assumes nothing.
+-- The marks, a bit for each of them: what the code reads off is what the definition says, at each of the 256 bytes. And
+-- a byte that is no escape's. Assumes nothing.
 use mathlib.Core.Path.{_≡_, refl}
 use mathlib.Core.Bool.{Bool, Bool·beq}
 use mathlib.Core.List.{List, [], _∷_}

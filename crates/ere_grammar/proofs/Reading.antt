@@ -1,5 +1,5 @@
--- The theorem of document 01's grammar of EREs: what `readEre` computes is what the grammar says, and that is at most one tree.
--- Assumes nothing.
+-- The theorem of document 01's grammar of EREs: what `readEre` computes is what the grammar says, and that is at most
+-- one tree. Assumes nothing.
 use mathlib.Core.Path.{_≡_, refl, subst}
 use mathlib.Core.Logic.{_↔_}
 use mathlib.Core.Bool.{Bool, true, false, cond}

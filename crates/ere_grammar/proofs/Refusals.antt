@@ -10,7 +10,8 @@ use Rattle.ere_meaning.specs.Tree.{places}
 use Rattle.ere_grammar.specs.Bytes.{lookup, escapeOf, isPlain}
 use Rattle.ere_grammar.specs.Read.{begins, tail, escapedByte, readEscape, readMember, joins, withRange, lastHyphen, rangeTo, afterByte, readItems, bracketOf, readBracket, onlyByte, readAtom, finished, repeated, afterAtom, afterGroup, afterBar, readGroup, readRest, whole, readEre}
 
--- `[a-c-e]`, "a range end used twice"; `[c-a]`, "a backwards range"; `[a[.]`, "`[.` inside a bracket"; 129 places; `a` in 17 groups
+-- `[a-c-e]`, "a range end used twice"; `[c-a]`, "a backwards range"; `[a[.]`, "`[.` inside a bracket"; 129 places; `a`
+-- in 17 groups
 abbrev refused : List (List ℕ)
 refused =
     (91 ∷ 97 ∷ 45 ∷ 99 ∷ 45 ∷ 101 ∷ 93 ∷ []) ∷ (91 ∷ 99 ∷ 45 ∷ 97 ∷ 93 ∷ []) ∷ (91 ∷ 97 ∷ 91 ∷ 46 ∷ 93 ∷ []) ∷ replicate 129 97

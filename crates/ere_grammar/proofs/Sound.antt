@@ -78,7 +78,7 @@ module _ (edition : ℕ) where
   Sound rest = (n : ℕ) (A S : Option (Ere Class)) (p t : List ℕ) → Before n A S p → Holds (RestRead n p t) (rest n A S t)
 
   module _ (rest : Rest) (ih : Sound rest) (n : ℕ) (A S : Option (Ere Class)) (p : List ℕ) (so : Before n A S p) where
-    -- one piece more, and what is behind it
+    -- one piece more, and what is after it
     piece-sound : (u t : List ℕ) (e : Ere Class) → Spells edition piece n u e → Holds (RestRead n p (u ++ t)) (rest n A (some (andThen S e)) t)
     unfolding Sound Sequence
     piece-sound u t e k =

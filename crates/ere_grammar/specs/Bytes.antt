@@ -6,7 +6,7 @@ use Prim.Native.Nat.{ℕ}
 use lib.Dec.{eqb}
 use Rattle.lists.specs.Elements.{oneOf}
 
--- an escape: the byte behind the backslash, and the byte that the two spell
+-- an escape: the byte after the backslash, and the byte that the two spell
 pub record Escape : Type 0 where
   pub letter : ℕ
   pub byte : ℕ
@@ -28,10 +28,11 @@ unfoldable pub lookup : List Escape → ℕ → Option ℕ
 lookup [] b = none
 lookup (e ∷ l) b = cond (eqb b (e .letter)) (some (e .byte)) (lookup l b)
 
--- the byte that a backslash and the byte b spell, if any: "a backslash before anything but a string escape's byte or one of" the marks is refused
+-- the byte that a backslash and the byte b spell, if any: "a backslash before anything but a string escape's byte or
+-- one of" the marks is refused
 unfoldable pub escapeOf : ℕ → Option ℕ
 escapeOf b = cond (oneOf marks b) (some b) (lookup stringEscapes b)
 
--- a byte that stands for itself outside brackets: any but a backslash and the marks, of which only `]` does
+-- a byte that is itself outside brackets: any but a backslash and the marks, of which only `]` is
 unfoldable pub isPlain : ℕ → Bool
 isPlain b = eqb b 93 || not (oneOf (92 ∷ marks) b)

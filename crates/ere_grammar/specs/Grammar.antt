@@ -16,13 +16,13 @@ pub data Clear (bytes : List ℕ) : List ℕ → Type 0 where
   at-end : Clear bytes []
   before : {b : ℕ} {t : List ℕ} → oneOf bytes b ≡ false → Clear bytes (b ∷ t)
 
--- "`[:`, `[=`, `[.` inside a bracket" are refused: an unescaped `[` has none of these bytes behind it
+-- "`[:`, `[=`, `[.` inside a bracket" are refused: an unescaped `[` has none of these bytes after it
 pub data Opened : List ℕ → List ℕ → Type 0 where
   other : {b : ℕ} {t : List ℕ} → oneOf (91 ∷ 92 ∷ []) b ≡ false → Opened (b ∷ []) t
   escaped : {b : ℕ} {t : List ℕ} → Opened (92 ∷ b ∷ []) t
   clear : {t : List ℕ} → Clear (58 ∷ 61 ∷ 46 ∷ []) t → Opened (91 ∷ []) t
 
--- A byte in a bracket, plain or escaped. Some bytes have another sense where it stands.
+-- A byte in a bracket, plain or escaped. Some bytes have another sense at its place.
 pub data Member (barred : List ℕ) : List ℕ → ℕ → Type 0 where
   itself : {b : ℕ} → oneOf (92 ∷ barred) b ≡ false → Member barred (b ∷ []) b
   escaped : {b c : ℕ} → escapeOf b ≡ some c → Member barred (92 ∷ b ∷ []) c
@@ -40,8 +40,8 @@ pub data Ends : List ℕ → Type 0 where
 abbrev pub range : ℕ → ℕ → Range
 range a b = record { low = a; high = b }
 
--- The items between the brackets; `first` where none stands before them. "any other `-` makes a range"; "a backwards range; a range end used twice"
--- are refused.
+-- The items between the brackets; `first` where none is before them. "any other `-` makes a range"; "a backwards range;
+-- a range end used twice" are refused.
 pub data Items : Bool → List ℕ → List Range → Type 0 where
   done : Items false [] []
   hyphen : Items false (45 ∷ []) (range 45 45 ∷ [])

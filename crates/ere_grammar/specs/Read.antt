@@ -1,4 +1,5 @@
--- Internal: cited by private contracts only. The grammar, computed: the bytes are read from the left. What a reader has to believe is Grammar.antt; proofs/ shows that the two agree.
+-- Internal: cited by private contracts only. The grammar, computed: the bytes are read from the left. What a reader has
+-- to believe is Grammar.antt; proofs/ shows that the two agree.
 use mathlib.Core.Bool.{Bool, true, false, not, cond, _&&_}
 use mathlib.Core.List.{List, [], _∷_}
 use mathlib.Core.Option.{Option, some, none}
@@ -36,7 +37,7 @@ unfoldable pub readMember : List ℕ → Option (Parsed ℕ)
 readMember [] = none
 readMember (b ∷ t) = cond (eqb b 92) (readEscape t) (cond (eqb b 91 && begins (58 ∷ 61 ∷ 46 ∷ []) t) none (parsed b t))
 
--- a `-` with something behind it that does not end the bracket
+-- a `-` with something after it that does not end the bracket
 unfoldable pub joins : List ℕ → Bool
 joins [] = false
 joins (b ∷ t) = eqb b 45 && goesOn t
@@ -64,7 +65,7 @@ module _ (rest : List ℕ → Items) where
   afterByte none = none
   afterByte (some g) = cond (joins (g .rest)) (rangeTo (g .value) (readMember (tail (g .rest)))) (withRange (range (g .value) (g .value)) (rest (g .rest)))
 
--- the items of a bracket and its end, in at most so many turns; `first` where none stands before them
+-- the items of a bracket and its end, in at most so many turns; `first` where none is before them
 unfoldable pub readItems : ℕ → Bool → List ℕ → Items
 readItems zero first t = none
 readItems (suc turns) first [] = none
@@ -76,7 +77,7 @@ unfoldable pub bracketOf : Bool → Items → Option (Parsed Class)
 bracketOf negated none = none
 bracketOf negated (some g) = parsed (record { negated = negated; ranges = g .value }) (g .rest)
 
--- a bracket, behind its `[`
+-- a bracket, after its `[`
 unfoldable pub readBracket : List ℕ → Option (Parsed Class)
 readBracket t = cond (begins (94 ∷ []) t) (bracketOf true (readItems (length t) true (tail t))) (bracketOf false (readItems (suc (length t)) true t))
 
@@ -113,7 +114,7 @@ finished A none t = none
 finished A (some s) t = parsed (orElse A s) t
 
 module _ (rest : Rest) (n : ℕ) (A S : Option (Ere Class)) where
-  -- the atom e, with what repeats it, and what is behind
+  -- the atom e, with what repeats it, and what is after
   unfoldable pub repeated : Ere Class → List ℕ → Tree
   repeated e t =
       cond (begins (42 ∷ []) t) (rest n A (some (andThen S (star e))) (tail t))
@@ -136,7 +137,8 @@ unfoldable pub readGroup : Rest → ℕ → Option (Ere Class) → Option (Ere C
 readGroup rest zero A S t = none
 readGroup rest (suc n) A S t = afterGroup rest (suc n) A S (rest n none none t)
 
--- the rest of a group, with the alternatives and the sequence so far, in at most so many turns; it ends before a `)` or at the end
+-- the rest of a group, with the alternatives and the sequence so far, in at most so many turns; it ends before a `)` or
+-- at the end
 unfoldable pub readRest : ℕ → Rest
 readRest zero n A S t = none
 readRest (suc turns) n A S [] = finished A S []

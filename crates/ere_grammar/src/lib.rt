@@ -4,7 +4,7 @@ ghost use Rattle.lists.specs.Elements.{oneOf};
 ghost use Rattle.ere_grammar.specs.Bytes.{marks, lookup, stringEscapes, escapeOf, isPlain};
 ghost use Rattle.ere_grammar.specs.Escapes.{escapedOf};
 
-// The byte that a backslash and another byte spell, if any.
+// What a backslash and another byte spell: a byte, or nothing.
 pub enum Escaped {
     Byte(u8),
     Nothing,
@@ -13,20 +13,21 @@ pub enum Escaped {
 // A bit for each byte that is a mark.
 const MARKS: [u64; 4] = [0x80004f1000000000, 0x3800000068000000, 0, 0];
 
+// Tells whether a byte is one of `^ $ . [ ] | ( ) * + ? { }`, which a backslash makes plain.
 fn is_mark(b: u8) -> bool
     ensures { λ r. ⌜ r ≡ oneOf marks b ⌝ }
 {
     (MARKS[(b / 64) as usize] >> (b % 64)) % 2 == 1
 }
 
-// A byte that stands for itself outside brackets.
+// Tells whether a byte is itself outside brackets.
 pub fn is_plain(b: u8) -> bool
     ensures { λ r. ⌜ r ≡ isPlain b ⌝ }
 {
     (b == 93) | !((b == 92) | is_mark(b))
 }
 
-// The escapes of a string.
+// Returns the byte that a backslash and `b` spell in a STRING.
 pub fn string_escape_of(b: u8) -> Escaped
     ensures { λ r. ⌜ escapedOf r ≡ lookup stringEscapes b ⌝ }
 {
@@ -45,7 +46,7 @@ pub fn string_escape_of(b: u8) -> Escaped
     }
 }
 
-// The escapes of an ERE.
+// Returns the byte that a backslash and `b` spell in an ERE.
 pub fn escape_of(b: u8) -> Escaped
     ensures { λ r. ⌜ escapedOf r ≡ escapeOf b ⌝ }
 {

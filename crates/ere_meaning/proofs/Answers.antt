@@ -14,12 +14,12 @@ use Rattle.ere_meaning.proofs.Leading.{forward, leads-true, true-leads}
 
 module _ {A : Type 0} (ok : A → ℕ → Bool) (text : List ℕ) (e : Ere A) where
   module _ (least s : ℕ) where
-    -- where no span of at least so many bytes starts at s, each starts behind s
+    -- where no span of at least so many bytes starts at s, each starts after s
     behind : ((j : ℕ) → s + least ≤ j → Spans ok text e s j → ⊥) → (k j : ℕ) → s ≤ k → k + least ≤ j → Spans ok text e k j → suc s ≤ k
     behind none k j l m x =
         ⊎-elim (λ z. absurd (none j (omega arith) (subst (λ (c : ℕ). Spans ok text e c j) (sym z) x))) (λ g. g) (eq-or-lt-of-le l)
 
-    -- so the best from behind s is the best from s
+    -- so the best from after s is the best from s
     later : ((j : ℕ) → s + least ≤ j → Spans ok text e s j → ⊥) → (r : Match) → BestFrom ok text e (suc s) least r → BestFrom ok text e s least r
     later none (found i n) h = (h .0, omega (arith, h .1), h .2, (λ k j l m x. h .3 k j (behind none k j l m x) m x), h .4)
     later none nowhere h = λ k j l m x. h k j (behind none k j l m x) m x

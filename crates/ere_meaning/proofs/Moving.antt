@@ -1,4 +1,5 @@
--- EREs that lead the same way have the same answers: so a tree with something else at each place, and places that take the same bytes.
+-- EREs that lead the same way have the same answers: so a tree with something else at each place, and places that take
+-- the same bytes.
 use mathlib.Core.Path.{_≡_, refl, sym, ap, ap₂, subst}
 use mathlib.Core.Bool.{Bool, true}
 use mathlib.Core.Logic.{_⊎_, inl, inr, _↔_}

@@ -1,5 +1,5 @@
--- Document 01, "EREs": "A match is a span in the ERE's language, anchors judged against the whole text; the answer has the smallest start, then
--- greatest length."
+-- Document 01, "EREs": "A match is a span in the ERE's language, anchors judged against the whole text; the answer has
+-- the smallest start, then greatest length."
 use mathlib.Core.Path.{_≡_}
 use mathlib.Core.Bool.{Bool, true}
 use mathlib.Core.Logic.{_⊎_}
@@ -13,7 +13,7 @@ pub data Repeated (R : ℕ → ℕ → Type 0) : ℕ → ℕ → Type 0 where
   done : {i : ℕ} → Repeated R i i
   more : {i k j : ℕ} → R i k → Repeated R k j → Repeated R i j
 
--- `ok a b`: what stands at a place takes the byte b
+-- `ok a b`: what is at a place takes the byte b
 module _ {A : Type 0} (ok : A → ℕ → Bool) (text : List ℕ) where
   -- the ERE leads from i to j
   abbrev pub Leads : Ere A → ℕ → ℕ → Type 0
@@ -36,8 +36,8 @@ pub data Match : Type 0 where
   nowhere : Match
 
 module _ {A : Type 0} (ok : A → ℕ → Bool) (text : List ℕ) (e : Ere A) where
-  -- Of the spans that start at `from` or later and have at least so many bytes, the answer has the smallest start, then the greatest length; there
-  -- is none exactly if there is no such span.
+  -- Of the spans that start at `from` or later and have at least so many bytes, the answer has the smallest start, then
+  -- the greatest length; there is none exactly if there is no such span.
   abbrev pub BestFrom : ℕ → ℕ → Match → Type 0
   BestFrom from least (found s n) =
       (Spans ok text e s (s + n))

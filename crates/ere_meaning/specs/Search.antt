@@ -1,4 +1,5 @@
--- Internal: cited by private contracts only. The same, computed: whether there is a span, by trying each place between, and the leftmost longest one, by trying each start and each end.
+-- Internal: cited by private contracts only. The same, computed: whether there is a span, by trying each place between,
+-- and the leftmost longest one, by trying each start and each end.
 use mathlib.Core.Bool.{Bool, true, false, cond, _&&_, _||_}
 use mathlib.Core.List.{List}
 use Prim.Native.Nat.{ℕ, zero, suc, _+_, _-_}

@@ -31,8 +31,8 @@ only b = record { negated = false; ranges = record { low = b; high = b } ∷ [] 
 abbrev pub anyByte : Class
 anyByte = record { negated = true; ranges = [] }
 
--- "Bytes, `.` (any byte), brackets, `^ $` (text start, text end), groups, `|`, `* + ?`." A place is a byte, a dot or a bracket; what stands
--- at it is a class, or, in a tree whose places are numbered, a number.
+-- "Bytes, `.` (any byte), brackets, `^ $` (text start, text end), groups, `|`, `* + ?`." A place is a byte, a dot or a
+-- bracket; what is at it is a class, or, in a tree whose places are numbered, a number.
 pub data Ere (A : Type 0) : Type 0 where
   place : A → Ere A
   bol : Ere A

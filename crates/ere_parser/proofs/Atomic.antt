@@ -24,7 +24,7 @@ module _ {l : List ℕ} {o : Option (Parsed Class)} (at k : ℕ) (w : List ℕ) 
   reads-got c e f i b =
       record { refused = λ z. absurd (true≢false z); read = λ z. record { class = c; same = e; further = f; inside = i; bytes = b } }
 
--- an atom whose first byte stands before
+-- an atom whose first byte comes before
 pub reads-from : {r : Bracket} {l : List ℕ} {at : ℕ} {o p : Option (Parsed Class)} → p ≡ o → AtomReads r l (at + 1) o → AtomReads r l at p
 reads-from e h =
     record {

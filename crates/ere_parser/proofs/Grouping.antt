@@ -1,4 +1,4 @@
--- The ways of `grouped`, by the group's answer and the byte behind it.
+-- The ways of `grouped`, by the group's answer and the byte after it.
 use mathlib.Core.Path.{_≡_, refl, sym, _∙_}
 use mathlib.Core.Bool.{Bool, true, false, cond, _&&_}
 use mathlib.Core.List.{List}
@@ -30,7 +30,7 @@ module _ (l : List ℕ) (s : State) (g : Piece) (t : List ℕ) where
       × (pushedTable s (repeatedOf (getD l (g .at + 1) 0) (closedPiece g)) (repeatedTable (getD l (g .at + 1) 0) (closedPiece g) (s .hi) t) ≡ groupedTable l s g t)
   grouped-closed e f = rw (e, eq-eqb (getD l (g .at) 0) 41 f) (refl, refl)
 
--- a byte that isn't 0 stands inside
+-- a byte that isn't 0 is inside
 pub inside : (l : List ℕ) (at x : ℕ) → (x ≡ 0 → ⊥) → eqb (getD l at 0) x ≡ true → at < length l
 inside l at x ne e =
     elim (decLe (at + 1) (length l)) [

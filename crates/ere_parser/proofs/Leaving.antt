@@ -1,4 +1,5 @@
--- Reading with more turns than bytes are left does not depend on the turns: what is read from a text is one thing, and each kind of byte has its law.
+-- Reading with more turns than bytes are left does not depend on the turns: what is read from a text is one thing, and
+-- each kind of byte has its law.
 use mathlib.Core.Path.{_≡_, refl, ap, _∙_}
 use mathlib.Core.Bool.{Bool, true, false, not, cond, _&&_}
 use mathlib.Core.List.{List, [], _∷_}

@@ -130,7 +130,7 @@ module _ {l : List ℕ} (n : ℕ) {t : List ℕ} (s : State) (safe : Safe l s) (
       moves-anchor n s eolEntry eol safe full h built-eol refl
       (λ A S. ap (restFrom n A S) (opened l (s .at) 36 h e) ∙ rest-eol n A S (drop (s .at + 1) l))
 
--- ---- a group more, g, which was read behind the `(`
+-- ---- a group more, g, which was read after the `(`
 
 module _ {l : List ℕ} (n : ℕ) {t u : List ℕ} (s : State) (g : Piece) (safe : Safe l s) (full : length u ≡ tableWords) (h : s .at < length l) (paren : getD l (s .at) 0 ≡ 40)
     (reads : GroupReads l n (s .at + 1) (s .hi) (s .count) t u g) where

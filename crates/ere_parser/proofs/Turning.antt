@@ -1,4 +1,4 @@
--- One turn of reading a group: what stands before it stands after it, or the definition refuses.
+-- One turn of reading a group: what holds before it holds after it, or the definition refuses.
 use mathlib.Core.Path.{_≡_, refl, sym, ap, subst, _∙_}
 use mathlib.Core.Bool.{Bool, true, false, true≢false, cond, _||_}
 use mathlib.Core.Logic.{inl}
@@ -191,7 +191,7 @@ pub tail-at : (l : List ℕ) (at : ℕ) → at < length l → tail (drop at l) �
 unfolding tail
 tail-at l at h = ap tail (drop-next l at h)
 
--- the tree of a piece with the byte b behind it
+-- the tree of a piece with the byte b after it
 abbrev pub repeatTree : ℕ → Ere Class → Ere Class
 repeatTree b e = cond (eqb b 42) (star e) (cond (eqb b 43) (plus e) (cond (eqb b 63) (opt e) e))
 
@@ -216,7 +216,7 @@ module _ (l : List ℕ) (n : ℕ) (A S : Option (Ere Class)) (g : Piece) (e : Er
   pub repeat-rest : repeated restFrom n A S e (drop (g .at) l) ≡ restFrom n A (some (andThen S (repeatTree mark e))) (drop (repeatedOf mark g .at) l)
   repeat-rest = repeat-by (eqb mark 42) (eqb mark 43) (eqb mark 63) refl refl refl
 
--- by the byte m behind the piece
+-- by the byte m after the piece
 module _ (m : ℕ) (g : Piece) (e : Ere Class) where
   pub repeat-places : places (repeatTree m e) ≡ places e
   unfolding places

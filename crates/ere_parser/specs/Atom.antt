@@ -10,7 +10,7 @@ use Rattle.ere_meaning.specs.Tree.{Class, accepts}
 use Rattle.ere_bracket.specs.Words.{inClass}
 use Rattle.ere_bracket.specs.declared.brackets.Bracket.{Bracket}
 
--- a class is read, the index behind it lies further on, and the words have its bytes
+-- a class is read, the index after it lies further on, and the words have its bytes
 pub record AtomRead (r : Bracket) (l : List ℕ) (at : ℕ) (o : Option (Parsed Class)) : Type 0 where
   pub class : Class
   pub same : o ≡ parsed class (drop (r .next) l)

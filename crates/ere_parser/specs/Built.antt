@@ -1,4 +1,5 @@
--- Internal: cited by private contracts only. What the reader of EREs builds in a table: a part of an ERE, by its rows and its classes.
+-- Internal: cited by private contracts only. What the reader of EREs builds in a table: a part of an ERE, by its rows
+-- and its classes.
 use mathlib.Core.Path.{_≡_}
 use mathlib.Core.List.{List}
 use Prim.Native.Nat.{ℕ, _≤_, _<_}

@@ -1,4 +1,5 @@
--- Internal: cited by private contracts only. What is read from a text on: the definition of the grammar, with as many turns as it takes.
+-- Internal: cited by private contracts only. What is read from a text on: the definition of the grammar, with as many
+-- turns as it takes.
 use mathlib.Core.Option.{Option}
 use mathlib.Core.List.{List}
 use Prim.Native.Nat.{ℕ, suc}

@@ -1,4 +1,5 @@
--- Internal: cited by private contracts only. What stands while a group is read: the trees so far, in the table, and what is left to read gives what the whole gives.
+-- Internal: cited by private contracts only. What holds while a group is read: the trees so far, in the table, and what
+-- is left to read gives what the whole gives.
 use mathlib.Core.Path.{_≡_}
 use mathlib.Core.Logic.{_⊎_}
 use mathlib.Core.Bool.{Bool, true, false}
@@ -93,7 +94,7 @@ pub record Under (l : List ℕ) (n at lo count : ℕ) (t₀ t : List ℕ) (s : S
   pub kept : SameBelow lo t₀ t
   pub means : Outcome l n (baseOf l n at lo count) t s
 
--- a group that was read: it stands from at on
+-- a group that was read: its bytes are those from at on
 pub record GroupReads (l : List ℕ) (n at lo count : ℕ) (t u : List ℕ) (r : Piece) : Type 0 where
   pub order : lo ≤ r .hi
   pub fewer : r .hi ≤ r .count

@@ -1,4 +1,5 @@
--- Internal: cited by private contracts only. What the reader keeps while it reads a group, and what each part of it does.
+-- Internal: cited by private contracts only. What the reader keeps while it reads a group, and what each part of it
+-- does.
 use mathlib.Core.Bool.{true, false, cond, _&&_}
 use mathlib.Core.List.{List}
 use Prim.Native.Nat.{ℕ, _+_, _-_}
@@ -65,7 +66,7 @@ pushedOf s g =
 abbrev pub pushedTable : State → Piece → List ℕ → List ℕ
 pushedTable s g t = linkRows t (s .lo + 2) (s .hi - s .lo) (g .entry .later)
 
--- a piece with the byte behind it that repeats it, if one does
+-- a piece with the byte after it that repeats it, if one does
 abbrev pub pieceOf : ℕ → ℕ → ℕ → Entry → Piece
 pieceOf at hi count e = record { ok = true; at = at; hi = hi; count = count; entry = e }
 
@@ -108,7 +109,7 @@ groupedTable l s g t =
     cond (g .ok && eqb (getD l (g .at) 0) 41)
     (pushedTable s (repeatedOf (getD l (g .at + 1) 0) (closedPiece g)) (repeatedTable (getD l (g .at + 1) 0) (closedPiece g) (s .hi) t)) t
 
--- a place more, with a class that ends before next, and with the byte b behind it
+-- a place more, with a class that ends before next, and with the byte b after it
 abbrev pub leafPiece : State → ℕ → Piece
 leafPiece s next = pieceOf next (s .hi + 1) (s .count + 1) (placeEntry (s .hi))
 

@@ -9,7 +9,7 @@ use ere_bracket::classes;
 use ere_bracket::members;
 use ere_bracket::members::Member;
 
-// The byte that is escaped by a backslash before an index.
+// Reads the byte that is escaped by a backslash before an index.
 fn read_escaped(ere: &[u8], at: usize) -> Bracket
     ensures { λ r. ⌜ AtomReads r (now (ere .entry)) at (onlyByte (readEscape (drop at (now (ere .entry))))) ⌝ }
 {
@@ -33,7 +33,7 @@ fn read_escaped(ere: &[u8], at: usize) -> Bracket
     }
 }
 
-// The atom at an index.
+// Reads the atom at an index, which is no group, as a class of bytes.
 pub fn read_atom(ere: &[u8], at: usize) -> Bracket
     requires { ⌜ at < length (now ere) ⌝ }
     ensures { λ r. ⌜ AtomReads r (now (ere .entry)) at (readAtom (getD (now (ere .entry)) at 0) (drop (at + 1) (now (ere .entry)))) ⌝ }

@@ -1,4 +1,11 @@
-// The reader of EREs: it calls itself for groups alone; items are a loop.
+// The reader of EREs: recursive descent, which calls itself for groups alone; the items of a group are a loop.
+//
+// The loop's invariant (`Outcome`, `Standing`, `Safe` of specs/Standing.antt): the places of the group's alternatives
+// so far end at `s.lo`, those of the sequence since the last `|` at `s.hi`. The table has the rows and classes of both,
+// as parts by themselves, whose first sets are `s.alts` and `s.seq`, and the rows and classes below the group's first
+// place are as they were. To go on reading at `s.at`, with these two trees, gives what the definition gives for the
+// whole group. `s.count` counts places and anchors, 128 at most. A turn (`Moves`) keeps all this and goes on by a byte
+// or ends the group. Where it refuses, the definition reads nothing, or more than 128 places (`Refuses`).
 ghost use mathlib.Core.Path.{_≡_};
 ghost use Prim.Native.Nat.{ℕ, _+_, _-_, _≤_, _<_};
 ghost use lib.ListN.{length, getD};
@@ -15,7 +22,7 @@ use ere_table::ACCEPT;
 use ere_table::ACCEPT_AT_END;
 use ere_table::NOTHING;
 
-// An atom more that is no group.
+// Appends an atom that is no group, with what repeats it; refuses the 129th place.
 fn atom(ere: &[u8], s: State, t: &mut [u64]) -> State
     requires { ⌜ (length (now t) ≡ tableWords) × (length (now ere) ≤ ereBytes) × (s .at < length (now ere)) × Safe (now ere) s × Begins (getD (now ere) (s .at) 0) ⌝ }
     ensures { λ r. ⌜ ((n : ℕ) → Moves (now (ere .entry)) n (now (t .entry)) (now (t .exit)) s r) ⌝ }
@@ -38,7 +45,7 @@ fn atom(ere: &[u8], s: State, t: &mut [u64]) -> State
     turns::pushed(s, r, t)
 }
 
-// One turn: the end of the group, a `|`, an anchor, a group inside, or another atom.
+// Takes one turn: the end of the group, a `|`, an anchor, a group inside, or another atom.
 fn item(ere: &[u8], levels: usize, s: State, t: &mut [u64]) -> State
     requires { ⌜ (length (now t) ≡ tableWords) × (length (now ere) ≤ ereBytes) × Safe (now ere) s ⌝ }
     ensures { λ r. ⌜ Moves (now (ere .entry)) levels (now (t .entry)) (now (t .exit)) s r ⌝ }
@@ -78,7 +85,7 @@ fn item(ere: &[u8], levels: usize, s: State, t: &mut [u64]) -> State
     turns::grouped(ere, s, g, t)
 }
 
-// A group, from an index up to its `)` or the end; its first place is lo.
+// Reads a group, from an index up to its `)` or the end; its first place is lo.
 pub fn read_group(
     ere: &[u8],
     levels: usize,

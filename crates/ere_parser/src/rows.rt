@@ -8,7 +8,8 @@ pub struct Entry {
     pub later: [u64; 3],
 }
 
-// A part that was read: it ends before `at`, its places are those up to `hi`, and with it there are `count` places and anchors.
+// A part that was read: it ends before `at`, its places are those up to `hi`, and with it there are `count` places and
+// anchors.
 pub struct Piece {
     pub ok: bool,
     pub at: usize,
@@ -30,7 +31,7 @@ pub struct State {
     pub seq: Entry,
 }
 
-// What may come next before either of two parts.
+// Returns what may come next before either of two parts: alternatives.
 pub fn joined(a: Entry, b: Entry) -> Entry
     ensures { λ r. ⌜ r ≡ joinEntry a b ⌝ }
 {
@@ -43,7 +44,7 @@ pub fn joined(a: Entry, b: Entry) -> Entry
     Entry { first, later }
 }
 
-// A part that may be left out.
+// Returns the entry of a part that may be left out.
 pub fn or_stop(a: Entry) -> Entry
     ensures { λ r. ⌜ r ≡ stopEntry a ⌝ }
 {

@@ -13,14 +13,14 @@ use edition::Edition;
 use ere_table::ACCEPT;
 use ere_table::NOTHING;
 
-// The byte at an index, 0 past the end.
+// Returns the byte at an index, 0 past the end.
 pub fn byte_at(ere: &[u8], at: usize) -> u8
     ensures { λ r. ⌜ r ≡ getD (now (ere .entry)) at 0 ⌝ }
 {
     if at < ere.len() { ere[at] } else { 0 }
 }
 
-// What may come next before two parts, one behind the other.
+// Returns what may come next before two parts, one after the other: a sequence.
 fn linked(a: Entry, b: Entry) -> Entry
     ensures { λ r. ⌜ r ≡ linkEntry a b ⌝ }
 {
@@ -33,7 +33,7 @@ fn linked(a: Entry, b: Entry) -> Entry
     Entry { first, later }
 }
 
-// The state with which a group is begun.
+// Returns the state with which a group is begun.
 pub fn start(at: usize, lo: usize, count: usize) -> State
     ensures { λ r. ⌜ r ≡ startOf at lo count ⌝ }
 {
@@ -58,6 +58,7 @@ pub fn start(at: usize, lo: usize, count: usize) -> State
     }
 }
 
+// Returns the state of a group that is refused.
 pub fn refused(s: State) -> State
     ensures { λ r. ⌜ r ≡ refusedOf s ⌝ }
 {
@@ -67,6 +68,7 @@ pub fn refused(s: State) -> State
     r
 }
 
+// Returns the state of a group that has come to its end.
 pub fn ended(s: State) -> State
     ensures { λ r. ⌜ r ≡ endedOf s ⌝ }
 {
@@ -76,7 +78,7 @@ pub fn ended(s: State) -> State
     r
 }
 
-// One alternative more.
+// Begins the next alternative.
 pub fn bar(s: State) -> State
     requires { ⌜ s .at ≤ ereBytes ⌝ }
     ensures { λ r. ⌜ r ≡ barOf s ⌝ }
@@ -101,7 +103,7 @@ pub fn bar(s: State) -> State
     }
 }
 
-// One piece more.
+// Appends a piece to the sequence: what it may begin with replaces the accept bits of the sequence's places.
 pub fn pushed(s: State, g: Piece, t: &mut [u64]) -> State
     requires { ⌜ (length (now t) ≡ tableWords) × (s .lo ≤ s .hi) × (s .hi ≤ erePlaces) ⌝ }
     ensures { λ r. ⌜ (r ≡ pushedOf s g) × (now (t .exit) ≡ pushedTable s g (now (t .entry))) ⌝ }
@@ -127,7 +129,7 @@ pub fn pushed(s: State, g: Piece, t: &mut [u64]) -> State
     }
 }
 
-// A piece whose places start at lo, with the byte b behind it.
+// Applies the byte b, if it is `*`, `+` or `?`, to the piece before it, whose places start at lo.
 pub fn repeated(b: u8, g: Piece, lo: usize, t: &mut [u64]) -> Piece
     requires { ⌜ (length (now t) ≡ tableWords) × (lo ≤ g .hi) × (g .hi ≤ erePlaces) × (g .at ≤ ereBytes) ⌝ }
     ensures { λ r. ⌜ (r ≡ repeatedOf b g) × (now (t .exit) ≡ repeatedTable b g lo (now (t .entry))) ⌝ }
@@ -171,7 +173,7 @@ pub fn repeated(b: u8, g: Piece, lo: usize, t: &mut [u64]) -> Piece
     g
 }
 
-// An anchor more.
+// Appends an anchor to the sequence; refuses the 129th place.
 pub fn anchor(s: State, entry: Entry, t: &mut [u64]) -> State
     requires { ⌜ (length (now t) ≡ tableWords) × (s .lo ≤ s .hi) × (s .hi ≤ erePlaces) × (s .at ≤ ereBytes) ⌝ }
     ensures { λ r. ⌜ (r ≡ anchorOf s entry) × (now (t .exit) ≡ anchorTable s entry (now (t .entry))) ⌝ }
@@ -190,7 +192,7 @@ pub fn anchor(s: State, entry: Entry, t: &mut [u64]) -> State
     pushed(s, g, t)
 }
 
-// A group more, which was read behind its `(`.
+// Appends a group that was read after its `(`, with what repeats it; refuses one without its `)`.
 pub fn grouped(ere: &[u8], s: State, g: Piece, t: &mut [u64]) -> State
     requires { ⌜ (length (now t) ≡ tableWords) × (s .lo ≤ s .hi) × (s .hi ≤ g .hi) × (g .hi ≤ erePlaces) × (length (now ere) ≤ ereBytes) × (g .at ≤ length (now ere)) ⌝ }
     ensures { λ r. ⌜ (r ≡ groupedOf (now (ere .entry)) s g) × (now (t .exit) ≡ groupedTable (now (ere .entry)) s g (now (t .entry))) ⌝ }
@@ -217,7 +219,7 @@ pub fn grouped(ere: &[u8], s: State, g: Piece, t: &mut [u64]) -> State
     pushed(s, r, t)
 }
 
-// A place more.
+// Writes the class and the row of a new place, and returns it as a piece.
 pub fn leaf(words: [u64; 4], next: usize, p: usize, count: usize, t: &mut [u64]) -> Piece
     requires { ⌜ (length (now t) ≡ tableWords) × (p < erePlaces) × (count < erePlaces) ⌝ }
     ensures { λ r. ⌜ (r ≡ pieceOf next (p + 1) (count + 1) (placeEntry p)) × (now (t .exit) ≡ leafTable p words (now (t .entry))) ⌝ }
@@ -236,7 +238,7 @@ pub fn leaf(words: [u64; 4], next: usize, p: usize, count: usize, t: &mut [u64])
     }
 }
 
-// One alternative more, if the sequence has a piece.
+// Begins the next alternative, if the one before it has a piece; else refuses.
 pub fn choice(s: State) -> State
     requires { ⌜ s .at ≤ ereBytes ⌝ }
     ensures { λ r. ⌜ r ≡ choiceOf s ⌝ }
@@ -247,7 +249,7 @@ pub fn choice(s: State) -> State
     bar(s)
 }
 
-// A group that was refused.
+// Returns the piece of a group that was refused.
 fn unread(s: State) -> Piece
     ensures { λ r. ⌜ r ≡ refusedPiece s ⌝ }
 {
@@ -261,7 +263,7 @@ fn unread(s: State) -> Piece
     }
 }
 
-// The group that was read, or a refusal.
+// Returns the group that was read as a piece, or a refusal.
 pub fn finish(s: State) -> Piece
     ensures { λ r. ⌜ r ≡ finishOf s ⌝ }
 {

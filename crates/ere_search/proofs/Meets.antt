@@ -1,4 +1,5 @@
--- A walk over the table of an ERE may stop just where the ERE has a span; and the longest of those from a start. The text is a whole one.
+-- A walk over the table of an ERE may stop just where the ERE has a span; and the longest of those from a start. The
+-- text is a whole one.
 use mathlib.Core.Path.{_≡_, refl, sym, ap, subst, _∙_}
 use mathlib.Core.Bool.{Bool, true, false, true≢false, not, cond}
 use mathlib.Core.Logic.{⊎-elim}

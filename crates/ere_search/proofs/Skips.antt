@@ -1,4 +1,5 @@
--- Nothing is lost where a start is skipped: from the entry rows, a byte with which no match can begin leads to the empty set.
+-- Nothing is lost where a start is skipped: from the entry rows, a byte with which no match can begin leads to the
+-- empty set.
 use mathlib.Core.Path.{_≡_, refl, sym, ap, _∙_}
 use mathlib.Core.Bool.{Bool, true, false, true≢false, not, cond, _&&_}
 use mathlib.Core.List.{List}

@@ -20,7 +20,7 @@ abbrev pub Inside : ℕ → ℕ → ℕ → Found → Type 0
 Inside at least len (At s n) = (at ≤ s) × (s + n ≤ at + len) × (least ≤ n)
 Inside at least len Nowhere = Unit
 
--- r is the best match of at least `least` bytes in the text of which `rest` is what stands from place `at` on
+-- r is the best match of at least `least` bytes in the text whose bytes from place `at` on are `rest`
 pub record Finds (t rest : List ℕ) (at least : ℕ) (r : Found) : Type 0 where
   pub inside : Inside at least (length rest) r
   pub best : (e : Ere ℕ) (w : List ℕ) → Tabled t e → at ≤ length w → drop at w ≡ rest → BestFrom (acceptsAt t) w e at least (matchOf r)

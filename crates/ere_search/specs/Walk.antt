@@ -1,4 +1,5 @@
--- Internal: cited by private contracts only. A walk over the table: a step, the live set after some bytes, and the longest match from a start. `rest` is the text from place `at` on.
+-- Internal: cited by private contracts only. A walk over the table: a step, the live set after some bytes, and the
+-- longest match from a start. `rest` is the text from place `at` on.
 use mathlib.Core.Bool.{Bool, true, false, cond, _&&_, not}
 use mathlib.Core.List.{List}
 use Prim.Native.Nat.{ℕ, zero, suc, _+_, _-_, _*_}
@@ -29,7 +30,8 @@ dead s = eqb (getD s 0 0) 0 && eqb (getD s 1 0) 0
 abbrev pub entryRow : ℕ → ℕ
 entryRow s = cond (eqb s 0) 0 1
 
--- a match of n bytes as the number n + 1, and 0 where there is none: the answer for n bytes, or best where they are none
+-- a match of n bytes as the number n + 1, and 0 where there is none: the answer for n bytes, or best where they are
+-- none
 abbrev pub note : ℕ → List ℕ → Bool → ℕ → ℕ → ℕ
 note best live f least n = cond (leb least n) (cond (stopIn live f) (suc n) best) best
 

@@ -1,4 +1,7 @@
 // Whether there is a match at all, by one walk from all starts at once.
+//
+// The invariant at place i: no match ends before i, and `live` is the union, over the starts before i, of the places
+// that may come next at i. So each byte is looked at once, however the starts overlap.
 ghost use mathlib.Core.Path.{_≡_};
 ghost use Prim.Native.Nat.{_+_, _≤_, _<_, _^_};
 ghost use lib.ListN.{length, drop};
@@ -9,7 +12,7 @@ ghost use Rattle.ere_search.specs.Any.{Exists, passes, noStart};
 use crate::search;
 use crate::words;
 
-// The set s with that in which a match that starts at i begins.
+// Returns the set s with the places at which a match that starts at i begins.
 fn with_entry(t: &[u64], s: [u64; 3], i: usize) -> [u64; 3]
     requires { ⌜ length (now t) ≡ tableWords ⌝ }
     ensures { λ r. ⌜ r ≡ join s (row (now (t .entry)) (entryRow i)) ⌝ }
@@ -20,7 +23,7 @@ fn with_entry(t: &[u64], s: [u64; 3], i: usize) -> [u64; 3]
     words::with_row(s, t, 1)
 }
 
-// Whether the set has nothing in it, no stop mark either, and no match begins with the byte b.
+// Tells whether the set has nothing in it, no accept bit either, and no match begins with the byte b.
 fn passed(t: &[u64], s: [u64; 3], b: u8, empty: bool) -> bool
     requires { ⌜ length (now t) ≡ tableWords ⌝ }
     ensures { λ r. ⌜ r ≡ passes (now (t .entry)) s b empty ⌝ }
@@ -33,7 +36,8 @@ fn passed(t: &[u64], s: [u64; 3], b: u8, empty: bool) -> bool
     false
 }
 
-// Returns the first place from `from` on whose byte may begin a match, or the text's end: an inner loop over the bytes that begin none.
+// Returns the first place from `from` on whose byte may begin a match, or the text's end: an inner loop over the bytes
+// that begin none.
 fn next_start(t: &[u64], text: &[u8], from: usize, empty: bool) -> usize
     requires { ⌜ (length (now t) ≡ tableWords) × (from ≤ length (now text)) ⌝ }
     ensures { λ r. ⌜ r ≡ from + leading (noStart (now (t .entry)) empty) (drop from (now (text .entry))) ⌝ }
@@ -48,7 +52,8 @@ fn next_start(t: &[u64], text: &[u8], from: usize, empty: bool) -> usize
     i
 }
 
-// Tells whether a match is in the text. `live` is what may come next at i after the starts before i: each byte is looked at once.
+// Tells whether a match is in the text. `live` is what may come next at i after the starts before i: each byte is
+// looked at once.
 pub fn exists(t: &[u64], text: &[u8]) -> bool
     requires { ⌜ (length (now t) ≡ tableWords) × (length (now text) < 2 ^ 63) ⌝ }
     ensures { λ r. ⌜ Exists (now (t .entry)) (now (text .entry)) r ⌝ }

@@ -1,4 +1,10 @@
 // The leftmost longest match, by a walk over the table from each start.
+//
+// The invariant of a walk from start s, after n bytes (`liveAt`, `longestTo` of specs/Walk.antt): `live` has the places
+// that may come next, and its accept bits say whether those n bytes are a match; `best` is the longest match of fewer
+// bytes, as a number. The invariant over starts: no match starts before s. For each ERE whose table it is, such a walk
+// goes just where the ERE leads, so the answer is the best of its spans (`Finds` of specs/Find.antt). On words that are
+// no ERE's table the answer lies inside the text, and that is all.
 ghost use mathlib.Core.Path.{_≡_};
 ghost use Prim.Native.Nat.{_+_, _≤_, _<_, _^_};
 ghost use lib.ListN.{length};
@@ -18,7 +24,7 @@ pub enum Found {
     Nowhere,
 }
 
-// Whether a walk may stop at the set.
+// Tells whether a walk may stop at the set: at the text's end, or before it.
 pub fn stops(s: [u64; 3], at_end: bool) -> bool
     ensures { λ r. ⌜ r ≡ stopIn s «at_end» ⌝ }
 {
@@ -28,14 +34,14 @@ pub fn stops(s: [u64; 3], at_end: bool) -> bool
     ere_table::has(s, PLACES)
 }
 
-// Whether no place is in the set.
+// Tells whether no place is in the set.
 pub fn dead(s: [u64; 3]) -> bool
     ensures { λ r. ⌜ r ≡ deadSet s ⌝ }
 {
     s[0] == 0 && s[1] == 0
 }
 
-// The set in which a match that starts at s begins.
+// Returns the set in which a match that starts at s begins.
 fn entry(t: &[u64], s: usize) -> [u64; 3]
     requires { ⌜ length (now t) ≡ tableWords ⌝ }
     ensures { λ r. ⌜ r ≡ row (now (t .entry)) (entryRow s) ⌝ }
@@ -46,8 +52,9 @@ fn entry(t: &[u64], s: usize) -> [u64; 3]
     [t[3], t[4], t[5]]
 }
 
-// best, or n + 1 where a walk may stop at the set and n bytes are enough. The longest match is kept as a number, its length and 1, and 0 for none:
-// an enum, with its unused bytes, was copied through memory at each step, in pieces that the processor had to wait for.
+// Returns n + 1 where a walk may stop at the set and n bytes are enough, else `best`. The longest match is kept as a
+// number, its length and 1, and 0 for none: an enum, with its unused bytes, was copied through memory at each step, in
+// pieces that the processor had to wait for.
 fn longest(best: usize, live: [u64; 3], at_end: bool, least: usize, n: usize) -> usize
     requires { ⌜ n < 2 ^ 63 ⌝ }
     ensures { λ r. ⌜ r ≡ note best live «at_end» least n ⌝ }
@@ -60,7 +67,7 @@ fn longest(best: usize, live: [u64; 3], at_end: bool, least: usize, n: usize) ->
     best
 }
 
-// The length of the longest match from s and 1, or 0. Where no place is live, no walk goes on.
+// Returns the length of the longest match from s and 1, or 0 for none. Where no place is live, no walk goes on.
 fn longest_from(t: &[u64], rest: &[u8], at: usize, least: usize, s: usize) -> usize
     requires { ⌜ (length (now t) ≡ tableWords) × (at + length (now rest) < 2 ^ 63) × (s ≤ length (now rest)) ⌝ }
     ensures { λ r. ⌜ r ≡ longestOf (now (t .entry)) (now (rest .entry)) at least s ⌝ }
@@ -81,7 +88,7 @@ fn longest_from(t: &[u64], rest: &[u8], at: usize, least: usize, s: usize) -> us
     longest(best, live, true, least, n)
 }
 
-// Whether a match of at least so many bytes may be empty.
+// Tells whether a match of at least `least` bytes may be empty.
 pub fn may_be_empty(t: &[u64], least: usize) -> bool
     requires { ⌜ length (now t) ≡ tableWords ⌝ }
     ensures { λ r. ⌜ r ≡ openTo (now (t .entry)) least ⌝ }
@@ -92,7 +99,7 @@ pub fn may_be_empty(t: &[u64], least: usize) -> bool
     false
 }
 
-// Whether a match may begin with the byte b.
+// Tells whether a match may begin with the byte b.
 pub fn may_begin(t: &[u64], b: u8, empty: bool) -> bool
     requires { ⌜ length (now t) ≡ tableWords ⌝ }
     ensures { λ r. ⌜ r ≡ mayBegin (now (t .entry)) b empty ⌝ }
@@ -103,7 +110,8 @@ pub fn may_begin(t: &[u64], b: u8, empty: bool) -> bool
     (t[BEGIN + (b / 64) as usize] >> (b % 64)) % 2 == 1
 }
 
-// The leftmost match of at least so many bytes, and the longest there. `rest` is the whole text from place `at` on.
+// Finds the leftmost match of at least `least` bytes, and the longest there. `rest` is the whole text from place `at`
+// on.
 pub fn find_from(t: &[u64], rest: &[u8], at: usize, least: usize) -> Found
     requires { ⌜ (length (now t) ≡ tableWords) × (at + length (now rest) < 2 ^ 63) ⌝ }
     ensures { λ r. ⌜ Finds (now (t .entry)) (now (rest .entry)) at least r ⌝ }

@@ -6,7 +6,7 @@ ghost use Rattle.ere_table.specs.Table.{tableWords, placeCount, row, join, acce
 ghost use Rattle.ere_search.specs.Walk.{stepWord, put as putOf, step as stepOf};
 use ere_table::ROWS;
 
-// Whether the place p takes the byte b.
+// Tells whether the place p accepts the byte b.
 pub fn accepts(t: &[u64], p: usize, b: u8) -> bool
     requires { ⌜ (length (now t) ≡ tableWords) × (p < placeCount) ⌝ }
     ensures { λ r. ⌜ r ≡ acceptsAt (now (t .entry)) p b ⌝ }
@@ -14,7 +14,7 @@ pub fn accepts(t: &[u64], p: usize, b: u8) -> bool
     (t[ROWS + 4 * p + (b / 64) as usize] >> (b % 64)) % 2 == 1
 }
 
-// The set s with row r of the table.
+// Returns the set s with row r of the table.
 pub fn with_row(s: [u64; 3], t: &[u64], r: usize) -> [u64; 3]
     requires { ⌜ (length (now t) ≡ tableWords) × (r < placeCount + 2) ⌝ }
     ensures { λ x. ⌜ x ≡ join s (row (now (t .entry)) r) ⌝ }
@@ -22,7 +22,7 @@ pub fn with_row(s: [u64; 3], t: &[u64], r: usize) -> [u64; 3]
     [s[0] | t[3 * r], s[1] | t[3 * r + 1], s[2] | t[3 * r + 2]]
 }
 
-// out with the row after the place p, where p takes b.
+// Returns the set out with the row after the place p, if p accepts b.
 pub fn put(t: &[u64], out: [u64; 3], b: u8, p: usize) -> [u64; 3]
     requires { ⌜ (length (now t) ≡ tableWords) × (p < placeCount) ⌝ }
     ensures { λ r. ⌜ r ≡ putOf (now (t .entry)) out b p ⌝ }
@@ -33,8 +33,8 @@ pub fn put(t: &[u64], out: [u64; 3], b: u8, p: usize) -> [u64; 3]
     out
 }
 
-// The places of word w of a set, which is x, by its set bits, the lowest first. A bit is taken off where it stands: shifting the rest down would make
-// each turn wait longer for the one before it.
+// Adds to a set what may come after the places of word w of another, which is x, by its set bits, the lowest first. A
+// bit is taken off where it is: shifting the rest down would make each turn wait longer for the one before it.
 pub fn step_word(t: &[u64], b: u8, start: [u64; 3], w: usize, x: u64) -> [u64; 3]
     requires { ⌜ (length (now t) ≡ tableWords) × (w < 2) ⌝ }
     ensures { λ r. ⌜ r ≡ stepWord (now (t .entry)) b x w start 64 ⌝ }
@@ -50,7 +50,7 @@ pub fn step_word(t: &[u64], b: u8, start: [u64; 3], w: usize, x: u64) -> [u64; 3
     out
 }
 
-// What may come next after the places of live that take b.
+// Returns what may come next after the places of `live` that accept b: the automaton's step.
 pub fn step(t: &[u64], live: [u64; 3], b: u8) -> [u64; 3]
     requires { ⌜ length (now t) ≡ tableWords ⌝ }
     ensures { λ r. ⌜ r ≡ stepOf (now (t .entry)) live b ⌝ }

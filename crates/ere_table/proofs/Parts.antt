@@ -112,7 +112,8 @@ module _ (N M : Table) (lo hi : ℕ) (h : (p : ℕ) → lo ≤ p → p < hi → 
 
 -- ---- the parts
 
--- E is what may come next before e, and N what may come next after its places, which have their numbers from lo up to hi
+-- E is what may come next before e, and N what may come next after its places, which have their numbers from lo up to
+-- hi
 pub record Part (N : Table) (lo hi : ℕ) (E : Nexts) (e : Ere ℕ) : Type 0 where
   pub wired : Wired N e Last
   pub within : Within lo hi e

@@ -1,4 +1,4 @@
--- What stands where in a table, after a row, a class or the last words are written.
+-- What is where in a table, after a row, a class or the last words are written.
 use mathlib.Core.Path.{_≡_, refl, sym, ap, ap₂, _∙_}
 use mathlib.Core.Bool.{Bool, true, false, cond, _&&_}
 use mathlib.Core.Logic.{_⊎_, inl, inr, ⊎-elim}

@@ -1,4 +1,5 @@
--- Internal: cited by private contracts only. Building a table. A part's rows have the accept bit where the part may end; what follows it is put there.
+-- Internal: cited by private contracts only. Building a table. A part's rows have the accept bit where the part may
+-- end; what follows it is put there.
 use mathlib.Core.Bool.{Bool, cond, _&&_}
 use mathlib.Core.List.{List, [], _∷_}
 use Prim.Native.Nat.{ℕ, zero, suc, _+_, _-_, _*_, _/_, _%_, _^_}
@@ -73,7 +74,7 @@ beginTo t (suc n) = gather t (beginTo t n) n
 abbrev pub beginOf : List ℕ → List ℕ
 beginOf t = beginTo t placeCount
 
--- 1 if an entry row has a accept bit
+-- 1 if an entry row has an accept bit
 abbrev pub emptyOf : List ℕ → ℕ
 emptyOf t = cond (eqb (getD t 2 0) 0 && eqb (getD t 5 0) 0) 0 1
 

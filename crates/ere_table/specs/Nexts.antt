@@ -1,5 +1,5 @@
--- Internal: cited by private contracts only. What may come next in a walk over the places of an ERE: the end of the walk, or a place. No sets of last places are needed, nor that places
--- differ: what follows an ERE is a parameter.
+-- Internal: cited by private contracts only. What may come next in a walk over the places of an ERE: the end of the
+-- walk, or a place. No sets of last places are needed, nor that places differ: what follows an ERE is a parameter.
 use mathlib.Core.Path.{_≡_}
 use mathlib.Core.Bool.{Bool, true, false}
 use mathlib.Core.Logic.{_⊎_, _↔_}

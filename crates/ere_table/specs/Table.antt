@@ -1,4 +1,5 @@
--- Internal: cited by private contracts only. The table of an ERE, as words: rows of three, then classes of four, then the bytes that a match can begin with, and whether one can be empty.
+-- Internal: cited by private contracts only. The table of an ERE, as words: rows of three, then classes of four, then
+-- the bytes that a match can begin with, and whether one can be empty.
 use mathlib.Core.Bool.{Bool}
 use mathlib.Core.List.{List, [], _∷_}
 use Prim.Native.Nat.{ℕ, _+_, _*_, _/_, _%_}

@@ -1,4 +1,5 @@
--- Internal: cited by private contracts only. The table of an ERE: what its rows say of what may come next, and its last words of where a match may begin.
+-- Internal: cited by private contracts only. The table of an ERE: what its rows say of what may come next, and its last
+-- words of where a match may begin.
 use mathlib.Core.Path.{_≡_}
 use mathlib.Core.Bool.{Bool, true, cond, not, _&&_}
 use mathlib.Core.Logic.{_↔_}

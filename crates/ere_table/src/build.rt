@@ -12,7 +12,7 @@ use crate::layout::EMPTY;
 use crate::layout::PLACES;
 use crate::layout::ROWS;
 
-// The set x with y in place of its accept bit.
+// Returns the set x with y in place of its accept bits: what comes after a part continues it.
 pub fn link(x: [u64; 3], y: [u64; 3]) -> [u64; 3]
     ensures { λ r. ⌜ r ≡ linkOf x y ⌝ }
 {
@@ -22,21 +22,21 @@ pub fn link(x: [u64; 3], y: [u64; 3]) -> [u64; 3]
     [x[0], x[1], x[2] & y[2]]
 }
 
-// The set x with the set y.
+// Returns the union of the sets x and y.
 pub fn union(x: [u64; 3], y: [u64; 3]) -> [u64; 3]
     ensures { λ r. ⌜ r ≡ join x y ⌝ }
 {
     [x[0] | y[0], x[1] | y[1], x[2] | y[2]]
 }
 
-// The set x with the accept bits.
+// Returns the set x with both accept bits.
 pub fn or_stop(x: [u64; 3]) -> [u64; 3]
     ensures { λ r. ⌜ r ≡ orStop x ⌝ }
 {
     [x[0], x[1], ACCEPT_BITS]
 }
 
-// The set of the place p.
+// Returns the set of the place p alone.
 pub fn single(p: usize) -> [u64; 3]
     requires { ⌜ p < placeCount ⌝ }
     ensures { λ r. ⌜ r ≡ singleOf p ⌝ }
@@ -57,7 +57,7 @@ pub fn put_row(t: &mut [u64], r: usize, x: [u64; 3])
     t[3 * r + 2] = x[2];
 }
 
-// Row r with y in place of its accept bit.
+// Replaces the accept bits of row r by y.
 pub fn link_row(t: &mut [u64], r: usize, y: [u64; 3])
     requires { ⌜ (length (now t) ≡ tableWords) × (r < placeCount + 2) ⌝ }
     ensures { λ u. ⌜ now (t .exit) ≡ withRow (now (t .entry)) r (linkOf (row (now (t .entry)) r) y) ⌝ }
@@ -67,7 +67,7 @@ pub fn link_row(t: &mut [u64], r: usize, y: [u64; 3])
     put_row(t, r, z);
 }
 
-// The rows from r on, n of them, with y in place of their accept bits.
+// Replaces the accept bits of n rows, from r on, by y.
 pub fn link_rows(t: &mut [u64], r: usize, n: usize, y: [u64; 3])
     requires { ⌜ (length (now t) ≡ tableWords) × (r + n ≤ placeCount + 2) ⌝ }
     ensures { λ u. ⌜ now (t .exit) ≡ linkRows (now (t .entry)) r n y ⌝ }
@@ -90,7 +90,7 @@ pub fn put_class(t: &mut [u64], p: usize, c: [u64; 4])
     t[ROWS + 4 * p + 3] = c[3];
 }
 
-// Whether a match may begin with the place p.
+// Tells whether a match may begin with the place p.
 fn enters(t: &[u64], p: usize) -> bool
     requires { ⌜ (length (now t) ≡ tableWords) × (p < placeCount) ⌝ }
     ensures { λ r. ⌜ r ≡ entered (now (t .entry)) p ⌝ }
@@ -98,7 +98,7 @@ fn enters(t: &[u64], p: usize) -> bool
     ((t[p / 64] | t[3 + p / 64]) >> (p % 64)) % 2 == 1
 }
 
-// The class out with that of the place p.
+// Returns the class out with the bytes of the place p.
 fn with_class(t: &[u64], out: [u64; 4], p: usize) -> [u64; 4]
     requires { ⌜ (length (now t) ≡ tableWords) × (p < placeCount) ⌝ }
     ensures { λ r. ⌜ r ≡ joinClass (now (t .entry)) out p ⌝ }
@@ -112,6 +112,7 @@ fn with_class(t: &[u64], out: [u64; 4], p: usize) -> [u64; 4]
     ]
 }
 
+// Returns the class out with the bytes of the place p, if a match may begin there.
 fn gather(t: &[u64], out: [u64; 4], p: usize) -> [u64; 4]
     requires { ⌜ (length (now t) ≡ tableWords) × (p < placeCount) ⌝ }
     ensures { λ r. ⌜ r ≡ gatherOf (now (t .entry)) out p ⌝ }
@@ -122,7 +123,7 @@ fn gather(t: &[u64], out: [u64; 4], p: usize) -> [u64; 4]
     out
 }
 
-// The bytes that a match of at least a byte can begin with.
+// Returns the bytes that a match of at least a byte can begin with.
 fn begin(t: &[u64]) -> [u64; 4]
     requires { ⌜ length (now t) ≡ tableWords ⌝ }
     ensures { λ r. ⌜ r ≡ beginOf (now (t .entry)) ⌝ }
@@ -137,7 +138,7 @@ fn begin(t: &[u64]) -> [u64; 4]
     out
 }
 
-// 1 if an entry row has a accept bit.
+// Returns 1 if an entry row has an accept bit, else 0.
 fn empty(t: &[u64]) -> u64
     requires { ⌜ length (now t) ≡ tableWords ⌝ }
     ensures { λ r. ⌜ r ≡ emptyOf (now (t .entry)) ⌝ }
@@ -150,7 +151,8 @@ fn empty(t: &[u64]) -> u64
     1
 }
 
-// Writes the table's last five words, from its rows and classes.
+// Writes the table's last five words, from its rows and classes: the bytes that a match can begin with, and whether one
+// may be empty.
 pub fn put_first_bytes(t: &mut [u64])
     requires { ⌜ length (now t) ≡ tableWords ⌝ }
     ensures { λ u. ⌜ now (t .exit) ≡ sealed (now (t .entry)) ⌝ }

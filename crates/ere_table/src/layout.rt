@@ -6,7 +6,8 @@ use edition::Edition;
 
 // Places of an ERE.
 pub const PLACES: usize = Edition::ERE_PLACES;
-// Words of all rows: row 0 where a match starts at the text's start, row 1 where elsewhere, row p + 2 after the place p.
+// Words of all rows: row 0 where a match starts at the text's start, row 1 where elsewhere, row p + 2 after the place
+// p.
 pub const ROWS: usize = 3 * (PLACES + 2);
 // Words of all classes, which come after the rows: of the place p from ROWS + 4 * p on.
 pub const CLASSES: usize = 4 * PLACES;
@@ -26,7 +27,7 @@ pub const ACCEPT_AT_END: [u64; 3] = [0, 0, 2];
 // The set with nothing in it.
 pub const NOTHING: [u64; 3] = [0, 0, 0];
 
-// Whether q is in the set.
+// Tells whether q is in the set.
 pub fn has(s: [u64; 3], q: usize) -> bool
     requires { ⌜ q < setBits ⌝ }
     ensures { λ r. ⌜ r ≡ mem s q ⌝ }

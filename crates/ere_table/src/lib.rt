@@ -1,7 +1,7 @@
-// The table of an ERE: its position (Glushkov) automaton, as words. The positions are the ERE's places. Rows 0 and 1 are
-// its first sets, of a match that starts at the text's start and of one that starts elsewhere, and row p + 2 is the
-// follow set of place p: bit sets, with accept bits where the automaton may stop. Each place has a class, the set of the
-// bytes that it accepts. Here is what is where, and how the parser builds it.
+// The table of an ERE: its position (Glushkov) automaton, as words. The positions are the ERE's places. Rows 0 and 1
+// are its first sets, of a match that starts at the text's start and of one that starts elsewhere, and row p + 2 is the
+// follow set of place p: bit sets, with accept bits where the automaton may stop. Each place has a class, the set of
+// the bytes that it accepts. Here is what is where, and how the parser builds it.
 mod build;
 mod layout;
 

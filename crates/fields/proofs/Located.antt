@@ -28,7 +28,7 @@ module _ (first : ℕ) where
     abbrev whole : List ℕ
     whole = set (set room at (f .start)) (at + 1) (f .size)
 
-    -- the room is as long as it was, and what stands before the span is as it was, whether the span is written or not
+    -- the room is as long as it was, and what is before the span is as it was, whether the span is written or not
     whole-length : length whole ≡ length room
     whole-length = length-set (set room at (f .start)) (at + 1) (f .size) ∙ length-set room at (f .start)
 

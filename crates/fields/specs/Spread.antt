@@ -9,7 +9,8 @@ use Rattle.edition.specs.Limits.{recordBytes, fieldCount}
 use Rattle.splitting.specs.Separator.{Separator, separatorOf}
 use Rattle.splitting.specs.Field.{Span, fieldsOf}
 
--- The room with the span of field k, counted from 0, if it has words for it: it is a room for the fields from `first` on, in two words each.
+-- The room with the span of field k, counted from 0, if it has words for it: it is a room for the fields from `first`
+-- on, in two words each.
 abbrev pub withSpan : List ℕ → ℕ → ℕ → Span → List ℕ
 withSpan room first k f =
     let i = 2 * (k - first) in

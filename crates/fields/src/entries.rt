@@ -77,7 +77,7 @@ fn split_record(record: &[u8], separator: &[u8], first: usize, spans: &mut [usiz
     split_with(record, separator, edition, &mut t, first, spans)
 }
 
-// The outcome of splitting a record, with the number of its fields.
+// Splits a record: the number of its fields, or why it is refused.
 pub fn split(record: &[u8], separator: &[u8]) -> Splitting
     ensures { λ r. ⌜ countingOf r ≡ countOf (splitOf firstEdition (now (separator .entry)) (now («record» .entry))) ⌝ }
 {
@@ -85,7 +85,7 @@ pub fn split(record: &[u8], separator: &[u8]) -> Splitting
     split_record(record, separator, 0, &mut none)
 }
 
-// The number before k.
+// Returns the number before k, or 0.
 fn previous(k: usize) -> usize
     ensures { λ r. ⌜ r ≡ k - 1 ⌝ }
 {
@@ -95,8 +95,8 @@ fn previous(k: usize) -> usize
     k - 1
 }
 
-// The span of field k, and the outcome of splitting the record. Fields are counted from 1 here, so the room is for the
-// one before k alone.
+// Returns the span of field k, and what splitting the record answers. Fields are counted from 1 here, so the room is
+// for the one before k alone.
 pub fn locate(record: &[u8], separator: &[u8], k: usize) -> Located
     ensures { λ r. ⌜ (countingOf (r .splitting)
         ≡ countOf (splitOf firstEdition (now (separator .entry)) (now («record» .entry))))
@@ -128,7 +128,7 @@ pub fn locate(record: &[u8], separator: &[u8], k: usize) -> Located
     }
 }
 
-// Field k of a record, as a part of the record.
+// Returns field k of a record, as a part of the record.
 pub fn field<'a, 'b>(record: &'a [u8], separator: &'b [u8], k: usize) -> &'a [u8]
     ensures { λ r. ⌜ (now r
         ≡ textOf (now («record» .entry)) (fieldOf firstEdition (now (separator .entry)) (now («record» .entry)) k))

@@ -31,7 +31,8 @@ fn put_span(spans: &mut [usize], first: usize, k: usize, start: usize, size: usi
     }
 }
 
-// Writes the spans of the fields from `first` on, as many as the room has words for, and counts all fields, up to one more than a record may have.
+// Writes the spans of the fields from `first` on, as many as the room has words for, and counts all fields, up to one
+// more than a record may have.
 pub fn split_into(
     text: &[u8],
     kind: Kind,

@@ -12,7 +12,7 @@ use crate::passed::Passed;
 use image_stages::Next;
 use varint::Taken;
 
-// What comes at a stage, off the bytes from a place on: a text byte or a number.
+// Takes what comes at a stage off the bytes, from a place on: a text byte or a number.
 fn take(image: &[u8], stage: u64, at: usize) -> Taken
     requires { ⌜ at ≤ length (now image) ⌝ }
     ensures { λ r. ⌜ TakesStage fromBytes (now (image .entry)) stage at r ⌝ }
@@ -35,7 +35,7 @@ fn put_word(room: &mut [u64], k: usize, x: u64)
     }
 }
 
-// A whole pass over an image, which writes a word for each of its numbers and text bytes, as far as the room goes.
+// Passes over a whole image, and writes a word for each of its numbers and text bytes, as far as the room goes.
 fn pass(image: &[u8], words: &mut [u64]) -> Passed
     ensures { λ r. ⌜ passedOf r (now (words .exit))
         ≡ passOf contentOf (now (words .entry)) (readImage fromBytes (now (image .entry))) ⌝ }
@@ -61,7 +61,7 @@ fn pass(image: &[u8], words: &mut [u64]) -> Passed
     Passed::Whole(k)
 }
 
-// Whether the bytes are an image's.
+// Tells whether the bytes are an image's.
 pub fn is_image(image: &[u8]) -> bool
     ensures { λ r. ⌜ r ≡ isImage (readImage fromBytes (now (image .entry))) ⌝ }
 {

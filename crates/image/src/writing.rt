@@ -18,7 +18,7 @@ use varint::Taken;
 // The greatest text byte.
 const BYTE: u64 = 255;
 
-// The greatest word that can come at a stage.
+// Returns the greatest word that can come at a stage.
 fn most(stage: u64) -> u64
     ensures { λ r. ⌜ r ≡ mostAt stage ⌝ }
 {
@@ -28,7 +28,7 @@ fn most(stage: u64) -> u64
     Edition::NUMBER
 }
 
-// What comes at a stage, off the words from a place on.
+// Takes what comes at a stage off the words, from a place on.
 fn take(content: &[u64], stage: u64, at: usize) -> Taken
     requires { ⌜ at ≤ length (now content) ⌝ }
     ensures { λ r. ⌜ TakesStage fromWords (now (content .entry)) stage at r ⌝ }
@@ -43,7 +43,7 @@ fn take(content: &[u64], stage: u64, at: usize) -> Taken
     Taken::Number(w, at + 1)
 }
 
-// Writes what came at a stage from byte k on; the index after it.
+// Writes what came at a stage from byte k on; returns the index after it.
 fn put(bytes: &mut [u8], stage: u64, k: usize, v: u64) -> usize
     requires { ⌜ (v ≤ mostAt stage) × (k + 8 < 2 ^ 64) ⌝ }
     ensures { λ r. ⌜ (r ≡ k + length (writtenAt coded stage v))
@@ -56,7 +56,7 @@ fn put(bytes: &mut [u8], stage: u64, k: usize, v: u64) -> usize
     varint::put_number(bytes, k, v)
 }
 
-// A whole pass over content words, which writes the image's bytes as far as the room goes.
+// Passes over all content words, and writes the image's bytes as far as the room goes.
 fn pass(content: &[u64], bytes: &mut [u8]) -> Passed
     ensures { λ r. ⌜ passedOf r (now (bytes .exit))
         ≡ passOf bytesOf (now (bytes .entry)) (readImage fromWords (now (content .entry))) ⌝ }

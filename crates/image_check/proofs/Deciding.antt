@@ -115,7 +115,7 @@ module _ (edition users constants eres : ℕ) where
         }
 
     module _ (first-ok : b .ok ≡ true) (d : Listed) (y : SectionJudged (contextBy true) l (b .end) d) where
-      -- the record section, behind the first
+      -- the record section, after the first
       second : (i : Image) → edition ≡ i .edition → users ≡ i .users → constants ≡ length (i .constants) → eres ≡ length (i .eres) → SectionsIn i (drop at l)
           → (Decides i (b .ok) (sectionChecks i begin)) × (Decides i (d .ok) (sectionChecks i main))
           × (d .ok ≡ true → Follows (instruction fromBytes (i .edition)) (i .end) (λ t. length t ≡ 0) (drop (d .end) l))
@@ -182,7 +182,7 @@ module _ (l : List ℕ) (h : Header) (x : HeaderAt l h) where
         eres-listed : (i : Image) → readImage fromBytes l ≡ some i → ListAt (i .edition) Eres l (c .end) e places
         eres-listed i r = subst (λ (n : ℕ). ListAt n Eres l (c .end) e places) (x .found there i r .0) z
 
-        -- the constants, and the EREs and sections behind them
+        -- the constants, and the EREs and sections after them
         behind : (i : Image) (r : readImage fromBytes l ≡ some i)
             → (c .count ≡ length (i .constants)) × (Fits (i .edition) Constants l (i .constants))
             × (Follows (counted fromBytes (wordUpTo 255)) (i .eres) (SectionsIn i) (drop (c .end) l))

@@ -1,4 +1,5 @@
--- The lists of an image that passes the check fit, so that one that doesn't fit refuses the image; and lists that fit are their part of the check.
+-- The lists of an image that passes the check fit, so that one that doesn't fit refuses the image; and lists that fit
+-- are their part of the check.
 use mathlib.Core.Path.{_≡_, refl, sym, ap, subst, _∙_}
 use mathlib.Core.Bool.{Bool, true, false, _&&_, and-false}
 use mathlib.Core.List.{List, [], _∷_}

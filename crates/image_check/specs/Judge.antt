@@ -1,4 +1,5 @@
--- Internal: cited by private contracts only. One instruction judged by its numbers: the clauses of the check, as the code has them.
+-- Internal: cited by private contracts only. One instruction judged by its numbers: the clauses of the check, as the
+-- code has them.
 use mathlib.Core.Path.{_≡_}
 use mathlib.Core.Bool.{Bool, true, not, cond, _&&_, _||_}
 use mathlib.Core.List.{List}
@@ -52,7 +53,8 @@ module _ (r : Context) (count : ℕ) where
   placedOf n c d rest =
       agree (eqb c 0) (eqb (suc n) count) && ((not (eqb n 0) || eqb d 0) && ((not (terminatesOf c) || eqb d 0) && (leb d operandDepth && rest)))
 
-  -- "each successor inside the section and its depth as the instruction leaves it": `has m d` says that instruction m is there, with the depth d before it
+  -- "each successor inside the section and its depth as the instruction leaves it": `has m d` says that instruction m
+  -- is there, with the depth d before it
   module _ (has : ℕ → ℕ → Bool) where
     abbrev pub leadsOf : ℕ → ℕ → ℕ → ℕ → Bool
     leadsOf n c v after =

@@ -16,14 +16,14 @@ use Rattle.image_check.specs.Judge.{ContextOf}
 use Rattle.image_check.specs.declared.context.Context.{Context}
 use Rattle.image_index.specs.Header.{SectionsOf, SectionsIn}
 
--- An answer on a part of the check. A section's answer can be false for what only another part refuses, as a number of a constant that is too great for any
--- accepted image, so a false answer speaks of the whole.
+-- An answer on a part of the check. A section's answer can be false for what only another part refuses, as a number of
+-- a constant that is too great for any accepted image, so a false answer speaks of the whole.
 pub record Decides (i : Image) (ok part : Bool) : Type 0 where
   pub refused : ok ≡ false → check i ≡ false
   pub passed : ok ≡ true → part ≡ true
 
--- A section, from its place in an image's bytes: if these are instructions, whether they pass the check, and then what they leave. If the answer is that they
--- pass, instructions stand there.
+-- A section, from its place in an image's bytes: if these are instructions, whether they pass the check, and then what
+-- they leave. If the answer is that they pass, instructions are there.
 pub record SectionJudged (context : Context) (l : List ℕ) (at : ℕ) (r : Listed) : Type 0 where
   pub inside : r .ok ≡ true → r .end ≤ length l
   pub there : r .ok ≡ true
@@ -37,7 +37,7 @@ pub record ImageJudged (l : List ℕ) (ok : Bool) : Type 0 where
   pub judged : (i : Image) → readImage fromBytes l ≡ some i → ok ≡ check i
   pub there : ok ≡ true → (i : Image) × (readImage fromBytes l ≡ some i)
 
--- the three sections, from their place on; if they pass, they stand there to the last byte
+-- the three sections, from their place on; if they pass, they are there to the last byte
 pub record SectionsJudged (edition users constants eres : ℕ) (l : List ℕ) (at : ℕ) (ok : Bool) : Type 0 where
   pub judged : (i : Image) → edition ≡ i .edition → users ≡ i .users → constants ≡ length (i .constants) → eres ≡ length (i .eres) → SectionsIn i (drop at l)
       → Decides i ok (sectionChecks i begin && (sectionChecks i main && sectionChecks i end))

@@ -19,7 +19,7 @@ pub enum Verdict {
     Rejected,
 }
 
-// The section at a place, its index, and whether it passes.
+// Reads the section at a place with its index, and checks its instructions.
 fn section(image: &[u8], context: Context, at: usize, index: &mut [u32]) -> Listed
     requires { ⌜ (at ≤ length (now image)) × (length (now image) < imageBound) × (instructionCount ≤ length (now index)) × (context .users ≤ userNames) ⌝ }
     ensures { λ r. ⌜ SectionJudged context (now (image .entry)) at r ⌝ }
@@ -35,7 +35,7 @@ fn section(image: &[u8], context: Context, at: usize, index: &mut [u32]) -> List
     }
 }
 
-// Whether the sections from a place on pass, and end the image. One index serves all three.
+// Tells whether the sections from a place on pass, and end the image. One index serves all three.
 fn sections(
     image: &[u8],
     edition: u64,
@@ -74,7 +74,7 @@ fn sections(
     end.ok && end.end == image.len()
 }
 
-// Whether the bytes are an image that passes the check.
+// Tells whether the bytes are an image that passes the check.
 fn passes(image: &[u8]) -> bool
     requires { ⌜ length (now image) < imageBound ⌝ }
     ensures { λ r. ⌜ ImageJudged (now (image .entry)) r ⌝ }

@@ -1,4 +1,5 @@
-// What an instruction is judged by, beside its section: the edition, the sizes of the image, and whether this is the record section.
+// What an instruction is judged by, beside its section: the edition, the sizes of the image, and whether this is the
+// record section.
 pub struct Context {
     pub edition: u64,
     pub users: u64,

@@ -9,14 +9,14 @@ ghost use Rattle.image_check.specs.Judge.{terminatesOf, popsOf, variable
 use crate::context::Context;
 use edition::Edition;
 
-// Whether a code leads nowhere in its section.
+// Tells whether a code leads nowhere in its section.
 fn terminates(code: u64) -> bool
     ensures { λ r. ⌜ r ≡ terminatesOf code ⌝ }
 {
     code == opcodes::END || code == opcodes::NEXT || code == opcodes::EXIT
 }
 
-// How many operands a code takes, by its row.
+// Returns how many operands a code takes, by its row.
 fn pops(row: u64, first: u64) -> u64
     ensures { λ r. ⌜ r ≡ popsOf row first ⌝ }
 {
@@ -26,7 +26,7 @@ fn pops(row: u64, first: u64) -> u64
     row % 4
 }
 
-// How many variables there are.
+// Returns how many variables there are.
 fn variables(context: Context) -> u64
     requires { ⌜ context .users ≤ userNames ⌝ }
     ensures { λ r. ⌜ r ≡ variablesOf context ⌝ }
@@ -34,7 +34,7 @@ fn variables(context: Context) -> u64
     opcodes::specials(context.edition) + context.users
 }
 
-// Whether what a number names is there, and keeps the rule of its kind.
+// Tells whether what a number names is there, and keeps the rule of its kind.
 fn exists(context: Context, count: usize, names: u64, v: u64) -> bool
     requires { ⌜ context .users ≤ userNames ⌝ }
     ensures { λ r. ⌜ r ≡ existsOf context count names v ⌝ }
@@ -60,21 +60,21 @@ fn exists(context: Context, count: usize, names: u64, v: u64) -> bool
     true
 }
 
-// Whether a code may be in the section.
+// Tells whether a code may be in the section.
 fn allowed(context: Context, code: u64) -> bool
     ensures { λ r. ⌜ r ≡ allowedOf context code ⌝ }
 {
     code != opcodes::NEXT || context.main
 }
 
-// Whether a depth is 0, if it has to be.
+// Tells whether a depth is 0, if it has to be.
 fn zero_if(over: bool, depth: u64) -> bool
     ensures { λ r. ⌜ r ≡ (not over || eqb depth 0) ⌝ }
 {
     !over || depth == 0
 }
 
-// Whether a code and its depth may stand at instruction n.
+// Tells whether a code and its depth may be at instruction n.
 fn check_position(context: Context, count: usize, n: usize, code: u64, depth: u64) -> bool
     requires { ⌜ n < count ⌝ }
     ensures { λ r. ⌜ r ≡ placedOf context count n code depth true ⌝ }
@@ -91,7 +91,7 @@ fn check_position(context: Context, count: usize, n: usize, code: u64, depth: u6
     depth <= Edition::DEPTH as u64
 }
 
-// Whether instruction m is there, with a depth before it.
+// Tells whether instruction m is there, with this depth before it.
 fn has_depth(index: &[u32], count: usize, m: u64, depth: u64) -> bool
     requires { ⌜ count ≤ length (now index) ⌝ }
     ensures { λ r. ⌜ r ≡ hasDepth (now (index .entry)) count m depth ⌝ }
@@ -103,7 +103,7 @@ fn has_depth(index: &[u32], count: usize, m: u64, depth: u64) -> bool
     j.depth == depth
 }
 
-// Whether each instruction that comes after instruction n is there, with the depth that this one leaves.
+// Tells whether each instruction that comes after instruction n is there, with the depth that this one leaves.
 fn check_successors(
     index: &[u32],
     context: Context,
@@ -131,7 +131,7 @@ fn check_successors(
     true
 }
 
-// Whether instruction n passes.
+// Tells whether instruction n passes.
 fn check_instruction(index: &[u32], context: Context, count: usize, n: usize) -> bool
     requires { ⌜ (count ≤ length (now index)) × (n < count) × (context .users ≤ userNames) ⌝ }
     ensures { λ r. ⌜ r ≡ judgedAt context (now (index .entry)) count n ⌝ }
@@ -159,7 +159,7 @@ fn check_instruction(index: &[u32], context: Context, count: usize, n: usize) ->
     check_successors(index, context, count, n, code, j.first, after) && allowed(context, code)
 }
 
-// Whether all instructions of a section pass.
+// Tells whether all instructions of a section pass.
 pub fn check_instructions(index: &[u32], context: Context, count: usize) -> bool
     requires { ⌜ (count ≤ length (now index)) × (context .users ≤ userNames) ⌝ }
     ensures { λ r. ⌜ Judges context (now (index .entry)) count r ⌝ }

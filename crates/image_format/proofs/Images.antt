@@ -24,7 +24,7 @@ unfolding all
 all-bytes [] = refl
 all-bytes (b ∷ l) = rw (all-bytes l)
 
--- ---- a constant's kind, and what is behind it
+-- ---- a constant's kind, and what is after it
 
 abbrev kindOf : Constant → ℕ
 kindOf (number n) = 0
@@ -102,7 +102,7 @@ module _ {source : Source} {write : ℕ → List ℕ} (agrees : Agrees source wr
   -- ---- instructions
 
   module _ (edition : ℕ) where
-    -- what is asked of an instruction behind its code
+    -- what is asked of an instruction after its code
     abbrev Behind : Instruction → Type 0
     Behind i = (row : Code) × (codeOf edition (i .code) ≡ some row) × (Small (i .depth)) × (length (i .immediates) ≡ length (row .immediates)) × (Every Small (i .immediates))
 
@@ -124,7 +124,7 @@ module _ {source : Source} {write : ℕ → List ℕ} (agrees : Agrees source wr
         (λ i h. record { row = h .1 .1 .0; has = h .1 .1 .1; code = h .1 .0; depth = h .1 .1 .2; many = h .1 .1 .3; immediates = h .1 .1 .4 })
         (λ i h. (tt, (h .code, (h .row, h .has, h .depth, h .many, h .immediates)))) (λ i h. refl)
 
-  -- ---- what is behind the edition
+  -- ---- what is after the edition
 
   abbrev behindEdition : Image → List ℕ
   behindEdition i =

@@ -1,5 +1,5 @@
--- Document 01, "The image": "Numbers are groups of seven bits, low group first, high bit set if more follow, no longer than needed"; "a number over 2^53"
--- is malformed.
+-- Document 01, "The image": "Numbers are groups of seven bits, low group first, high bit set if more follow, no longer
+-- than needed"; "a number over 2^53" is malformed.
 use mathlib.Core.Bool.{cond}
 use mathlib.Core.List.{List, [], _∷_}
 use mathlib.Core.Option.{Option, some, none}
@@ -22,7 +22,7 @@ groups (suc k) n = cond (ltb n 128) (n ∷ []) ((128 + n % 128) ∷ groups k (n 
 unfoldable pub coded : ℕ → List ℕ
 coded n = groups 8 n
 
--- a low group, and what stands above it
+-- a low group, and what is above it
 abbrev pub above : ℕ → Option (Parsed ℕ) → Option (Parsed ℕ)
 above g none = none
 above g (some r) = cond (eqb (r .value) 0) none (parsed (g + 128 * (r .value)) (r .rest))

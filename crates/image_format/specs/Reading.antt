@@ -1,5 +1,6 @@
--- Document 01, "The image": reading, from bytes or from content words. "Malformed (8): any breach of this, a number over 2^53, an unknown edition, kind or
--- code." "An image's content is its numbers and text bytes in order, each a 64-bit word."
+-- Document 01, "The image": reading, from bytes or from content words. "Malformed (8): any breach of this, a number
+-- over 2^53, an unknown edition, kind or code." "An image's content is its numbers and text bytes in order, each a
+-- 64-bit word."
 use mathlib.Core.Bool.{cond}
 use mathlib.Core.List.{List, [], _∷_}
 use mathlib.Core.Option.{Option, some, none}

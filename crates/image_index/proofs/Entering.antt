@@ -1,4 +1,4 @@
--- An item's entry, by what stands at the item's place.
+-- An item's entry, by what is at the item's place.
 use mathlib.Core.Path.{_≡_, refl, sym, subst, _∙_}
 use mathlib.Core.Bool.{Bool, true, false, cond}
 use mathlib.Core.List.{List, [], _∷_}
@@ -28,11 +28,11 @@ use Rattle.image_index.proofs.Standing.{never}
 -- ---- of any kind
 
 module _ (edition : ℕ) (k : Kind) (l : List ℕ) (at : ℕ) (r : Entry) where
-  -- nothing stands there
+  -- nothing is there
   pub entry-missing : r .ok ≡ false → takerOf edition k (drop at l) ≡ none → EntryAt edition k l at r
   entry-missing e h = record { refused = λ g a t i f. none-some (sym h ∙ i); found = λ g. never e g }
 
-  -- what stands there doesn't fit
+  -- what is there doesn't fit
   pub entry-unfit : r .ok ≡ false → (a : ItemOf k) (end : ℕ) → Stands (takerOf edition k) l at a end → (FitsOf edition k a → ⊥) → EntryAt edition k l at r
   entry-unfit e a end s n =
       record { refused = λ g b t i f. n (subst (FitsOf edition k) (sym (same-item (s .taken) i)) f); found = λ g. never e g }

@@ -97,7 +97,7 @@ module _ (n code depth : ℕ) (few : n ≤ 2) (l : List ℕ) (at : ℕ) (x : Ope
 
 -- ---- the instruction
 
--- behind a code that names n things
+-- after a code that names n things
 abbrev numbers : ℕ → ℕ → Parser Instruction
 numbers code n l =
     bind (takeNumber l) (λ depth l. bind (many takeNumber n l) (λ named. succeed (record { code = code; depth = depth; immediates = named })))

@@ -1,4 +1,4 @@
--- What was read as an image is its parts, one after the other, and nothing behind them.
+-- What was read as an image is its parts, one after the other, and nothing after them.
 use mathlib.Core.Path.{_≡_, refl, sym, ap, _∙_}
 use mathlib.Core.Bool.{Bool, true, false, cond}
 use mathlib.Core.List.{List}
@@ -80,7 +80,7 @@ read-some l i h =
     let p = parts-some (e .0 .value) (e .0 .rest) (d .0) (d .3) (k .1) in
     rw (← (d .2)) (e .0 .rest, e .1 ∙ ap (λ (n : ℕ). parsed n (e .0 .rest)) (p .0), ap known (sym (p .0)) ∙ k .0, p .1)
 
--- and what stands so is read
+-- and what is so laid out is read
 pub read-made : (l : List ℕ) (i : Image) → ImageIn i l → readImage fromBytes l ≡ some i
 unfolding readImage
 read-made l i (t, te, k, (t1, tu, (t2, tc, (t3, tx, (t4, tb, (t5, tr, (t6, tn, z))))))) =

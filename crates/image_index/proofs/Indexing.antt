@@ -26,7 +26,7 @@ use Rattle.image_index.specs.declared.indexes.Listed.{Listed}
 use Rattle.image_index.proofs.Standing.{never}
 
 module _ (edition : ℕ) (k : Kind) (l : List ℕ) where
-  -- another item's entry, behind those that there are
+  -- another item's entry, after those that there are
   told-more : (xs : List (ItemOf k)) (index : List ℕ) (a : ItemOf k) (x : ℕ) → Indexes edition k l xs index → TellsOf edition k l x a
       → Indexes edition k l (xs ++ (a ∷ [])) (set index (length xs) x)
   told-more xs index a x old new n b e h =
@@ -92,7 +92,7 @@ module _ (edition : ℕ) (k : Kind) (l : List ℕ) where
               told = subst (Indexes edition k l (p .items ++ (s .0 ∷ []))) stored (told-more (p .items) index (s .0) (x .entry) (p .told) (s .3));
             }
 
-        -- an item that doesn't stand there, or doesn't fit
+        -- an item that isn't there, or doesn't fit
         pub passed-refused : x .ok ≡ false → (n : ℕ) → count < n → (r : Listed) → r .ok ≡ false → (index' : List ℕ) → ItemsAt edition k l n first r index'
         passed-refused h n few r e index' =
             record {

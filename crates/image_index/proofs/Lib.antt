@@ -1,4 +1,4 @@
--- Laws on what stands in an image, and on the entries of an index.
+-- Laws on what is in an image, and on the entries of an index.
 pub mod Standing
 pub mod Fetching
 pub mod Entering

@@ -1,4 +1,4 @@
--- Internal: cited by private contracts only. The numbers before the lists of an image, and the lists behind them.
+-- Internal: cited by private contracts only. The numbers before the lists of an image, and the lists after them.
 use mathlib.Core.Path.{_≡_}
 use mathlib.Core.Bool.{true, false}
 use mathlib.Core.List.{List}
@@ -13,11 +13,11 @@ use Rattle.image_index.specs.declared.header.Header.{Header}
 
 -- ---- how the lists of an image follow each other
 
--- a list stands in front of bytes, and K of what it leaves
+-- a list is at the front of bytes, and K holds of what it leaves
 abbrev pub Follows : {A : Type 0} → Parser A → List A → (List ℕ → Type 0) → List ℕ → Type 0
 Follows one xs K l = (t : List ℕ) × (counted fromBytes one l ≡ parsed xs t) × (K t)
 
--- three sections, and nothing behind them
+-- three sections, and nothing after them
 abbrev pub SectionsOf : ℕ → List Instruction → List Instruction → List Instruction → List ℕ → Type 0
 SectionsOf edition begins records ends =
     Follows (instruction fromBytes edition) begins (

@@ -1,4 +1,4 @@
--- What stands where in an image's bytes, and an index of it.
+-- What is where in an image's bytes, and an index of it.
 pub mod Stands
 pub mod Lists
 pub mod Header

@@ -1,4 +1,5 @@
--- Internal: cited by private contracts only. The lists of an image, by their kind: what their items are, which of them the check can accept by themselves, and what an index says of them.
+-- Internal: cited by private contracts only. The lists of an image, by their kind: what their items are, which of them
+-- the check can accept by themselves, and what an index says of them.
 use mathlib.Core.Path.{_≡_}
 use mathlib.Core.Bool.{true, false}
 use mathlib.Core.List.{List}
@@ -38,7 +39,8 @@ leastOf Constants = 0
 leastOf Eres = 0
 leastOf Instructions = 1
 
--- ---- an instruction as one number of 32 bits: six for the code, six for the depth, ten each for the numbers that it names
+-- ---- an instruction as one number of 32 bits: six for the code, six for the depth, ten each for the numbers that it
+-- names
 
 abbrev pub packed : ℕ → ℕ → ℕ → ℕ → ℕ
 packed code depth first second = code + 64 * depth + 4096 * first + 4194304 * second

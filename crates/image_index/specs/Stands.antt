@@ -1,4 +1,4 @@
--- Internal: cited by private contracts only. What stands in an image's bytes from a place on, and what the code says of it.
+-- Internal: cited by private contracts only. What is in an image's bytes from a place on, and what the code says of it.
 use mathlib.Core.Path.{_≡_}
 use mathlib.Core.Bool.{Bool, true, false, cond}
 use mathlib.Core.List.{List, [], _∷_}
@@ -43,7 +43,7 @@ pub record TextAt (l : List ℕ) (at : ℕ) (r : Text) : Type 0 where
 abbrev pub constantOf : List ℕ → Found → Constant
 constantOf l r = cond (eqb (r .kind) 0) (number (r .value)) (text (part (r .start) (r .end - r .start) l))
 
--- behind the kind 0, a number
+-- after the kind 0, a number
 pub record NumberAt (l : List ℕ) (at : ℕ) (r : Found) : Type 0 where
   pub refused : r .ok ≡ false → takeNumber (drop at l) ≡ none
   pub found : r .ok ≡ true → Stands takeNumber l at (r .value) (r .end)

@@ -1,4 +1,4 @@
-// From an index to what stands in the image.
+// From an index to what is in the image.
 ghost use mathlib.Core.Path.{_≡_};
 ghost use Prim.Native.Nat.{ℕ, _≤_, _<_};
 ghost use mathlib.Core.List.{List};
@@ -10,7 +10,8 @@ ghost use Rattle.image_index.specs.declared.indexes.Kind.the-variants.{C
 use crate::items;
 use crate::items::Found;
 
-// The numbers of an instruction: its code, the depth before it, and its first and second number, 0 where the code names none.
+// The numbers of an instruction: its code, the depth before it, and its first and second number, 0 where the code names
+// none.
 pub struct Numbers {
     pub code: u64,
     pub depth: u64,
@@ -18,7 +19,7 @@ pub struct Numbers {
     pub second: u64,
 }
 
-// The instruction whose entry has the number n.
+// Returns the instruction whose entry has the number n.
 pub fn instruction(index: &[u32], n: usize) -> Numbers
     requires { ⌜ n < length (now index) ⌝ }
     ensures { λ r. ⌜ r ≡ numbersOf (getD (now (index .entry)) n 0) ⌝ }
@@ -32,7 +33,7 @@ pub fn instruction(index: &[u32], n: usize) -> Numbers
     }
 }
 
-// The constant whose entry has the number n.
+// Returns the constant whose entry has the number n.
 pub fn constant(image: &[u8], index: &[u32], n: usize) -> Found
     requires { ⌜ (n < length (now index)) × (getD (now index) n 0 ≤ length (now image)) ⌝ }
     ensures { λ r. ⌜ ConstantAt (now (image .entry)) (getD (now (index .entry)) n 0) r ⌝ }
@@ -40,7 +41,7 @@ pub fn constant(image: &[u8], index: &[u32], n: usize) -> Found
     items::constant_at(image, index[n] as usize)
 }
 
-// The bytes of the text constant whose entry has the number n, as a part of the image.
+// Returns the bytes of the text constant whose entry has the number n, as a part of the image.
 pub fn constant_bytes<'a, 'b>(image: &'a [u8], index: &'b [u32], n: usize) -> &'a [u8]
     requires { ⌜ (n < length (now index)) × (getD (now index) n 0 ≤ length (now image)) ⌝ }
     ensures { λ r. ⌜ (IsPart (now (image .entry)) (image .entry .ptr) (now r) (r .ptr))
@@ -52,7 +53,7 @@ pub fn constant_bytes<'a, 'b>(image: &'a [u8], index: &'b [u32], n: usize) -> &'
     &image[start..end]
 }
 
-// The bytes of the ERE whose entry has the number n, as a part of the image.
+// Returns the bytes of the ERE whose entry has the number n, as a part of the image.
 pub fn ere_bytes<'a, 'b>(image: &'a [u8], index: &'b [u32], n: usize) -> &'a [u8]
     requires { ⌜ (n < length (now index)) × (getD (now index) n 0 ≤ length (now image)) ⌝ }
     ensures { λ r. ⌜ (IsPart (now (image .entry)) (image .entry .ptr) (now r) (r .ptr))

@@ -12,6 +12,7 @@ pub struct Header {
     pub at: usize,
 }
 
+// Returns the header of bytes that have none.
 fn no_header() -> Header
     ensures { λ r. ⌜ r .ok ≡ false ⌝ }
 {
@@ -23,7 +24,7 @@ fn no_header() -> Header
     }
 }
 
-// The numbers before the lists of an image.
+// Reads the numbers before the lists of an image.
 pub fn header_of(image: &[u8]) -> Header
     ensures { λ r. ⌜ HeaderAt (now (image .entry)) r ⌝ }
 {

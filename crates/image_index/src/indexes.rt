@@ -35,6 +35,7 @@ pub struct Listed {
 // An accepted image has fewer bytes.
 pub const IMAGE_BYTES: usize = 65536;
 
+// Returns the entry of an item that no accepted image can have.
 fn no_entry() -> Entry
     ensures { λ r. ⌜ r .ok ≡ false ⌝ }
 {
@@ -45,7 +46,7 @@ fn no_entry() -> Entry
     }
 }
 
-// A constant's entry is its place.
+// Makes the entry of the constant at a place: that place.
 fn constant_entry(image: &[u8], edition: u64, at: usize) -> Entry
     requires { ⌜ (at ≤ length (now image)) × (length (now image) < imageBound) ⌝ }
     ensures { λ r. ⌜ EntryAt edition Constants (now (image .entry)) at r ⌝ }
@@ -64,7 +65,7 @@ fn constant_entry(image: &[u8], edition: u64, at: usize) -> Entry
     }
 }
 
-// An ERE's entry is its place.
+// Makes the entry of the ERE at a place: that place. The ERE is compiled to see that it reads.
 fn ere_entry(image: &[u8], edition: u64, at: usize) -> Entry
     requires { ⌜ (at ≤ length (now image)) × (length (now image) < imageBound) ⌝ }
     ensures { λ r. ⌜ EntryAt edition Eres (now (image .entry)) at r ⌝ }
@@ -88,7 +89,8 @@ fn ere_entry(image: &[u8], edition: u64, at: usize) -> Entry
     }
 }
 
-// An instruction's entry is its numbers: six bits for the code, six for the depth, ten each for the first and the second number.
+// Makes the entry of the instruction at a place: six bits for the code, six for the depth, ten each for the first and
+// the second number.
 fn instruction_entry(image: &[u8], edition: u64, at: usize) -> Entry
     requires { ⌜ (at ≤ length (now image)) × (length (now image) < imageBound) ⌝ }
     ensures { λ r. ⌜ EntryAt edition Instructions (now (image .entry)) at r ⌝ }
@@ -113,7 +115,7 @@ fn instruction_entry(image: &[u8], edition: u64, at: usize) -> Entry
     }
 }
 
-// The entry of the item that stands at a place.
+// Makes the entry of the item at a place.
 fn entry_at(image: &[u8], edition: u64, kind: Kind, at: usize) -> Entry
     requires { ⌜ (at ≤ length (now image)) × (length (now image) < imageBound) ⌝ }
     ensures { λ r. ⌜ EntryAt edition kind (now (image .entry)) at r ⌝ }
@@ -125,7 +127,7 @@ fn entry_at(image: &[u8], edition: u64, kind: Kind, at: usize) -> Entry
     }
 }
 
-// The most items that a list can have.
+// Returns the most items that a list can have.
 fn most(kind: Kind) -> usize
     ensures { λ r. ⌜ r ≡ mostOf kind ⌝ }
 {
@@ -136,7 +138,7 @@ fn most(kind: Kind) -> usize
     }
 }
 
-// The fewest.
+// Returns the fewest items that a list can have.
 fn least(kind: Kind) -> usize
     ensures { λ r. ⌜ r ≡ leastOf kind ⌝ }
 {
@@ -147,6 +149,7 @@ fn least(kind: Kind) -> usize
     }
 }
 
+// Returns the answer for a list that no accepted image can have.
 fn no_list() -> Listed
     ensures { λ r. ⌜ r .ok ≡ false ⌝ }
 {
@@ -166,7 +169,7 @@ fn put_entry(index: &mut [u32], k: usize, entry: u32)
     }
 }
 
-// The n items from a place on; their entries go to the index, as far as it goes.
+// Reads n items from a place on, and writes their entries, as far as the index goes.
 fn items_at(
     image: &[u8],
     edition: u64,
@@ -196,7 +199,8 @@ fn items_at(
     }
 }
 
-// The list whose count stands at a place; its index goes as far as the room does.
+// Reads the list whose count is at a place, and writes its index, as far as the room goes. Where it refuses, what the
+// index has is left open.
 pub fn list_at(image: &[u8], edition: u64, kind: Kind, at: usize, index: &mut [u32]) -> Listed
     requires { ⌜ (at ≤ length (now image)) × (length (now image) < imageBound) ⌝ }
     ensures { λ r. ⌜ ListAt edition kind (now (image .entry)) at r (now (index .exit)) ⌝ }

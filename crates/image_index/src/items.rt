@@ -1,4 +1,4 @@
-// What stands in an image from a place on: a text, a constant, an instruction.
+// What is in an image from a place on: a text, a constant, an instruction.
 ghost use mathlib.Core.Path.{_≡_};
 ghost use mathlib.Core.Bool.{false};
 ghost use Prim.Native.Nat.{_≤_};
@@ -41,6 +41,7 @@ pub struct Fetched {
     pub end: usize,
 }
 
+// Returns the answer that there is no text.
 fn no_text() -> Text
     ensures { λ r. ⌜ (r .ok ≡ false) × (r .start ≡ 0) × (r .end ≡ 0) ⌝ }
 {
@@ -51,7 +52,7 @@ fn no_text() -> Text
     }
 }
 
-// The text whose length stands at a place.
+// Finds the bytes of the text whose length is at a place.
 pub fn text_at(image: &[u8], at: usize) -> Text
     requires { ⌜ at ≤ length (now image) ⌝ }
     ensures { λ r. ⌜ TextAt (now (image .entry)) at r ⌝ }
@@ -70,6 +71,7 @@ pub fn text_at(image: &[u8], at: usize) -> Text
     }
 }
 
+// Returns the answer that there is no constant.
 fn no_constant() -> Found
     ensures { λ r. ⌜ (r .ok ≡ false) × (r .start ≡ 0) × (r .end ≡ 0) ⌝ }
 {
@@ -82,7 +84,7 @@ fn no_constant() -> Found
     }
 }
 
-// The number of a constant, which stands at a place.
+// Reads the number of a constant, which is at a place.
 fn number_at(image: &[u8], at: usize) -> Found
     requires { ⌜ at ≤ length (now image) ⌝ }
     ensures { λ r. ⌜ NumberAt (now (image .entry)) at r ⌝ }
@@ -99,7 +101,7 @@ fn number_at(image: &[u8], at: usize) -> Found
     }
 }
 
-// The constant whose kind stands at a place.
+// Reads the constant whose kind is at a place.
 pub fn constant_at(image: &[u8], at: usize) -> Found
     requires { ⌜ at ≤ length (now image) ⌝ }
     ensures { λ r. ⌜ ConstantAt (now (image .entry)) at r ⌝ }
@@ -123,6 +125,7 @@ pub fn constant_at(image: &[u8], at: usize) -> Found
     }
 }
 
+// Returns the answer that there is no instruction.
 fn no_instruction() -> Fetched
     ensures { λ r. ⌜ r .ok ≡ false ⌝ }
 {
@@ -183,7 +186,7 @@ fn operands_at(image: &[u8], edition: u64, code: u64, depth: u64, at: usize) -> 
     }
 }
 
-// The instruction whose code stands at a place.
+// Reads the instruction whose code is at a place.
 pub fn instruction_at(image: &[u8], edition: u64, at: usize) -> Fetched
     requires { ⌜ at ≤ length (now image) ⌝ }
     ensures { λ r. ⌜ InstructionAt edition (now (image .entry)) at r ⌝ }

@@ -1,4 +1,4 @@
-// What stands where in an image: its texts, constants and instructions, and an index of each list.
+// What is where in an image: its texts, constants and instructions, and an index of each list.
 mod access;
 mod header;
 mod indexes;

@@ -1,4 +1,5 @@
--- Internal: cited by private contracts only. The index of an image that passes the check: for each of its lists the entries of all its items, as many as the rooms have.
+-- Internal: cited by private contracts only. The index of an image that passes the check: for each of its lists the
+-- entries of all its items, as many as the rooms have.
 use mathlib.Core.Path.{_≡_}
 use mathlib.Core.Bool.{true}
 use mathlib.Core.List.{List}

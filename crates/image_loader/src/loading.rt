@@ -23,6 +23,7 @@ pub struct Counts {
     pub end: usize,
 }
 
+// Returns the counts of sections that an accepted image can not have.
 fn no_counts() -> Counts {
     Counts {
         begin: 0,
@@ -31,6 +32,7 @@ fn no_counts() -> Counts {
     }
 }
 
+// Returns the answer for bytes that an accepted image can not have.
 fn nothing() -> Loaded {
     Loaded {
         edition: 0,
@@ -71,7 +73,8 @@ fn sections(
     }
 }
 
-// Fills the index of an image that passes the check: entries of its constants, EREs and three sections, as far as the rooms go.
+// Writes the index of an image that passes the check: entries of its constants, EREs and three sections, as far as the
+// rooms go. Of other bytes, the answer and what the rooms have are left open.
 pub fn load(
     image: &[u8],
     constants: &mut [u32],

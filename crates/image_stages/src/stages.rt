@@ -52,7 +52,8 @@ const AFTER_CONSTANTS: u64 = 4;
 
 const AFTER_ERES: u64 = 3;
 
-// The state at an image's first number. Like an item, the edition has a unit after it: the count of user variables.
+// Returns the state at an image's first number. Like an item, the edition has a unit after it: the count of user
+// variables.
 pub fn start() -> State
     ensures { λ r. ⌜ r ≡ start ⌝ }
 {
@@ -65,7 +66,7 @@ pub fn start() -> State
     }
 }
 
-// The first stage of an item, by how many lists come after its own.
+// Returns the first stage of an item, by how many lists come after its own.
 fn opening(lists: u64) -> u64
     ensures { λ r. ⌜ r ≡ opening lists ⌝ }
 {
@@ -78,7 +79,7 @@ fn opening(lists: u64) -> u64
     CODE
 }
 
-// The item has so many units of a stage yet.
+// Returns the state with so many units of a stage left of its item.
 fn with_units(s: State, stage: u64, units: u64) -> State
     ensures { λ r. ⌜ r ≡ withUnits s stage units ⌝ }
 {
@@ -91,6 +92,7 @@ fn with_units(s: State, stage: u64, units: u64) -> State
     }
 }
 
+// Takes the edition.
 fn edition_told(s: State, v: u64) -> Next
     ensures { λ r. ⌜ r ≡ editionTold s v ⌝ }
 {
@@ -106,6 +108,7 @@ fn edition_told(s: State, v: u64) -> Next
     Next::Unknown
 }
 
+// Takes a constant's kind: a number or a text follows.
 fn kind_told(s: State, v: u64) -> Next
     ensures { λ r. ⌜ r ≡ kindTold s v ⌝ }
 {
@@ -118,6 +121,7 @@ fn kind_told(s: State, v: u64) -> Next
     Next::Unknown
 }
 
+// Takes an instruction's code: its depth and the numbers that it names follow.
 fn code_told(s: State, v: u64) -> Next
     ensures { λ r. ⌜ r ≡ codeTold s v ⌝ }
 {
@@ -127,7 +131,7 @@ fn code_told(s: State, v: u64) -> Next
     Next::Unknown
 }
 
-// What v says: how many items the list has, or how many units of which stage the item has yet.
+// Takes what v says: how many items the list has, or how many units of which stage the item has left.
 fn told(s: State, v: u64) -> Next
     ensures { λ r. ⌜ r ≡ told s v ⌝ }
 {
@@ -182,7 +186,7 @@ fn advance(s: State) -> State
     }
 }
 
-// The state after v came.
+// Returns the state after v came, or that v is an unknown edition, kind or code.
 pub fn after(s: State, v: u64) -> Next
     ensures { λ r. ⌜ r ≡ after s v ⌝ }
 {

@@ -42,7 +42,7 @@ unfolding nth
 every-of [] h = empty
 every-of (a ∷ l) h = cons (h 0 a refl) (every-of l (λ n b e. h (suc n) b e))
 
--- one more behind all of them
+-- one more after all of them
 pub every-more : {A : Type 0} {P : A → Type 0} {xs : List A} {a : A} → Every P xs → P a → Every P (xs ++ (a ∷ []))
 every-more empty h = cons h empty
 every-more (cons x e) h = cons x (every-more e h)

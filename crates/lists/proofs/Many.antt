@@ -59,7 +59,7 @@ module _ {A : Type 0} (one : Parser A) where
       let s = split n l xs t e in
       ap length (s .same) ∙ ap suc (many-length n (s .left) (s .rest) t (s .others))
 
-  -- one more behind them
+  -- one more after them
   pub many-more : (n : ℕ) (l : List ℕ) (xs : List A) (t : List ℕ) → many one n l ≡ parsed xs t → (a : A) (u : List ℕ) → one t ≡ parsed a u
       → many one (suc n) l ≡ parsed (xs ++ (a ∷ [])) u
   unfolding many
@@ -72,7 +72,7 @@ module _ {A : Type 0} (one : Parser A) where
       ∙ on (λ rest. succeed (s .first ∷ rest)) (many-more n (s .left) (s .rest) t (s .others) a u h)
       ∙ ap (λ (x : List A). parsed (x ++ (a ∷ [])) u) (sym (s .same))
 
-  -- where fewer than could be taken were taken, the next one stands, and has what each has
+  -- where fewer than could be taken were taken, the next one is there, and has what each has
   pub many-next : (P : A → Type 0) (k n : ℕ) → k < n → (l : List ℕ) (xs ys : List A) (t u : List ℕ) → many one k l ≡ parsed xs u → many one n l ≡ parsed ys t → Every P ys
       → (a : A) × (v : List ℕ) × (one u ≡ parsed a v) × (P a)
   unfolding many

@@ -3,7 +3,7 @@ use mathlib.Core.List.{List, [], _∷_}
 use mathlib.Core.Option.{Option, some, none}
 use Prim.Native.Nat.{ℕ, zero, suc}
 
--- what was read, and what is left behind it
+-- what was read, and what is left after it
 pub record Parsed (A : Type 0) : Type 0 where
   pub value : A
   pub rest : List ℕ

@@ -1,5 +1,5 @@
--- Signed numbers of 64 bits against the integers. The machine keeps bits, so a need speaks of toZ w64 (ofZ w64 x); the first
--- laws carry that to x once for every operation. The bounds are on `natAbs`, in ℕ.
+-- Signed numbers of 64 bits against the integers. The machine keeps bits, so a need speaks of toZ w64 (ofZ w64 x); the
+-- first laws carry that to x once for every operation. The bounds are on `natAbs`, in ℕ.
 use mathlib.Core.Path.{_≡_, refl, sym, ap, ap₂, _∙_, subst}
 use mathlib.Core.Bool.{Bool, true, false, cond}
 use Prim.Native.Nat.{ℕ, zero, suc, _+_, _-_, _*_, _/_, _%_, _≤_, _<_, _^_}

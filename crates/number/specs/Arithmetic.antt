@@ -32,8 +32,8 @@ remainderOf a b = cond (isZero b) (stop divisorZero) (ranged (remZ a b))
 unfoldable pub negationOf : ℤ → Answer
 negationOf a = ranged (negℤ a)
 
--- What quotient and remainder are, without naming an operation of the machine: proofs/Division.antt shows that `quotZ` and
--- `remZ` are these, and that no other pair is.
+-- What quotient and remainder are, without naming an operation of the machine: proofs/Division.antt shows that `quotZ`
+-- and `remZ` are these, and that no other pair is.
 abbrev pub negative : ℤ → Bool
 negative (pos n) = false
 negative (negsuc n) = true

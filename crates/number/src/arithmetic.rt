@@ -12,7 +12,7 @@ pub const ZERO: u64 = Edition::NUMBER;
 
 pub const TOP: u64 = 2 * Edition::NUMBER;
 
-// A number; or why there is none.
+// What an operator answers: a number, or why there is none.
 pub enum Computed {
     Number(u64),
     OutOfRange,
@@ -20,7 +20,7 @@ pub enum Computed {
     ZeroDivisor,
 }
 
-// A result, if it is in range.
+// Returns a result, if it is in range.
 fn checked(z: i64) -> Computed
     requires { ⌜ natAbs z ≤ 2 ^ 60 ⌝ }
     ensures { λ r. ⌜ Computes r (ranged z) ⌝ }
@@ -32,6 +32,7 @@ fn checked(z: i64) -> Computed
     }
 }
 
+// Returns a + b, or that it is out of range.
 pub fn add(a: u64, b: u64) -> Computed
     requires { ⌜ (a ≤ top) × (b ≤ top) ⌝ }
     ensures { λ r. ⌜ Computes r (sumOf (unbias a) (unbias b)) ⌝ }
@@ -41,6 +42,7 @@ pub fn add(a: u64, b: u64) -> Computed
     checked(signed::sum(x, y))
 }
 
+// Returns a - b, or that it is out of range.
 pub fn subtract(a: u64, b: u64) -> Computed
     requires { ⌜ (a ≤ top) × (b ≤ top) ⌝ }
     ensures { λ r. ⌜ Computes r (differenceOf (unbias a) (unbias b)) ⌝ }
@@ -50,6 +52,7 @@ pub fn subtract(a: u64, b: u64) -> Computed
     checked(signed::difference(x, y))
 }
 
+// Returns a * b, or that it is out of range.
 pub fn multiply(a: u64, b: u64) -> Computed
     requires { ⌜ (a ≤ top) × (b ≤ top) ⌝ }
     ensures { λ r. ⌜ Computes r (productOf (unbias a) (unbias b)) ⌝ }
@@ -64,6 +67,7 @@ pub fn multiply(a: u64, b: u64) -> Computed
     Computed::OutOfRange
 }
 
+// Returns a / b: 13 if b is 0, 12 if the quotient is not whole.
 pub fn divide(a: u64, b: u64) -> Computed
     requires { ⌜ (a ≤ top) × (b ≤ top) ⌝ }
     ensures { λ r. ⌜ Computes r (quotientOf (unbias a) (unbias b)) ⌝ }
@@ -80,6 +84,7 @@ pub fn divide(a: u64, b: u64) -> Computed
     Computed::NotWhole
 }
 
+// Returns a % b, which has the sign of a or is 0: 13 if b is 0.
 pub fn remainder(a: u64, b: u64) -> Computed
     requires { ⌜ (a ≤ top) × (b ≤ top) ⌝ }
     ensures { λ r. ⌜ Computes r (remainderOf (unbias a) (unbias b)) ⌝ }
@@ -92,6 +97,7 @@ pub fn remainder(a: u64, b: u64) -> Computed
     checked(signed::rest(x, y))
 }
 
+// Returns -a, which is always in range.
 pub fn negate(a: u64) -> Computed
     requires { ⌜ a ≤ top ⌝ }
     ensures { λ r. ⌜ Computes r (negationOf (unbias a)) ⌝ }

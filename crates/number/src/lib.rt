@@ -1,6 +1,7 @@
 // Whole numbers from -2^53 to 2^53, and their arithmetic.
 //
-// Between functions and crates a number is a u64, its distance from the least number: `unbias` of `specs/` says which number a u64 stands for.
+// Between functions and crates a number is a u64, its distance from the least number: `unbias` of `specs/` says which
+// number a u64 stands for.
 mod arithmetic;
 mod signed;
 

@@ -12,14 +12,14 @@ const MOST: i64 = Edition::NUMBER as i64;
 
 const LEAST: i64 = -MOST;
 
-// Whether a number is in range.
+// Tells whether a number is in range.
 pub fn in_range(z: i64) -> bool
     ensures { λ r. ⌜ r ≡ inRange z ⌝ }
 {
     LEAST <= z && z <= MOST
 }
 
-// A number's distance from the least number.
+// Returns a number's distance from the least number.
 pub fn biased(z: i64) -> u64
     requires { ⌜ InRange z ⌝ }
     ensures { λ r. ⌜ (unbias r ≡ z) × (r ≤ top) ⌝ }
@@ -27,7 +27,7 @@ pub fn biased(z: i64) -> u64
     (z + MOST) as u64
 }
 
-// The number at a distance from the least.
+// Returns the number at a distance from the least one.
 pub fn unbiased(w: u64) -> i64
     requires { ⌜ w ≤ top ⌝ }
     ensures { λ r. ⌜ (r ≡ unbias w) × InRange r ⌝ }
@@ -35,6 +35,7 @@ pub fn unbiased(w: u64) -> i64
     w as i64 - MOST
 }
 
+// Adds two numbers in range; the sum fits 64 bits.
 pub fn sum(a: i64, b: i64) -> i64
     requires { ⌜ InRange a × InRange b ⌝ }
     ensures { λ r. ⌜ r ≡ a +ℤ b ⌝ }
@@ -42,6 +43,7 @@ pub fn sum(a: i64, b: i64) -> i64
     a + b
 }
 
+// Subtracts two numbers in range; the difference fits 64 bits.
 pub fn difference(a: i64, b: i64) -> i64
     requires { ⌜ InRange a × InRange b ⌝ }
     ensures { λ r. ⌜ r ≡ a -ℤ b ⌝ }
@@ -49,6 +51,7 @@ pub fn difference(a: i64, b: i64) -> i64
     a - b
 }
 
+// Multiplies two numbers whose product is in range.
 pub fn product(a: i64, b: i64) -> i64
     requires { ⌜ natAbs a * natAbs b ≤ numberBound ⌝ }
     ensures { λ r. ⌜ r ≡ a *ℤ b ⌝ }
@@ -56,7 +59,7 @@ pub fn product(a: i64, b: i64) -> i64
     a * b
 }
 
-// The quotient, rounded toward 0.
+// Returns the quotient, rounded toward 0.
 pub fn quotient(a: i64, b: i64) -> i64
     requires { ⌜ InRange a × (b ≡ pos 0 → ⊥) ⌝ }
     ensures { λ r. ⌜ r ≡ quotZ a b ⌝ }
@@ -64,7 +67,7 @@ pub fn quotient(a: i64, b: i64) -> i64
     a / b
 }
 
-// The remainder of that quotient.
+// Returns the remainder of that quotient.
 pub fn rest(a: i64, b: i64) -> i64
     requires { ⌜ InRange a × (b ≡ pos 0 → ⊥) ⌝ }
     ensures { λ r. ⌜ r ≡ remZ a b ⌝ }
@@ -72,6 +75,7 @@ pub fn rest(a: i64, b: i64) -> i64
     a % b
 }
 
+// Returns the number with the other sign.
 pub fn negated(a: i64) -> i64
     requires { ⌜ InRange a ⌝ }
     ensures { λ r. ⌜ r ≡ negℤ a ⌝ }
@@ -79,7 +83,7 @@ pub fn negated(a: i64) -> i64
     -a
 }
 
-// A number without its sign.
+// Returns a number without its sign.
 pub fn magnitude(a: i64) -> u64
     requires { ⌜ InRange a ⌝ }
     ensures { λ r. ⌜ r ≡ natAbs a ⌝ }
@@ -87,7 +91,7 @@ pub fn magnitude(a: i64) -> u64
     if a < 0 { (-a) as u64 } else { a as u64 }
 }
 
-// Whether a product is in range, by its factors' magnitudes: the product itself may pass 64 bits.
+// Tells whether a product is in range, by its factors' magnitudes: the product itself may pass 64 bits.
 pub fn product_fits(p: u64, q: u64) -> bool
     ensures { λ r. ⌜ r ≡ leb (p * q) numberBound ⌝ }
 {

@@ -1,4 +1,5 @@
--- Internal: cited by private contracts only. The table of codes as numbers: what the code of this crate has, by the table of `image_format`.
+-- Internal: cited by private contracts only. The table of codes as numbers: what the code of this crate has, by the
+-- table of `image_format`.
 use mathlib.Core.Bool.{Bool, true, false}
 use mathlib.Core.List.{List, [], _∷_}
 use mathlib.Core.Option.{Option, some, none}

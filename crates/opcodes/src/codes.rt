@@ -55,9 +55,9 @@ pub const ASSIGNABLE: u64 = 6;
 
 const CODES: u64 = 32;
 
-// A row for each code, 16 bits each, the low ones first: what the code takes, 4 times what it leaves, and 8 and 64 times what its
-// first and its second number name. A print takes as many as it names. An array of 32 numbers would be written to the stack at each
-// look.
+// A row for each code, 16 bits each, the low ones first: what the code takes, 4 times what it leaves, and 8 and 64
+// times what its first and its second number name. A print takes as many as it names. An array of 32 numbers would be
+// written to the stack at each look.
 const ROWS: [u64; 8] = [
     0x00350014000c0000,
     0x0006000100060005,
@@ -69,21 +69,21 @@ const ROWS: [u64; 8] = [
     0x0000000000280021,
 ];
 
-// Whether there is an edition.
+// Tells whether there is an edition of this number.
 pub fn known_edition(edition: u64) -> bool
     ensures { λ r. ⌜ r ≡ known edition ⌝ }
 {
     edition == Edition::FIRST
 }
 
-// Whether an edition has a code.
+// Tells whether an edition has a code.
 pub fn known_code(edition: u64, code: u64) -> bool
     ensures { λ r. ⌜ r ≡ isKnown (codeOf edition code) ⌝ }
 {
     code < CODES
 }
 
-// A code's row, 0 where there is no such code.
+// Returns a code's row, 0 where there is no such code.
 pub fn row(edition: u64, code: u64) -> u64
     ensures { λ r. ⌜ r ≡ rowIn (codeOf edition code) ⌝ }
 {
@@ -93,7 +93,7 @@ pub fn row(edition: u64, code: u64) -> u64
     (ROWS[(code / 4) as usize] >> (16 * (code % 4))) % 65536
 }
 
-// How many numbers a code names, 0 where there is no such code.
+// Returns how many numbers a code names, 0 where there is no such code.
 pub fn operands(edition: u64, code: u64) -> u64
     ensures { λ r. ⌜ r ≡ operandsIn (codeOf edition code) ⌝ }
 {

@@ -15,14 +15,14 @@ pub const RECORD_COUNT: u64 = 2;
 // For each, whether it can be assigned.
 const ASSIGNABLE: [bool; SPECIALS] = [false, false, true, true, true, false, false];
 
-// How many there are; the users' variables come after them.
+// Returns how many special variables there are; the users' variables come after them.
 pub fn specials(edition: u64) -> u64
     ensures { λ r. ⌜ r ≡ specialCount edition ⌝ }
 {
     SPECIALS as u64
 }
 
-// Whether a variable can be assigned.
+// Tells whether a variable can be assigned.
 pub fn assignable(edition: u64, v: u64) -> bool
     ensures { λ r. ⌜ r ≡ assignable edition v ⌝ }
 {

@@ -46,7 +46,7 @@ module _ (D : ℕ → Option ℕ) where
   abbrev pub FlowsAt : ℕ → Emitted → Type 0
   FlowsAt n i = (taken i ≤ i .depth) × (Leads (i .depth - taken i + left i) (leadsTo (i .operation) n (itself (i .operand))))
 
-  -- the code stands at instruction n
+  -- the code is at instruction n
   abbrev pub Stands : ℕ → List Emitted → Type 0
   Stands n [] = Unit
   Stands n (i ∷ l) = (D n ≡ some (i .depth)) × (Stands (suc n) l)
@@ -116,7 +116,7 @@ size-length (assign-field a b) n d =
     omega (arith, length-append (compile a n d) (compile b (n + size a) (d + 1) ++ act set-field (d + 2)), length-append (compile b (n + size a) (d + 1)) (act set-field (d + 2)), size-length a n d, size-length b (n + size a) (d + 1))
 
 module _ (D : ℕ → Option ℕ) where
-  -- the first instruction stands at the depth that the code is made for
+  -- the first instruction is at the depth that the code is made for
   pub first : (e : Expression) (n d : ℕ) → Stands D n (compile e n d) → D n ≡ some d
   unfolding compile
   first (constant-of c) n d h = h .0
@@ -139,7 +139,7 @@ module _ (D : ℕ → Option ℕ) where
   first (assign v e) n d h = first e n d (stands-left D (compile e n d) _ n h)
   first (assign-field a b) n d h = first a n d (stands-left D (compile a n d) _ n h)
 
-  -- what is to be shown of an expression: its code flows, if the instruction after it stands at a depth one more
+  -- what is to be shown of an expression: its code flows, if the instruction after it is at a depth one more
   abbrev Fine : Expression → ℕ → ℕ → Type 0
   Fine e n d = Stands D n (compile e n d) → D (n + size e) ≡ some (d + 1) → Flows D n (compile e n d)
 

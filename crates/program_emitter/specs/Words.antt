@@ -1,5 +1,6 @@
--- Internal: cited by private contracts only. Document 01, "The image": an instruction is "code, depth before it, and the operand where one is named". Before names,
--- constants and EREs have numbers it is one word; this is the word, and what it says.
+-- Internal: cited by private contracts only. Document 01, "The image": an instruction is "code, depth before it, and
+-- the operand where one is named". Before names, constants and EREs have numbers it is one word; this is the word, and
+-- what it says.
 use mathlib.Core.List.{List, [], _∷_}
 use Prim.Native.Nat.{ℕ, suc, _+_, _*_, _/_, _%_, _<_}
 use lib.ListN.{set}
@@ -34,8 +35,8 @@ secondIn w = w / 17592186044416
 abbrev pub word : ℕ → ℕ → ℕ → ℕ
 word op depth operand = packed op depth operand 0
 
--- ---- operands by place: of a constant, a name or an ERE, where it starts in the text; "constant 0 (the number, here and
--- below)" and constant 1 are no part of the text, so their operands are larger than any place
+-- ---- operands by place: of a constant, a name or an ERE, where it starts in the text; "constant 0 (the number, here
+-- and below)" and constant 1 are no part of the text, so their operands are larger than any place
 
 abbrev pub implied : ℕ → ℕ
 implied v = filterText + v

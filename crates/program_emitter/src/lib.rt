@@ -1,5 +1,5 @@
-// Writes instructions before their names, constants and EREs have numbers: one word each, stored where there is room. Counting goes
-// on past the room, so that a size that is passed shows in the count.
+// Writes instructions before their names, constants and EREs have numbers: one word each, stored where there is room.
+// Counting goes on past the room, so that a size that is passed shows in the count.
 mod runs;
 mod words;
 

@@ -51,28 +51,28 @@ pub fn instruction(op: u64, depth: u64, first: u64, second: u64) -> u64
     op + 256 * depth + 16777216 * first + 17592186044416 * second
 }
 
-// Gives the code of a packed instruction.
+// Returns the code of a packed instruction.
 pub fn op_in(word: u64) -> u64
     ensures { λ r. ⌜ r ≡ opIn word ⌝ }
 {
     word % 256
 }
 
-// Gives the depth before a packed instruction.
+// Returns the depth before a packed instruction.
 pub fn depth_in(word: u64) -> u64
     ensures { λ r. ⌜ r ≡ depthIn word ⌝ }
 {
     word / 256 % 65536
 }
 
-// Gives the first operand of a packed instruction.
+// Returns the first operand of a packed instruction.
 pub fn first_in(word: u64) -> u64
     ensures { λ r. ⌜ r ≡ firstIn word ⌝ }
 {
     word / 16777216 % 1048576
 }
 
-// Gives the second operand of a packed instruction.
+// Returns the second operand of a packed instruction.
 pub fn second_in(word: u64) -> u64
     ensures { λ r. ⌜ r ≡ secondIn word ⌝ }
 {

@@ -1,4 +1,4 @@
--- The token at a place: what it may be, and the constants and names that stand there.
+-- The token at a place: what it may be, and the constants and names that are there.
 use mathlib.Core.Path.{_≡_, refl, sym, ap, subst, _∙_}
 use mathlib.Core.Bool.{Bool, true, false, not, _||_}
 use mathlib.Core.List.{List, [], _∷_}

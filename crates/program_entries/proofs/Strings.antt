@@ -1,4 +1,4 @@
--- A STRING's value is what stands between its quotes, its escapes taken.
+-- A STRING's value is what is between its quotes, its escapes taken.
 use mathlib.Core.Path.{_≡_, refl, ap, _∙_}
 use mathlib.Core.Bool.{Bool, true, false, cond}
 use mathlib.Core.List.{List, [], _∷_}

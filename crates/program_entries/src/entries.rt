@@ -34,7 +34,7 @@ pub const VARIABLES: u64 = 1;
 
 pub const ERES: u64 = 2;
 
-// Whether an instruction with this code names an entry of a table.
+// Tells whether an instruction with this code names an entry of a table.
 pub fn is_named(what: u64, op: u64) -> bool
     ensures { λ r. ⌜ r ≡ isNamed what op ⌝ }
 {
@@ -48,7 +48,7 @@ pub fn is_named(what: u64, op: u64) -> bool
     }
 }
 
-// Gives the text of a STRING from the place after its first quote on; it is empty where no STRING is closed.
+// Returns the text of a STRING from the place after its first quote on; it is empty where no STRING is closed.
 fn string_entry(s: &[u8], at: usize) -> Entry
     requires { ⌜ (0 < at) × (at ≤ filterText) ⌝ }
     ensures { λ r. ⌜ Stands (now (s .entry)) true (text (stringFrom (now (s .entry)) at)) r ⌝ }
@@ -65,7 +65,7 @@ fn string_entry(s: &[u8], at: usize) -> Entry
     }
 }
 
-// Gives the constant of an operand: a number that the text doesn't have, or the token at a place.
+// Returns the constant of an operand: a number that the text doesn't have, or the token at a place.
 fn constant_at(s: &[u8], x: usize, edition: Edition) -> Entry
     requires { ⌜ x < operandBound ⌝ }
     ensures { λ r. ⌜ Stands (now (s .entry)) true (constantAt (edition .number) (now (s .entry)) x) r ⌝ }
@@ -87,7 +87,7 @@ fn constant_at(s: &[u8], x: usize, edition: Edition) -> Entry
     string_entry(s, x + 1)
 }
 
-// Gives the number of the special variable whose name has n bytes from place a on.
+// Returns the number of the special variable whose name has n bytes from place a on.
 fn special(s: &[u8], a: usize, n: usize) -> usize
     requires { ⌜ IsSpecial (now s) a n ⌝ }
     ensures { λ r. ⌜ r ≡ specialNumber (now (s .entry)) a n ⌝ }
@@ -114,7 +114,7 @@ fn special(s: &[u8], a: usize, n: usize) -> usize
     }
 }
 
-// Gives the entry of a name: a special variable's number, or the text of a user's name.
+// Returns the entry of a name: a special variable's number, or the text of a user's name.
 pub fn name_entry(s: &[u8], t: Token) -> Entry
     requires { ⌜ WordToken (now s) (decoded t) × (length (now s) ≤ filterText) ⌝ }
     ensures { λ r. ⌜ Stands (now (s .entry)) false (variableOf (spelling (now (s .entry)) (decoded t))) r ⌝ }
@@ -131,7 +131,7 @@ pub fn name_entry(s: &[u8], t: Token) -> Entry
     }
 }
 
-// Gives the entry of the name at a place; past the text's end it is empty.
+// Returns the entry of the name at a place; past the text's end it is empty.
 fn variable_at(s: &[u8], x: usize, edition: Edition) -> Entry
     requires { ⌜ (length (now s) ≤ filterText) × (x < operandBound) × (firstEdition ≤ edition .number) ⌝ }
     ensures { λ r. ⌜ Stands (now (s .entry)) false (variableOf (nameAt (edition .number) (now (s .entry)) x)) r ⌝ }
@@ -148,7 +148,7 @@ fn variable_at(s: &[u8], x: usize, edition: Edition) -> Entry
 // `/=`, which starts an ERE as `/` does.
 const DIV_ASSIGN: u64 = 70;
 
-// Gives a token where a `/` starts an ERE: a `/` or `/=` up to the slash that closes it. The ERE was judged before.
+// Returns a token where a `/` starts an ERE: a `/` or `/=` up to the slash that closes it. The ERE was judged before.
 pub fn as_ere(s: &[u8], t: Token) -> Token
     requires { ⌜ (t .kind < kindCount) × (t .start < operandBound) ⌝ }
     ensures { λ r. ⌜ r ≡ coded (spanned (now (s .entry)) (decoded t)) ⌝ }
@@ -166,7 +166,7 @@ pub fn as_ere(s: &[u8], t: Token) -> Token
     }
 }
 
-// Gives the entry of the ERE whose first slash is at a place.
+// Returns the entry of the ERE whose first slash is at a place.
 fn ere_at(s: &[u8], x: usize, edition: Edition) -> Entry
     requires { ⌜ x < operandBound ⌝ }
     ensures { λ r. ⌜ Stands (now (s .entry)) false (text (ereAt (edition .number) (now (s .entry)) x)) r ⌝ }
@@ -184,7 +184,7 @@ fn ere_at(s: &[u8], x: usize, edition: Edition) -> Entry
     }
 }
 
-// Gives the entry that an operand names.
+// Returns the entry that an operand names.
 pub fn entry_at(s: &[u8], x: usize, what: u64, edition: Edition) -> Entry
     requires { ⌜ (length (now s) ≤ filterText) × (x < operandBound) × (firstEdition ≤ edition .number) ⌝ }
     ensures { λ r. ⌜ Stands (now (s .entry)) (eqb what 0) (named (edition .number) (now (s .entry)) what x) r ⌝ }

@@ -19,7 +19,7 @@ use program_parser::kinds;
 // How many special variables there are.
 pub const SPECIALS: usize = 7;
 
-// Gives how many parentheses of a condition are open after a token, and 1 more: 1 is after `if` or `while`; outside
+// Returns how many parentheses of a condition are open after a token, and 1 more: 1 is after `if` or `while`; outside
 // conditions it is 0.
 fn open_after(kind: u64, parens: u64) -> u64
     requires { ⌜ (kind < kindCount) × (parens ≤ filterText) ⌝ }
@@ -44,7 +44,7 @@ fn open_after(kind: u64, parens: u64) -> u64
     }
 }
 
-// Whether a `/` after a token starts an ERE: not after an operand, but after the `)` of a condition.
+// Tells whether a `/` after a token starts an ERE: not after an operand, but after the `)` of a condition.
 fn ere_follows(kind: u64, parens: u64) -> bool
     requires { ⌜ kind < kindCount ⌝ }
     ensures { λ r. ⌜ r ≡ ereFollows (kindOf kind) parens ⌝ }
@@ -61,7 +61,7 @@ fn ere_follows(kind: u64, parens: u64) -> bool
     }
 }
 
-// Gives the token after t.
+// Returns the token after t.
 fn next_token(s: &[u8], t: Token, parens: u64, edition: Edition) -> Token
     requires { ⌜ (t .kind < kindCount) × Walked (edition .number) (now s) (decoded t)
         × (length (now s) ≤ filterText) ⌝ }
@@ -87,8 +87,8 @@ fn enter_specials(table: &mut [u64])
     }
 }
 
-// Enters a token's name, if it is a user's, into a table of n, if it has room; gives how many there are then, at most 1
-// more than there is room for.
+// Enters a token's name, if it is a user's, into a table of n, if it has room; returns how many there are then, at most
+// 1 more than there is room for.
 fn enter_name(s: &[u8], table: &mut [u64], n: usize, t: Token) -> usize
     requires { ⌜ (2 * n ≤ length (now table) → AllInside (now s) (now table) n)
         × (is user-name (decoded t) ≡ true → WordToken (now s) (decoded t)) × (length (now s) ≤ filterText) ⌝ }
@@ -104,7 +104,7 @@ fn enter_name(s: &[u8], table: &mut [u64], n: usize, t: Token) -> usize
     n + 1
 }
 
-// Stores the variables, the special ones first; gives how many there are, or 1 more than there is room for.
+// Stores the variables, the special ones first; returns how many there are, or 1 more than there is room for.
 pub fn enter_variables(s: &[u8], table: &mut [u64], edition: Edition) -> usize
     requires { ⌜ (length (now s) ≤ filterText) × (14 ≤ length (now table)) × (firstEdition ≤ edition .number) ⌝ }
     ensures { λ r. ⌜ Held (now (s .entry)) false (now (table .exit)) r

@@ -1,4 +1,11 @@
-// The reader of expressions: it calls itself for each inner level, and the levels left fall.
+// The reader of expressions: recursive descent by tiers of operators; it calls itself for each inner level, and the
+// levels left fall.
+//
+// Every function here has the same contract, `Reading` of program_parser/specs/Reading.antt. Of the definition's tree,
+// read from the same token: the section has from instruction n on the tree's code at this depth, as `compile` of
+// program_code gives it, as far as there is room, and is as it was elsewhere; the answer is the token after the tree,
+// the count of instructions after it, and what the tree is. Where the definition refuses, the answer is its outcome and
+// place. No text has more than 8 instructions for each of its bytes.
 ghost use mathlib.Core.Path.{_≡_};
 ghost use Prim.Native.Nat.{_+_, _-_, _*_, _/_, _≤_, _<_};
 ghost use Rattle.program_tree.specs.Functions.{functionOf};
@@ -79,7 +86,7 @@ pub struct PendingCall {
     pub opener: Token,
 }
 
-// Gives what is left of a call after an argument.
+// Returns what is left of a call after an argument.
 fn after_argument(f: PendingCall, operand: u64) -> PendingCall
     ensures { λ r. ⌜ r ≡ pending (f .op) (f .shapes / 4) operand (f .opener) ⌝ }
 {

@@ -16,7 +16,7 @@ use program_parser::newlines;
 use program_parser::operators;
 use program_parser::read;
 
-// Gives the first token after t and newlines.
+// Returns the first token after t and newlines.
 fn line_after(s: &[u8], t: Token, edition: Edition) -> Token
     requires { ⌜ Good (edition .number) (now s) 0 (decoded t) × (t .kind < kindCount) ⌝ }
     ensures { λ r. ⌜ r ≡ coded (pastNewlines (edition .number) (now (s .entry))
@@ -25,7 +25,7 @@ fn line_after(s: &[u8], t: Token, edition: Edition) -> Token
     newlines::past_newlines(s, program_lexer::token_after(s, t, edition), edition)
 }
 
-// Gives the token where an argument starts: newlines may follow the `,` before it, and not the `(`.
+// Returns the token where an argument starts: newlines may follow the `,` before it, and not the `(`.
 pub fn argument_after(s: &[u8], t: Token, first: bool, edition: Edition) -> Token
     requires { ⌜ Good (edition .number) (now s) 0 (decoded t) × (t .kind < kindCount) ⌝ }
     ensures { λ r. ⌜ r ≡ coded (cond first (operandAfter (edition .number) (now (s .entry)) (decoded t))
@@ -38,7 +38,7 @@ pub fn argument_after(s: &[u8], t: Token, first: bool, edition: Edition) -> Toke
     line_after(s, t, edition)
 }
 
-// Gives the token where the right operand starts.
+// Returns the token where the right operand starts.
 pub fn right_of(s: &[u8], t: Token, tier: u64, edition: Edition) -> Token
     requires { ⌜ Good (edition .number) (now s) 0 (decoded t) × (t .kind < kindCount) ⌝ }
     ensures { λ r. ⌜ r ≡ coded (rightOf (edition .number) (now (s .entry)) tier (decoded t)) ⌝ }

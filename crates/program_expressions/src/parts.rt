@@ -48,7 +48,7 @@ pub fn suffix(section: &mut [u64], r: Read, op: u64, depth: u64, operand: u64, f
     read::ok(r.token, count, form)
 }
 
-// Gives what a name is: one that can be assigned, or not.
+// Returns what a name is: one that can be assigned, or not.
 pub fn name_form(kind: u64) -> u64
     ensures { λ r. ⌜ r ≡ cond (eqb kind 9) 0 1 ⌝ }
 {

@@ -26,7 +26,7 @@ pub struct Counts {
     pub eres: usize,
 }
 
-// Whether the counts of a program are within their sizes.
+// Tells whether the counts of a program are within their sizes.
 pub fn counts_fit(counts: Counts, edition: Edition) -> bool
     ensures { λ r. ⌜ r
         ≡ countsFit (edition .number) (counts .variables) (counts .constants) (counts .eres) ⌝ }
@@ -36,7 +36,7 @@ pub fn counts_fit(counts: Counts, edition: Edition) -> bool
         & ((counts.constants <= Edition::CONSTANTS) & (counts.eres <= Edition::ERES))
 }
 
-// Whether the depths of all sections are within their size.
+// Tells whether the depths of all sections are within their size.
 pub fn sections_fit(begin: &[u64], main: &[u64], end: &[u64], sections: Sections) -> bool
     requires { ⌜ (sections .begin ≤ length (now begin)) × (sections .main ≤ length (now main))
         × (sections .end ≤ length (now end)) ⌝ }
@@ -47,7 +47,7 @@ pub fn sections_fit(begin: &[u64], main: &[u64], end: &[u64], sections: Sections
         & (sizes::depths_fit(main, sections.main) & sizes::depths_fit(end, sections.end))
 }
 
-// Writes the whole image, as far as the room goes; gives its length.
+// Writes the whole image, as far as the room goes; returns its length.
 pub fn put_image(
     s: &[u8],
     begin: &[u64],

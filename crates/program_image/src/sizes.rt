@@ -10,7 +10,7 @@ ghost use Rattle.program_image.specs.Written.{instructionsOf};
 ghost use Rattle.program_image.specs.Fitting.{depthsFit};
 use edition::Edition;
 
-// Whether no instruction of a section has too many operands before it.
+// Tells whether no instruction of a section has too many operands before it.
 pub fn depths_fit(section: &[u64], count: usize) -> bool
     requires { ⌜ count ≤ length (now section) ⌝ }
     ensures { λ r. ⌜ r ≡ depthsFit (instructionsOf (now (section .entry)) count) ⌝ }
@@ -25,7 +25,7 @@ pub fn depths_fit(section: &[u64], count: usize) -> bool
     true
 }
 
-// Whether a constant is a number, or a text that is not too long.
+// Tells whether a constant is a number, or a text that is not too long.
 fn constant_fits(s: &[u8], table: &[u64], k: usize) -> bool
     requires { ⌜ (2 * k + 1 < length (now table)) × InsideText (now s) (entryIn (now table) k) ⌝ }
     ensures { λ r. ⌜ r ≡ smallConstant (meant (now (s .entry)) true (entryIn (now (table .entry)) k)) ⌝ }
@@ -37,7 +37,7 @@ fn constant_fits(s: &[u8], table: &[u64], k: usize) -> bool
     program_tables::value_length(s, e.value, e.stop, true) <= Edition::TEXT
 }
 
-// Whether no constant of the first n is too long.
+// Tells whether no constant of the first n is too long.
 pub fn constants_fit(s: &[u8], table: &[u64], n: usize) -> bool
     requires { ⌜ (2 * n ≤ length (now table)) × AllInside (now s) (now table) n ⌝ }
     ensures { λ r. ⌜ r ≡ all smallConstant (entriesFrom (now (s .entry)) true (now (table .entry)) 0 n) ⌝ }

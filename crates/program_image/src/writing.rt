@@ -73,7 +73,7 @@ pub fn put_entries(
     at
 }
 
-// Whether an instruction with this code names a number.
+// Tells whether an instruction with this code names a number.
 fn has_operand(op: u64) -> bool
     ensures { λ r. ⌜ r ≡ hasOperand op ⌝ }
 {

@@ -1,4 +1,5 @@
--- Internal: cited by private contracts only. Spellings as numbers, and the table of words and operators as rows of numbers.
+-- Internal: cited by private contracts only. Spellings as numbers, and the table of words and operators as rows of
+-- numbers.
 use mathlib.Core.Bool.{Bool, cond, _&&_}
 use mathlib.Core.List.{List, [], _∷_}
 use Prim.Native.Nat.{ℕ, _+_, _*_, _/_, _%_}

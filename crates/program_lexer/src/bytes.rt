@@ -6,7 +6,7 @@ ghost use lib.ListN.{getD, drop};
 ghost use Rattle.lists.specs.Elements.{leading};
 ghost use Rattle.program_tokens.specs.Tokens.{isLetter, isWordByte, skipped};
 
-// The byte at a place, 0 past the text's end.
+// Returns the byte at a place, 0 past the text's end.
 pub fn byte_at(s: &[u8], i: usize) -> u8
     ensures { λ r. ⌜ r ≡ getD (now (s .entry)) i 0 ⌝ }
 {
@@ -16,21 +16,21 @@ pub fn byte_at(s: &[u8], i: usize) -> u8
     0
 }
 
-// Whether a word can begin with a byte.
+// Tells whether a word can begin with a byte.
 pub fn is_letter(b: u8) -> bool
     ensures { λ r. ⌜ r ≡ isLetter b ⌝ }
 {
     ((97 <= b) & (b <= 122)) | (((65 <= b) & (b <= 90)) | (b == b'_'))
 }
 
-// Whether a word can go on with a byte.
+// Tells whether a word can go on with a byte.
 pub fn is_word_byte(b: u8) -> bool
     ensures { λ r. ⌜ r ≡ isWordByte b ⌝ }
 {
     is_letter(b) | numeral::is_digit(b)
 }
 
-// The place of the next token: after blanks and comments.
+// Returns the place of the next token: after blanks and comments.
 pub fn skip(s: &[u8], at: usize) -> usize
     ensures { λ r. ⌜ r ≡ at + skipped false (drop at (now (s .entry))) ⌝ }
 {
@@ -50,7 +50,7 @@ pub fn skip(s: &[u8], at: usize) -> usize
     i
 }
 
-// How many bytes the word at a place has.
+// Returns how many bytes the word at a place has.
 pub fn word_length(s: &[u8], at: usize) -> usize
     ensures { λ r. ⌜ r ≡ leading isWordByte (drop at (now (s .entry))) ⌝ }
 {

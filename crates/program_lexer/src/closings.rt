@@ -23,7 +23,7 @@ const QUOTE: u64 = 2;
 
 const REFUSED: u64 = 3;
 
-// Whether a backslash and a byte are an escape of strings.
+// Tells whether a backslash and a byte are an escape of strings.
 fn is_escape(b: u8) -> bool
     ensures { λ r. ⌜ r ≡ isSome (lookup stringEscapes b) ⌝ }
 {
@@ -33,7 +33,7 @@ fn is_escape(b: u8) -> bool
     true
 }
 
-// What a byte of a STRING is, after a backslash or not.
+// Tells what a byte of a STRING is, after a backslash or not.
 fn string_turn(escaped: bool, b: u8) -> u64
     ensures { λ r. ⌜ r ≡ stringTurn escaped b ⌝ }
 {
@@ -51,7 +51,7 @@ fn string_turn(escaped: bool, b: u8) -> u64
     }
 }
 
-// The place after the quote that ends a STRING, from the place after its first quote on.
+// Returns the place after the quote that ends a STRING, from the place after its first quote on.
 pub fn string_close(s: &[u8], at: usize) -> Close
     ensures { λ r. ⌜ r ≡ stringClose (now (s .entry)) (readString false (drop at (now (s .entry)))) ⌝ }
 {
@@ -71,7 +71,7 @@ pub fn string_close(s: &[u8], at: usize) -> Close
     Close::Nothing
 }
 
-// The place of the slash that ends an ERE, from the place after its first slash on.
+// Returns the place of the slash that ends an ERE, from the place after its first slash on.
 pub fn ere_close(s: &[u8], at: usize) -> Close
     ensures { λ r. ⌜ r ≡ ereClose at (ereLength false (drop at (now (s .entry)))) ⌝ }
 {

@@ -10,8 +10,8 @@ ghost use Rattle.program_lexer.specs.Spellings.{pack, rankIn, twoBytes};
 use crate::kinds;
 use edition::Edition;
 
-// A row is two words: the packed spelling, its first byte lowest; and the number of its kind, with 256 times the first edition
-// that has it.
+// A row is two words: the packed spelling, its first byte lowest; and the number of its kind, with 256 times the first
+// edition that has it.
 const WORDS: [u64; 110] = [
     0x4e49474542,
     0x10b, // BEGIN
@@ -206,7 +206,7 @@ const OPERATORS: [u64; 78] = [
     0x13b, // =
 ];
 
-// The bytes of a spelling in one word, the first byte lowest.
+// Packs the bytes of a spelling into one word, the first byte lowest.
 fn packed(s: &[u8], at: usize, n: usize) -> u64
     requires { ⌜ (n ≤ 8) × (at + n ≤ length (now s)) ⌝ }
     ensures { λ r. ⌜ r ≡ pack (take n (drop at (now (s .entry)))) ⌝ }
@@ -220,7 +220,7 @@ fn packed(s: &[u8], at: usize, n: usize) -> u64
     w
 }
 
-// The number of the kind that a table gives a packed spelling in an edition, or another number where it has none.
+// Returns the number of the kind that a table gives a packed spelling in an edition, or `other` where it has none.
 fn kind_in(table: &[u64], spelling: u64, edition: Edition, other: u64) -> u64
     ensures { λ r. ⌜ r ≡ rankIn (edition .number) other spelling (now (table .entry)) ⌝ }
 {
@@ -235,7 +235,7 @@ fn kind_in(table: &[u64], spelling: u64, edition: Edition, other: u64) -> u64
     other
 }
 
-// The number of a word's kind.
+// Returns the number of a word's kind.
 pub fn word_kind(s: &[u8], at: usize, n: usize, edition: Edition) -> u64
     requires { ⌜ (at ≤ length (now s)) × (n ≡ leading isWordByte (drop at (now s))) ⌝ }
     ensures { λ r. ⌜ r ≡ rank (wordKind (edition .number) (take n (drop at (now (s .entry))))) ⌝ }
@@ -247,7 +247,8 @@ pub fn word_kind(s: &[u8], at: usize, n: usize, edition: Edition) -> u64
     kind_in(&table, packed(s, at, n), edition, kinds::USER_NAME)
 }
 
-// The number of the kind of an operator of one byte, or of two; the second byte is 0 where there is one byte only.
+// Returns the number of the kind of an operator of one byte, or of two; the second byte is 0 where there is one byte
+// only.
 pub fn operator_kind(first: u8, second: u8, edition: Edition) -> u64
     ensures { λ r. ⌜ r ≡ rank (operatorKind (edition .number) (twoBytes first second)) ⌝ }
 {

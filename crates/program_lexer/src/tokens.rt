@@ -31,7 +31,7 @@ pub struct Token {
     pub stop: usize,
 }
 
-// A NUMBER, from its first digit on.
+// Reads a NUMBER, from its first digit on.
 fn number(s: &[u8], a: usize) -> Token
     requires { ⌜ a ≤ length (now s) ⌝ }
     ensures { λ r. ⌜ r ≡ coded (numberToken a (drop a (now (s .entry)))) ⌝ }
@@ -53,7 +53,7 @@ fn number(s: &[u8], a: usize) -> Token
     }
 }
 
-// A word, from its first letter on.
+// Reads a word, from its first letter on.
 fn word(s: &[u8], a: usize, edition: Edition) -> Token
     requires { ⌜ a ≤ length (now s) ⌝ }
     ensures { λ r. ⌜ r ≡ coded (wordToken (edition .number) a (drop a (now (s .entry)))) ⌝ }
@@ -66,7 +66,7 @@ fn word(s: &[u8], a: usize, edition: Edition) -> Token
     }
 }
 
-// A STRING, from its first quote on.
+// Reads a STRING, from its first quote on.
 fn string(s: &[u8], a: usize) -> Token
     requires { ⌜ a < length (now s) ⌝ }
     ensures { λ r. ⌜ r ≡ coded (stringToken a (drop (suc a) (now (s .entry))) (readString false (drop (suc a) (now (s .entry))))) ⌝ }
@@ -85,7 +85,7 @@ fn string(s: &[u8], a: usize) -> Token
     }
 }
 
-// An operator, the longest that fits, from its first byte on.
+// Reads an operator, the longest that fits, from its first byte on.
 fn operator(s: &[u8], a: usize, edition: Edition) -> Token
     requires { ⌜ a < length (now s) ⌝ }
     ensures { λ r. ⌜ r ≡ coded (operatorToken (edition .number) a (drop a (now (s .entry)))) ⌝ }
@@ -107,7 +107,7 @@ fn operator(s: &[u8], a: usize, edition: Edition) -> Token
     }
 }
 
-// The token that starts at a place.
+// Returns the token that starts at a place.
 pub fn token_of(s: &[u8], a: usize, edition: Edition) -> Token
     ensures { λ r. ⌜ r ≡ coded (tokenOf (edition .number) a (drop a (now (s .entry)))) ⌝ }
 {
@@ -138,14 +138,14 @@ pub fn token_of(s: &[u8], a: usize, edition: Edition) -> Token
     operator(s, a, edition)
 }
 
-// The first token at or after a place.
+// Returns the first token at or after a place.
 pub fn token_at(s: &[u8], p: usize, edition: Edition) -> Token
     ensures { λ r. ⌜ r ≡ coded (tokenAt (edition .number) (now (s .entry)) p) ⌝ }
 {
     token_of(s, bytes::skip(s, p), edition)
 }
 
-// The token after a token.
+// Returns the token after a token.
 pub fn token_after(s: &[u8], t: Token, edition: Edition) -> Token
     ensures { λ r. ⌜ r ≡ coded (tokenAfter (edition .number) (now (s .entry)) (decoded t)) ⌝ }
 {
@@ -160,7 +160,7 @@ pub fn token_after(s: &[u8], t: Token, edition: Edition) -> Token
     token_at(s, stop, edition)
 }
 
-// An ERE, from its first slash on.
+// Reads an ERE, from its first slash on.
 fn ere_at(s: &[u8], a: usize, edition: Edition) -> Token
     requires { ⌜ a ≤ length (now s) ⌝ }
     ensures { λ r. ⌜ r ≡ coded (ereToken (edition .number) a (drop (suc a) (now (s .entry))) (ereLength false (drop (suc a) (now (s .entry))))) ⌝ }
@@ -187,7 +187,7 @@ fn ere_at(s: &[u8], a: usize, edition: Edition) -> Token
     }
 }
 
-// A token where the grammar allows an ERE: a `/` or `/=` read again from its slash on.
+// Returns the token where the grammar allows an ERE: a `/` or `/=` is read again from its slash on.
 pub fn as_operand(s: &[u8], t: Token, edition: Edition) -> Token
     requires { ⌜ (t .kind < kindCount) × (t .start ≤ length (now s)) ⌝ }
     ensures { λ r. ⌜ r ≡ coded (asOperand (edition .number) (now (s .entry)) (decoded t)) ⌝ }

@@ -277,7 +277,7 @@ module _ (edition : ℕ) (s : List ℕ) where
           (walks-join t (spanned s u) (spanned s v) m m m [] [] (open-token t m (both .0)) p)
       go false e p = here _ m
 
-  -- "newlines may follow": to the first token after them, where an operand may stand
+  -- "newlines may follow": to the first token after them, where an operand may be
   pub newlines-walk : (t : Token) (m : ℕ)
       → Walks (spanned s t) m [] (spanned s (past edition s (newline ∷ []) t)) m
   unfolding rank among

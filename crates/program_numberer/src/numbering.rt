@@ -12,8 +12,8 @@ ghost use Rattle.program_numberer.specs.Numbered.{
 use edition::Edition;
 use program_image::Sections;
 
-// Numbers the operand of instruction i, if it names an entry of this table, which has n; gives how many it has then, at
-// most 1 more than there is room for.
+// Numbers the operand of instruction i, if it names an entry of this table, which has n; returns how many it has then,
+// at most 1 more than there is room for.
 fn number_word(
     s: &[u8],
     section: &mut [u64],
@@ -42,8 +42,8 @@ fn number_word(
     n + 1
 }
 
-// Numbers the operands of the first `count` instructions of a section that name entries of a table, which has n; gives
-// how many it has then, or 1 more than there is room for.
+// Numbers the operands of the first `count` instructions of a section that name entries of a table, which has n;
+// returns how many it has then, or 1 more than there is room for.
 fn number_section(
     s: &[u8],
     section: &mut [u64],
@@ -67,7 +67,7 @@ fn number_section(
     m
 }
 
-// Numbers the operands of all sections that name entries of one table, which has n; gives how many it has then, or 1
+// Numbers the operands of all sections that name entries of one table, which has n; returns how many it has then, or 1
 // more than there is room for.
 pub fn number(
     s: &[u8],

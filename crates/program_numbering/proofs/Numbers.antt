@@ -1,4 +1,4 @@
--- A number names the same thing: what a table has stands in it at its number, and a table has all that it is made of.
+-- A number names the same thing: what a table has is in it at its number, and a table has all that it is made of.
 use mathlib.Core.Path.{_≡_, refl, sym, ap, subst, _∙_}
 use mathlib.Core.Bool.{Bool, true, false, true≢false, cond, _&&_, _||_}
 use mathlib.Core.List.{List, [], _∷_, _++_}

@@ -1,4 +1,5 @@
--- Internal: cited by private contracts only. Document 01, "The image": what the words of a section say, while constants, names and EREs are still places of the text.
+-- Internal: cited by private contracts only. Document 01, "The image": what the words of a section say, while
+-- constants, names and EREs are still places of the text.
 use mathlib.Core.Path.{_≡_}
 use mathlib.Core.Bool.{cond}
 use mathlib.Core.List.{List, [], _∷_}

@@ -77,8 +77,8 @@ closedOf edition s r =
 -- ---- tokens to read from
 
 module _ (edition : ℕ) (s : List ℕ) where
-  -- a token that the text has at its place: that of the lexer, or the ERE that it is read again as, or "a `(` at once after a
-  -- user name"
+  -- a token that the text has at its place: that of the lexer, or the ERE that it is read again as, or "a `(` at once
+  -- after a user name"
   unfoldable pub Placed : Token → Type 0
   Placed t =
       (t ≡ tokenFrom edition s (t .start)) ⊎ ((t ≡ asOperand edition s (tokenFrom edition s (t .start))) ⊎ (is call-paren t ≡ true))
@@ -98,8 +98,8 @@ module _ (edition : ℕ) (s : List ℕ) where
     pub small : length s ≤ filterText
     pub count : n ≤ 8 * t .start
 
-  -- ---- reading an expression from the token t on, with n instructions written, at the depth d: the answer is r, and the section,
-  -- which was xs, is ys
+  -- ---- reading an expression from the token t on, with n instructions written, at the depth d: the answer is r, and
+  -- the section, which was xs, is ys
   pub record ReadExpression (t : Token) (n d : ℕ) (xs : List ℕ) (e : Expression) (u : Token) (r : Read) (ys : List ℕ) : Type 0 where
     pub answer : r ≡ success u (n + size e) (formOf edition e)
     pub good : Good (t .stop) u

@@ -1,4 +1,5 @@
--- Internal: cited by private contracts only. The tables of the reader: operators, prefix operators, functions, by kinds of tokens.
+-- Internal: cited by private contracts only. The tables of the reader: operators, prefix operators, functions, by kinds
+-- of tokens.
 use mathlib.Core.Bool.{cond, _||_}
 use mathlib.Core.List.{List, [], _∷_}
 use mathlib.Core.Option.{Option, some, none}
@@ -21,7 +22,8 @@ forms = semicolon ∷ open-brace ∷ IF ∷ WHILE ∷ PRINT ∷ EXIT ∷ []
 abbrev pub joinedTier : ℕ → Kind → ℕ
 joinedTier edition k = cond (startsJoined edition k) concatenations fields
 
--- how many instructions `&&` and `||`, by the numbers of their kinds, have between their operands; other operators have none
+-- how many instructions `&&` and `||`, by the numbers of their kinds, have between their operands; other operators have
+-- none
 abbrev pub between : ℕ → ℕ
 between kind = cond (eqb kind 61) 1 (cond (eqb kind 60) 3 0)
 

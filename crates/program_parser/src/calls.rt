@@ -18,7 +18,7 @@ pub const AN_EXPRESSION: u64 = 1;
 
 pub const AN_ERE: u64 = 2;
 
-// Gives a function to the editions that have it.
+// Returns a function to the editions that have it.
 fn with_since(op: u64, shapes: u64, since: u64, edition: Edition) -> Function
     ensures { λ r. ⌜ r ≡ withSince op shapes since (edition .number) ⌝ }
 {
@@ -28,7 +28,7 @@ fn with_since(op: u64, shapes: u64, since: u64, edition: Edition) -> Function
     Function { op: 0, shapes: 0 }
 }
 
-// Gives the function that a word calls in an edition.
+// Returns the function that a word calls in an edition.
 pub fn function_of(kind: u64, edition: Edition) -> Function
     requires { ⌜ kind < kindCount ⌝ }
     ensures { λ r. ⌜ r ≡ described (functionOf (edition .number) (kindOf kind)) ⌝ }

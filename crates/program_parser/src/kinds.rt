@@ -101,7 +101,7 @@ pub const AT_LEAST: u64 = 65;
 
 pub const DIFFERENT: u64 = 66;
 
-// Whether a kind is newline or `;`, which end a statement.
+// Tells whether a kind is newline or `;`, which end a statement.
 pub fn is_ender(kind: u64) -> bool
     requires { ⌜ kind < kindCount ⌝ }
     ensures { λ r. ⌜ r ≡ among enders (kindOf kind) ⌝ }
@@ -109,7 +109,7 @@ pub fn is_ender(kind: u64) -> bool
     (kind == NEWLINE) | (kind == SEMICOLON)
 }
 
-// Whether a kind is that of a name.
+// Tells whether a kind is that of a name.
 pub fn is_name(kind: u64) -> bool
     requires { ⌜ kind < kindCount ⌝ }
     ensures { λ r. ⌜ r ≡ among names (kindOf kind) ⌝ }
@@ -117,7 +117,7 @@ pub fn is_name(kind: u64) -> bool
     (kind == USER_NAME) | ((kind == VARIABLE) | (kind == FIXED_VARIABLE))
 }
 
-// Whether a kind is `!`, `+` or `-`.
+// Tells whether a kind is `!`, `+` or `-`.
 pub fn is_prefix(kind: u64) -> bool
     requires { ⌜ kind < kindCount ⌝ }
     ensures { λ r. ⌜ r ≡ among prefixes (kindOf kind) ⌝ }
@@ -125,7 +125,7 @@ pub fn is_prefix(kind: u64) -> bool
     (kind == BANG) | ((kind == PLUS) | (kind == MINUS))
 }
 
-// Whether a kind begins the right operand of a concatenation, functions aside.
+// Tells whether a kind begins the right operand of a concatenation, functions aside.
 fn starts_operand(kind: u64) -> bool
     requires { ⌜ kind < kindCount ⌝ }
     ensures { λ r. ⌜ r ≡ among (NUMBER-kind ∷ STRING-kind ∷ open-paren ∷ dollar ∷ names) (kindOf kind) ⌝ }
@@ -134,7 +134,7 @@ fn starts_operand(kind: u64) -> bool
         | ((kind == STRING) | ((kind == OPEN_PAREN) | ((kind == DOLLAR) | is_name(kind))))
 }
 
-// Whether a kind begins the right operand of a concatenation.
+// Tells whether a kind begins the right operand of a concatenation.
 pub fn starts_joined(kind: u64, edition: Edition) -> bool
     requires { ⌜ kind < kindCount ⌝ }
     ensures { λ r. ⌜ r ≡ startsJoined (edition .number) (kindOf kind) ⌝ }
@@ -143,7 +143,7 @@ pub fn starts_joined(kind: u64, edition: Edition) -> bool
     starts_operand(kind) | (f.op != 0)
 }
 
-// Whether a kind begins an expression.
+// Tells whether a kind begins an expression.
 pub fn starts_expression(kind: u64, edition: Edition) -> bool
     requires { ⌜ kind < kindCount ⌝ }
     ensures { λ r. ⌜ r ≡ startsExpression (edition .number) (kindOf kind) ⌝ }
@@ -151,7 +151,7 @@ pub fn starts_expression(kind: u64, edition: Edition) -> bool
     starts_joined(kind, edition) | ((kind == ERE) | is_prefix(kind))
 }
 
-// Whether a kind begins a statement of no expression.
+// Tells whether a kind begins a statement of no expression.
 fn starts_form(kind: u64) -> bool
     requires { ⌜ kind < kindCount ⌝ }
     ensures { λ r. ⌜ r ≡ among forms (kindOf kind) ⌝ }
@@ -161,7 +161,7 @@ fn starts_form(kind: u64) -> bool
             | ((kind == IF) | ((kind == WHILE) | ((kind == PRINT) | (kind == EXIT)))))
 }
 
-// Whether a kind begins a statement.
+// Tells whether a kind begins a statement.
 pub fn starts_statement(kind: u64, in_main: bool, edition: Edition) -> bool
     requires { ⌜ kind < kindCount ⌝ }
     ensures { λ r. ⌜ r ≡ startsStatement (edition .number) in_main (kindOf kind) ⌝ }

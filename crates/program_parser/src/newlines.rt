@@ -11,7 +11,7 @@ use crate::kinds;
 use edition::Edition;
 use program_lexer::Token;
 
-// Whether a token of this kind is passed: a newline, and `;` where that holds.
+// Tells whether a token of this kind is passed: a newline, and `;` where that holds.
 fn is_passed(kind: u64, semicolons: bool) -> bool
     requires { ⌜ kind < kindCount ⌝ }
     ensures { λ r. ⌜ r ≡ among (passing semicolons) (kindOf kind) ⌝ }
@@ -19,7 +19,7 @@ fn is_passed(kind: u64, semicolons: bool) -> bool
     (kind == kinds::NEWLINE) | (semicolons & (kind == kinds::SEMICOLON))
 }
 
-// Gives the first token, of t and those after it, that is no newline and, where `semicolons` holds, no `;`.
+// Returns the first token, of t and those after it, that is no newline and, where `semicolons` holds, no `;`.
 pub fn past(s: &[u8], t: Token, semicolons: bool, edition: Edition) -> Token
     requires { ⌜ Good (edition .number) (now s) 0 (decoded t) × (t .kind < kindCount) ⌝ }
     ensures { λ r. ⌜ r ≡ coded (pastOf (edition .number) (now (s .entry)) (passing semicolons) (decoded t)) ⌝ }
@@ -31,7 +31,7 @@ pub fn past(s: &[u8], t: Token, semicolons: bool, edition: Edition) -> Token
     u
 }
 
-// Gives the first token after newlines, where the grammar allows an operand or a statement.
+// Returns the first token after newlines, where the grammar allows an operand or a statement.
 pub fn past_newlines(s: &[u8], t: Token, edition: Edition) -> Token
     requires { ⌜ Good (edition .number) (now s) 0 (decoded t) × (t .kind < kindCount) ⌝ }
     ensures { λ r. ⌜ r ≡ coded (pastNewlines (edition .number) (now (s .entry)) (decoded t)) ⌝ }

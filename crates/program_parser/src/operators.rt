@@ -29,7 +29,7 @@ pub const DISJUNCTIONS: u64 = 9;
 
 pub const EXPRESSIONS: u64 = 10;
 
-// Gives the tier of a kind that is no operator: it may begin the right operand of a concatenation.
+// Returns the tier of a kind that is no operator: it may begin the right operand of a concatenation.
 fn joined_tier(kind: u64, edition: Edition) -> u64
     requires { ⌜ kind < kindCount ⌝ }
     ensures { λ r. ⌜ r ≡ joinedTier (edition .number) (kindOf kind) ⌝ }
@@ -40,7 +40,7 @@ fn joined_tier(kind: u64, edition: Edition) -> u64
     FIELDS
 }
 
-// Gives the tier of the operator that a token is or begins, outside a print list.
+// Returns the tier of the operator that a token is or begins, outside a print list.
 fn plain_tier(kind: u64, edition: Edition) -> u64
     requires { ⌜ kind < kindCount ⌝ }
     ensures { λ r. ⌜ r ≡ tierOf (edition .number) false (kindOf kind) ⌝ }
@@ -63,7 +63,7 @@ fn plain_tier(kind: u64, edition: Edition) -> u64
     }
 }
 
-// Gives the tier of the operator that a token is or begins; in a print list outside parentheses `>` has none.
+// Returns the tier of the operator that a token is or begins; in a print list outside parentheses `>` has none.
 pub fn tier_of(kind: u64, printed: bool, edition: Edition) -> u64
     requires { ⌜ kind < kindCount ⌝ }
     ensures { λ r. ⌜ r ≡ tierOf (edition .number) printed (kindOf kind) ⌝ }
@@ -74,7 +74,7 @@ pub fn tier_of(kind: u64, printed: bool, edition: Edition) -> u64
     plain_tier(kind, edition)
 }
 
-// Gives the code of the instruction after both operands.
+// Returns the code of the instruction after both operands.
 pub fn operator_code(kind: u64) -> u64
     requires { ⌜ kind < kindCount ⌝ }
     ensures { λ r. ⌜ r ≡ operatorCode (kindOf kind) ⌝ }
@@ -95,7 +95,7 @@ pub fn operator_code(kind: u64) -> u64
     }
 }
 
-// Gives the code of a prefix operator.
+// Returns the code of a prefix operator.
 pub fn prefix_code(kind: u64) -> u64
     requires { ⌜ kind < kindCount ⌝ }
     ensures { λ r. ⌜ r ≡ prefixCode (kindOf kind) ⌝ }
@@ -107,7 +107,7 @@ pub fn prefix_code(kind: u64) -> u64
     }
 }
 
-// Gives how many instructions an operator has between its operands.
+// Returns how many instructions an operator has between its operands.
 pub fn between(kind: u64) -> usize
     ensures { λ r. ⌜ r ≡ betweenOf kind ⌝ }
 {
@@ -120,7 +120,7 @@ pub fn between(kind: u64) -> usize
     0
 }
 
-// Gives the depth of the right operand.
+// Returns the depth of the right operand.
 pub fn right_depth(kind: u64, depth: u64) -> u64
     requires { ⌜ depth ≤ 60000 ⌝ }
     ensures { λ r. ⌜ r ≡ rightDepth kind depth ⌝ }

@@ -10,8 +10,8 @@ use edition::Edition;
 use edition::Outcome;
 use program_lexer::Token;
 
-// What the tree that was read exactly is, where it matters: a name that can be assigned, a `$` form; of a statement, one that
-// nothing need end.
+// What the tree that was read exactly is, where it matters: a name that can be assigned, a `$` form; of a statement,
+// one that nothing need end.
 pub const OTHER: u64 = 0;
 
 pub const NAME: u64 = 1;
@@ -20,8 +20,8 @@ pub const FIELD: u64 = 2;
 
 pub const ENDED: u64 = 3;
 
-// What a reader answers: the first token after what it read, how many instructions the section has then, and what the tree is; or
-// an outcome, and a token that starts at its place.
+// What a reader answers: the first token after what it read, how many instructions the section has then, and what the
+// tree is; or an outcome, and a token that starts at its place.
 pub struct Read {
     pub token: Token,
     pub count: usize,
@@ -80,7 +80,7 @@ pub fn too_deep(t: Token) -> Read
     no(Outcome::SIZE_PASSED, t.start)
 }
 
-// Gives the token after t, where the grammar allows an operand.
+// Returns the token after t, where the grammar allows an operand.
 pub fn operand_after(s: &[u8], t: Token, edition: Edition) -> Token
     requires { ⌜ Good (edition .number) (now s) 0 (decoded t) ⌝ }
     ensures { λ r. ⌜ r ≡ coded (operandAfter (edition .number) (now (s .entry)) (decoded t)) ⌝ }

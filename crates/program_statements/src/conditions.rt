@@ -53,8 +53,8 @@ pub enum Else {
     Nothing,
 }
 
-// Gives the token after the `else` that follows a then-part; t is the first token after that. Where the then-part still
-// needs an end (`free` is false), a newline or a `;` must be before the `else`.
+// Returns the token after the `else` that follows a then-part; t is the first token after that. Where the then-part
+// still needs an end (`free` is false), a newline or a `;` must be before the `else`.
 pub fn else_after(s: &[u8], edition: Edition, t: Token, free: bool) -> Else
     requires { ⌜ Good (edition .number) (now s) 0 (decoded t) × (t .kind < kindCount) ⌝ }
     ensures { λ r. ⌜ r ≡ elseOf (elseAfter (edition .number) (now (s .entry)) (length (now (s .entry))) free false

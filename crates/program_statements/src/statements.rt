@@ -1,4 +1,8 @@
 // The reader of statements: it calls itself for each inner level, and the levels left fall.
+//
+// Every function here has the same contract, `ReadingStatement` of program_parser/specs/Reading.antt, which says of a
+// statement what `Reading` says of an expression: from instruction n on the section has the code of the definition's
+// tree, and the answer is the token and the count after it, or the definition's outcome and place.
 ghost use mathlib.Core.Path.{_≡_};
 ghost use Prim.Native.Nat.{_≤_, _<_};
 ghost use Rattle.edition.specs.Limits.{nestingDepth};

@@ -15,7 +15,7 @@ pub struct Entry {
     pub stop: usize,
 }
 
-// Gives entry k of a table.
+// Returns entry k of a table.
 pub fn entry_in(table: &[u64], k: usize) -> Entry
     requires { ⌜ 2 * k + 1 < length (now table) ⌝ }
     ensures { λ r. ⌜ r ≡ entryIn (now (table .entry)) k ⌝ }
@@ -26,7 +26,7 @@ pub fn entry_in(table: &[u64], k: usize) -> Entry
     }
 }
 
-// Whether two entries are equal: the same number, or texts with the same value.
+// Tells whether two entries are equal: the same number, or texts with the same value.
 fn same_entry(s: &[u8], a: Entry, b: Entry, escapes: bool) -> bool
     requires { ⌜ InsideText (now s) a × InsideText (now s) b ⌝ }
     ensures { λ r. ⌜ r ≡ sameConstant (meant (now (s .entry)) escapes a) (meant (now (s .entry)) escapes b) ⌝ }
@@ -40,7 +40,7 @@ fn same_entry(s: &[u8], a: Entry, b: Entry, escapes: bool) -> bool
     texts::same_value(s, a.value, a.stop, b.value, b.stop, escapes)
 }
 
-// Gives the number of the first of n entries that is equal to e, or n.
+// Returns the number of the first of n entries that is equal to e, or n.
 fn find(s: &[u8], table: &[u64], n: usize, e: Entry, escapes: bool) -> usize
     requires { ⌜ (2 * n ≤ length (now table)) × AllInside (now s) (now table) n × InsideText (now s) e ⌝ }
     ensures { λ r. ⌜ r ≡ numberOf sameConstant (entriesFrom (now (s .entry)) escapes (now (table .entry)) 0 n)
@@ -67,7 +67,7 @@ fn put_entry(table: &mut [u64], n: usize, e: Entry)
     }
 }
 
-// Gives the number of an entry in a table of n; a new one is stored, if there is room.
+// Returns the number of an entry in a table of n; a new one is stored, if there is room.
 pub fn enter(s: &[u8], table: &mut [u64], n: usize, e: Entry, escapes: bool) -> usize
     requires { ⌜ (2 * n ≤ length (now table)) × AllInside (now s) (now table) n × InsideText (now s) e ⌝ }
     ensures { λ r. ⌜ (r ≡ numberOf sameConstant (entriesFrom (now (s .entry)) escapes (now (table .entry)) 0 n)

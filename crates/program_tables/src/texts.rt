@@ -15,7 +15,7 @@ pub struct ValueByte {
     pub next: usize,
 }
 
-// Gives the byte that a backslash and b spell in a STRING, or b where they spell none.
+// Returns the byte that a backslash and b spell in a STRING, or b where they spell none.
 fn unescaped(b: u8) -> u8
     ensures { λ r. ⌜ r ≡ byteOr b (lookup stringEscapes b) ⌝ }
 {
@@ -25,7 +25,7 @@ fn unescaped(b: u8) -> u8
     v
 }
 
-// Gives the byte of a value that is spelled at place i; the value ends before place `stop`.
+// Returns the byte of a value that is spelled at place i; the value ends before place `stop`.
 fn value_at(s: &[u8], i: usize, stop: usize, escapes: bool) -> ValueByte
     requires { ⌜ (i < stop) × (stop ≤ length (now s)) ⌝ }
     ensures { λ r. ⌜ ValueAt (now (s .entry)) i stop escapes r ⌝ }
@@ -56,7 +56,7 @@ pub fn value_length(s: &[u8], start: usize, stop: usize, escapes: bool) -> usize
     n
 }
 
-// Whether the values from place a to place p and from place b to place q are equal.
+// Tells whether the values from place a to place p and from place b to place q are equal.
 pub fn same_value(s: &[u8], a: usize, p: usize, b: usize, q: usize, escapes: bool) -> bool
     requires { ⌜ Inside (now s) a p × Inside (now s) b q ⌝ }
     ensures { λ r. ⌜ r ≡ sameBytes (valueIn (now (s .entry)) escapes a p)
@@ -76,7 +76,7 @@ pub fn same_value(s: &[u8], a: usize, p: usize, b: usize, q: usize, escapes: boo
     (p <= i) & (q <= j)
 }
 
-// Writes the bytes of a value from byte k of a room on, as far as the room goes; gives the index after them.
+// Writes the bytes of a value from byte k of a room on, as far as the room goes; returns the index after them.
 pub fn put_value(
     s: &[u8],
     start: usize,

@@ -1,5 +1,6 @@
--- An image that passes the check is small: each instruction has at most six bytes, and all of it fewer than 65,536. Nothing else is asked
--- of the image: even a number over 2^53, which no image has that was read, has at most eight bytes by `coded`.
+-- An image that passes the check is small: each instruction has at most six bytes, and all of it fewer than 65,536.
+-- Nothing else is asked of the image: even a number over 2^53, which no image has that was read, has at most eight
+-- bytes by `coded`.
 use mathlib.Core.Path.{_≡_, refl, subst}
 use mathlib.Core.Bool.{Bool, true, false, cond}
 use mathlib.Core.List.{List, [], _∷_, _++_}

@@ -1,4 +1,5 @@
--- Document 01, "Values" and "Splitting": what a record and its fields are after a field, or `$0`, is assigned, and what `match` sets. Frames.antt says what stays.
+-- Document 01, "Values" and "Splitting": what a record and its fields are after a field, or `$0`, is assigned, and what
+-- `match` sets. Frames.antt says what stays.
 use mathlib.Core.Path.{_≡_, refl, ap, sym, _∙_}
 use mathlib.Core.Bool.{Bool, true, false, cond}
 use mathlib.Core.List.{List, [], _∷_, _++_, map}
@@ -27,7 +28,7 @@ use Rattle.semantics.proofs.Frames.{SameButRecord, SameButVariables, se
 
 -- ---- a list grown by unset values
 
--- an element of the list, and one of what is put behind it
+-- an element of the list, and one of what is put after it
 nth-front : {A : Type 0} (l m : List A) (j : ℕ) → j < length l → nth (l ++ m) j ≡ nth l j
 unfolding nth
 nth-front [] m j h = absurd (omega arith)
@@ -50,8 +51,9 @@ nth-replicate (suc n) a (suc j) h = nth-replicate n a j (omega arith)
 
 -- ---- `$k = v`, k from 1 on
 
--- "Assigning `$k`, k >= 1, grows NF if needed and joins all fields with the present OFS into `$0`, without splitting again."; "an assigned field keeps its value's
--- kind"; "gaps filled by growth, are unset". Field k + 1 is element k of the fields.
+-- "Assigning `$k`, k >= 1, grows NF if needed and joins all fields with the present OFS into `$0`, without splitting
+-- again."; "an assigned field keeps its value's kind"; "gaps filled by growth, are unset". Field k + 1 is element k of
+-- the fields.
 pub record FieldAssigned (w : World) (k : ℕ) (a : Value) (x : World) : Type 0 where
   pub there : nth (x .current .fields) k ≡ some a
   pub others : (j : ℕ) → j < length (w .current .fields) → (j ≡ k → ⊥) → nth (x .current .fields) j ≡ nth (w .current .fields) j
@@ -129,7 +131,8 @@ module _ (w : World) (k : ℕ) (a : Value) where
 
 -- ---- the fields of a split
 
--- "`$0` always, and split fields, are field text": the fields are those of the separator that FS is, at most as many as there may be
+-- "`$0` always, and split fields, are field text": the fields are those of the separator that FS is, at most as many as
+-- there may be
 pub record SplitInto (edition : ℕ) (w : World) (text : List ℕ) (vs : List Value) : Type 0 where
   pub separator : Separator
   pub in-force : separatorOf edition (special w FS) ≡ some separator

@@ -1,4 +1,5 @@
--- Laws on the special variables of an edition. No other crate but that of the instruction set opens the table or its count.
+-- Laws on the special variables of an edition. No other crate but that of the instruction set opens the table or its
+-- count.
 use mathlib.Core.Path.{_≡_, refl, sym}
 use mathlib.Core.Bool.{true}
 use mathlib.Core.Option.{some, none}

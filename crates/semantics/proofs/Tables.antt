@@ -1,4 +1,5 @@
--- The table of codes has one row for each operation, so that a row is told from its operation; and laws on what stands in a list.
+-- The table of codes has one row for each operation, so that a row is told from its operation; and laws on what is in a
+-- list.
 use mathlib.Core.Path.{_≡_, refl}
 use mathlib.Core.List.{List, [], _∷_}
 use mathlib.Core.Option.{some}

@@ -1,6 +1,6 @@
--- Document 01, "The image": the check. "sizes; every number named exists; EREs read; code 0 last in its section and only there; depth 0 at its start, at 0, 30
--- and 31, and at most 32; each successor inside the section and its depth as the instruction leaves it; enough operands; print's n from 1; no set of 0, 1, 5,
--- 6; 30 only in the record section."
+-- Document 01, "The image": the check. "sizes; every number named exists; EREs read; code 0 last in its section and
+-- only there; depth 0 at its start, at 0, 30 and 31, and at most 32; each successor inside the section and its depth as
+-- the instruction leaves it; enough operands; print's n from 1; no set of 0, 1, 5, 6; 30 only in the record section."
 use mathlib.Core.Bool.{Bool, true, false, not, cond, _&&_, _||_}
 use mathlib.Core.List.{List, [], _∷_}
 use mathlib.Core.Option.{Option, some, none}

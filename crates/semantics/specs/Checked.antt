@@ -1,4 +1,5 @@
--- The check as a statement: for every section and every instruction 01's clauses, in order; unreachable instructions too.
+-- The check as a statement: for every section and every instruction 01's clauses, in order; unreachable instructions
+-- too.
 use mathlib.Core.Path.{_≡_}
 use mathlib.Core.Bool.{true, false}
 use mathlib.Core.Logic.{_↔_}

@@ -1,4 +1,5 @@
--- The state of a run, the operations, the moves, the run with a budget, where a run is stuck, and the check of an image.
+-- The state of a run, the operations, the moves, the run with a budget, where a run is stuck, and the check of an
+-- image.
 pub mod Variables
 pub mod Feed
 pub mod World

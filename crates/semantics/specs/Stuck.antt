@@ -1,5 +1,6 @@
--- Document 01, "Running": "The definition's result is stuck where an operand, an instruction or what a number names is missing, an ERE doesn't read or no rule
--- fits (print 0, `next` outside the record section, setting what can't be assigned)." One constructor a case.
+-- Document 01, "Running": "The definition's result is stuck where an operand, an instruction or what a number names is
+-- missing, an ERE doesn't read or no rule fits (print 0, `next` outside the record section, setting what can't be
+-- assigned)." One constructor a case.
 use mathlib.Core.Path.{_≡_}
 use mathlib.Core.Bool.{false}
 use mathlib.Core.Logic.{_⊎_}

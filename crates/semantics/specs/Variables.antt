@@ -1,5 +1,5 @@
--- Document 01, "The image": "Variables 0 to 6: NF NR FS OFS ORS RSTART RLENGTH; users from 7"; and "Values": "FS, OFS start as space, ORS newline, RSTART 0,
--- RLENGTH -1."
+-- Document 01, "The image": "Variables 0 to 6: NF NR FS OFS ORS RSTART RLENGTH; users from 7"; and "Values": "FS, OFS
+-- start as space, ORS newline, RSTART 0, RLENGTH -1."
 use mathlib.Core.Bool.{Bool, true, false}
 use mathlib.Core.List.{List, [], _∷_}
 use mathlib.Core.Option.{Option, some, none}
@@ -9,7 +9,8 @@ use lib.IntN.{pos, negsuc}
 use Rattle.lists.specs.Elements.{nth}
 use Rattle.values.specs.Value.{Value, unset, number, text}
 
--- what a variable's value is: the number of fields, the number of records begun, or what was last set, with its first value
+-- what a variable's value is: the number of fields, the number of records begun, or what was last set, with its first
+-- value
 pub data Source : Type 0 where
   field-count record-count : Source
   stored : Value → Source

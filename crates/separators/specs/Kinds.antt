@@ -1,4 +1,5 @@
--- Internal: cited by private contracts only. What the code's own values stand for: the kind of a separator, and the next field.
+-- Internal: cited by private contracts only. What the code's own values stand for: the kind of a separator, and the
+-- next field.
 use mathlib.Core.Path.{_≡_}
 use mathlib.Core.Bool.{cond}
 use mathlib.Core.List.{List}
@@ -14,7 +15,7 @@ use Rattle.separators.specs.declared.kinds.Kind.{Kind}
 use Rattle.separators.specs.declared.kinds.Kind.the-variants.{Blank, Byte, Pattern, Refused}
 use Rattle.separators.specs.declared.steps.Step.{Step}
 
--- a table stands beside a pattern
+-- a table goes with a pattern
 abbrev pub Sized : Kind → List ℕ → Type 0
 Sized Blank t = Unit
 Sized (Byte b) t = Unit

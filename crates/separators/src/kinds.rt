@@ -6,7 +6,7 @@ ghost use Rattle.ere_table.specs.Table.{tableWords};
 ghost use Rattle.separators.specs.Kinds.{Sized, Tells};
 use edition::Edition;
 
-// A separator: blanks, a byte, an ERE, whose table stands beside it, or none.
+// A separator: blanks, a byte, an ERE, whose table is beside it, or none.
 pub enum Kind {
     Blank,
     Byte(u8),
@@ -14,6 +14,7 @@ pub enum Kind {
     Refused,
 }
 
+// Compiles a separator that is an ERE into the table.
 fn by_pattern(separator: &[u8], edition: Edition, t: &mut [u64]) -> Kind
     requires { ⌜ (1 < length (now separator)) × (length (now t) ≡ tableWords) ⌝ }
     ensures { λ r. ⌜ (Tells (edition .number) (now (separator .entry)) (now (t .exit)) r) × (Sized r (now (t .exit))) ⌝ }
@@ -24,7 +25,7 @@ fn by_pattern(separator: &[u8], edition: Edition, t: &mut [u64]) -> Kind
     Kind::Refused
 }
 
-// The kind of a separator; the table is written where it is an ERE.
+// Returns the kind of a separator; writes the table where it is an ERE.
 pub fn kind_of(separator: &[u8], edition: Edition, t: &mut [u64]) -> Kind
     requires { ⌜ (1 < length (now separator) → length (now t) ≡ tableWords) ⌝ }
     ensures { λ r. ⌜ (Tells (edition .number) (now (separator .entry)) (now (t .exit)) r) × (Sized r (now (t .exit))) ⌝ }

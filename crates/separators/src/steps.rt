@@ -1,4 +1,4 @@
-// From a place in a record to the next field and the place behind it.
+// From a place in a record to the next field and the place after it.
 ghost use mathlib.Core.Path.{_≡_};
 ghost use Prim.Native.Nat.{_+_, _≤_};
 ghost use lib.ListN.{length, drop};
@@ -13,8 +13,8 @@ use crate::kinds::Kind;
 use edition::Edition;
 use ere_search::Found;
 
-// The next field, and the place from which on the one behind it is looked for; unless `found`, there is none. Numbers instead of an enum with a part:
-// a copy of an enum moves its unused bytes too.
+// The next field, and the place from which on the one after it is looked for; unless `found`, there is none. Numbers
+// instead of an enum with a part: a copy of an enum moves its unused bytes too.
 pub struct Step {
     pub found: bool,
     pub start: usize,
@@ -33,6 +33,7 @@ fn run_end(text: &[u8], edition: Edition, blank: bool, at: usize) -> usize
     lanes::first_of_two(text, at, 32, 9)
 }
 
+// Returns the next field between blanks.
 fn next_word(text: &[u8], edition: Edition, at: usize) -> Step
     requires { ⌜ at ≤ length (now text) ⌝ }
     ensures { λ r. ⌜ (Goes at (length (now (text .entry))) (nextOf r))
@@ -57,6 +58,7 @@ fn next_word(text: &[u8], edition: Edition, at: usize) -> Step
     }
 }
 
+// Returns the next field up to the byte b.
 fn next_by_byte(text: &[u8], b: u8, at: usize) -> Step
     requires { ⌜ at ≤ length (now text) ⌝ }
     ensures { λ r. ⌜ (Goes at (length (now (text .entry))) (nextOf r)) × (nextOf r ≡ nextField (now (text .entry)) (byte b) at) ⌝ }
@@ -70,6 +72,7 @@ fn next_by_byte(text: &[u8], b: u8, at: usize) -> Step
     }
 }
 
+// Returns the next field up to a nonempty match of the table's ERE.
 fn next_by_pattern(t: &[u64], text: &[u8], at: usize) -> Step
     requires { ⌜ (length (now t) ≡ tableWords) × (at ≤ length (now text)) ⌝ }
     ensures { λ r. ⌜ (Goes at (length (now (text .entry))) (nextOf r))
@@ -92,7 +95,8 @@ fn next_by_pattern(t: &[u64], text: &[u8], at: usize) -> Step
     }
 }
 
-// The next field from the place `at` on. Whatever the table has, the field lies in the text, and the place after it moves on.
+// Returns the next field from the place `at` on. Whatever the table has, the field is in the text, and the place after
+// it moves on.
 pub fn next_field(text: &[u8], kind: Kind, edition: Edition, t: &[u64], at: usize) -> Step
     requires { ⌜ Sized kind (now t) ⌝ }
     ensures { λ r. ⌜ (Goes at (length (now (text .entry))) (nextOf r))

@@ -124,8 +124,8 @@ pub record Writes (text room : List ℕ) (x : Translation) : Type 0 where
 pub record Demand3 : Type 0 where
   -- what the public checker answers for any bytes
   pub checker : (bytes : List ℕ) → Verdicts bytes
-  -- for any bytes that it passes, any lines (`oneFeed lines`, or what is left of them), output room, budget and at least
-  -- 49,152 bytes of working room: the definition is never stuck, and the runner answers what it comes to
+  -- for any bytes that it passes, any lines (`oneFeed lines`, or what is left of them), output room, budget and at
+  -- least 49,152 bytes of working room: the definition is never stuck, and the runner answers what it comes to
   pub runner : (bytes : List ℕ) → checkOf bytes ≡ done → (feed : Feed) (room : List ℕ) (size budget : ℕ)
       → workingRoom ≤ size → WholeRun bytes feed room size budget
   -- every image that the translator writes, of any text of bytes, passes

@@ -1,1 +1,2 @@
-// Document 01's eight cases, and tables of values, comparisons and runs that are computed. Definitions and theorems, no code.
+// Document 01's eight cases, and tables of values, comparisons and runs that are computed. Definitions and theorems, no
+// code.

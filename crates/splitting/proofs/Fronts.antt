@@ -83,7 +83,7 @@ byte-itself b = no-byte-test b b ∙ ap not (eq-eqb b b refl)
 pub other-byte : (b x : ℕ) → (x ≡ b → ⊥) → isIn false (b ∷ []) x ≡ true
 other-byte b x h = no-byte-test b x ∙ ap not (ne-eqb x b h)
 
--- where the bytes that are no b stop, b stands
+-- where the bytes that are no b end, b follows
 pub stop-byte : (b x : ℕ) → isIn false (b ∷ []) x ≡ false → x ≡ b
 stop-byte b x h = eqb-true x b (not-false (eqb x b) (sym (no-byte-test b x) ∙ h))
 
@@ -99,7 +99,7 @@ first-leading b (x ∷ l) = by (eqb x b) (isIn false (b ∷ []) x) (no-byte-test
 
 -- ---- blanks
 
--- behind a field, a blank is where the bytes that are none stop
+-- after a field, a blank is where the bytes that are none stop
 pub stop-behind : (set t : List ℕ) → Stops false set t → Behind set t
 stop-behind set [] s = at-end
 stop-behind set (b ∷ t) s = apart (not-false (oneOf set b) s)

@@ -30,7 +30,7 @@ module _ (b : ℕ) where
     byte-next : (at : ℕ) → at ≤ length text → nextField text (byte b) at ≡ field (span at (run at)) (suc (at + run at))
     byte-next at h = byte-field text b at h ∙ ap (λ (n : ℕ). field (span at n) (suc (at + n))) (first-leading b (drop at text))
 
-    -- behind the bytes that are no b stands b, or the text's end
+    -- after the bytes that are no b comes b, or the text's end
     byte-cut : (at : ℕ) → at + run at < length text → drop at text ≡ part at (run at) text ++ (b ∷ drop (suc (at + run at)) text)
     byte-cut at h =
         let c = drop-cons text (at + run at) 0 h in
@@ -38,7 +38,7 @@ module _ (b : ℕ) where
         sym (part-rest text at (run at) (at + run at) refl)
         ∙ ap (λ (l : List ℕ). part at (run at) text ++ l) (c ∙ ap (λ (x : ℕ). x ∷ drop (suc (at + run at)) text) z)
 
-    -- the fields from a place on: the one there, and those behind its separator
+    -- the fields from a place on: the one there, and those after its separator
     byte-fields : (at : ℕ) → at ≤ length text
         → map (textOf text) (fieldsFrom text (byte b) at) ≡ part at (run at) text ∷ map (textOf text) (fieldsFrom text (byte b) (suc (at + run at)))
     byte-fields at h = ap (map (textOf text)) (fields-more text (byte b) at (suc (at + run at)) (span at (run at)) (byte-next at h))

@@ -56,8 +56,8 @@ module _ (e : Ere Class) (text : List ℕ) where
 
   -- ---- the separators
 
-  -- From `from` on, the text from s up to j is the separator: a span of at least one byte, no other such span starts before it, and none that starts
-  -- with it is longer.
+  -- From `from` on, the text from s up to j is the separator: a span of at least one byte, no other such span starts
+  -- before it, and none that starts with it is longer.
   pub record Separates (from s j : ℕ) : Type 0 where
     pub some : s < j
     pub spans : Spans accepts text e s j
@@ -78,7 +78,8 @@ module _ (e : Ere Class) (text : List ℕ) where
   first-field (last h x) = (omega arith, refl)
   first-field (more x p) = (omega arith, refl)
 
-  -- From the end of each field but the last up to the start of the next is a separator: the one from the field's start on.
+  -- From the end of each field but the last up to the start of the next is a separator: the one from the field's start
+  -- on.
   pub separators : {at : ℕ} {fs : List Span} → EreSplit e text at fs
       → (k : ℕ) → suc k < length fs → Separates (startOf fs k) (endOf fs k) (startOf fs (suc k))
   separators (last h x) k l = absurd (omega arith)

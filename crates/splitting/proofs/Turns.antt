@@ -23,8 +23,8 @@ use Rattle.splitting.specs.Field.{Span, span, Next, field, none, Goes, i
 use Rattle.splitting.specs.Meaning.{Ordered}
 use Rattle.splitting.proofs.Runs.{not-in}
 
--- A test is true, or is not, by the fact that it tests. Both kinds of tests are listed, and both facts are given where both hold, so that the laws on
--- a turn below hang on what is tested and not on how.
+-- A test is true, or is not, by the fact that it tests. Both kinds of tests are listed, and both facts are given where
+-- both hold, so that the laws on a turn below hang on what is tested and not on how.
 ruleset holds = (lt-ltb, le-leb)
 
 ruleset fails = (le-ltb, lt-leb)
@@ -71,7 +71,7 @@ module _ (text : List ℕ) where
   unfolding nextField
   ere-field e at h = (bestFrom accepts text e at 1, best-from accepts text e at 1, simp holds)
 
-  -- behind the end is no field
+  -- after the end is no field
   pub next-past : (s : Separator) (at : ℕ) → length text < at → nextField text s at ≡ none
   unfolding nextField
   next-past (blank set) at h = blank-past set at (omega arith)
@@ -160,7 +160,7 @@ module _ (text : List ℕ) where
 
     -- ---- in order
 
-    -- those from b on stand behind any place before b
+    -- those from b on come after any place before b
     ordered-in : (n at b : ℕ) → at ≤ b → at ≤ length text → Ordered (length text) at (fieldsIn text s n b)
     unfolding fieldsIn
     ordered-in zero at b h k = k

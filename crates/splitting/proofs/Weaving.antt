@@ -1,4 +1,4 @@
--- The fields of a record, with what stands before, between and behind them, are the record.
+-- The fields of a record, with what is before, between and after them, are the record.
 use mathlib.Core.Path.{_≡_, refl, sym, ap, subst, _∙_}
 use mathlib.Core.List.{List, [], _∷_, _++_, append-nil}
 use Prim.Native.Nat.{ℕ, _+_, _-_, _≤_}
@@ -16,7 +16,7 @@ pub holds-of : (R : List ℕ → List (List ℕ) → Type 0) {t u : List ℕ} {f
 holds-of R {u} {fs} e g h = subst (λ (l : List ℕ). R l fs) (sym e) (subst (R u) (sym g) h)
 
 module _ (text : List ℕ) where
-  -- a part and what stands behind it
+  -- a part and what comes after it
   pub part-rest : (a n b : ℕ) → a + n ≡ b → part a n text ++ drop b text ≡ drop a text
   unfolding part
   part-rest a n b e =

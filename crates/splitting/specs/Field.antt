@@ -19,7 +19,7 @@ pub record Span : Type 0 where
 abbrev pub span : ℕ → ℕ → Span
 span a n = record { start = a; size = n }
 
--- the next field, and the place from which on the one behind it is looked for; or that there is none
+-- the next field, and the place from which on the one after it is looked for; or that there is none
 pub data Next : Type 0 where
   field : Span → ℕ → Next
   none : Next
@@ -45,13 +45,15 @@ module _ (text : List ℕ) where
       let n = leading (isIn false set) (drop s text) in
       cond (ltb s (length text)) (field (span s n) (s + n)) none
 
-  -- Behind the last separator stands a field, be it empty; the place behind the texts end is behind the last field.
+  -- After the last separator there is a field, which may be empty; the place after the text's end is the one after the
+  -- last field.
   unfoldable pub nextField : Separator → ℕ → Next
   nextField (blank set) at = wordFrom set (at + leading (isIn true set) (drop at text))
   nextField (byte b) at =
       let n = firstByte b (drop at text) in
       cond (leb at (length text)) (field (span at n) (suc (at + n))) none
-  -- "each separator starts at the leftmost place after the last separator where a nonempty match exists, and is the longest there"
+  -- "each separator starts at the leftmost place after the last separator where a nonempty match exists, and is the
+  -- longest there"
   nextField (ere e) at = cond (leb at (length text)) (untilSeparator at (length text) (bestFrom accepts text e at 1)) none
 
   abbrev pub follow : (ℕ → List Span) → Next → List Span

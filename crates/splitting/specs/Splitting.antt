@@ -1,5 +1,6 @@
--- Document 01, "Outcomes": "Public split: 15, 18, 16, count 0"; and its first section: "for a number k, a field is handed back as the part of the
--- record itself (k = 0 the whole record; k above the count, and any k of a refused record, the empty part at its end)".
+-- Document 01, "Outcomes": "Public split: 15, 18, 16, count 0"; and its first section: "for a number k, a field is
+-- handed back as the part of the record itself (k = 0 the whole record; k above the count, and any k of a refused
+-- record, the empty part at its end)".
 use mathlib.Core.Bool.{cond}
 use mathlib.Core.List.{List}
 use mathlib.Core.Option.{Option, some, none}

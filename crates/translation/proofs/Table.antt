@@ -1,6 +1,6 @@
--- Texts, and what document 01 makes of them: a row breaks where a rule is read otherwise. "Tokens and grammar", "Outcomes"
--- (Translating) and "The image", in 01's order. Refusals have their outcome and place, texts that are accepted the length of
--- their image, and the last table has images.
+-- Texts, and what document 01 makes of them: a row breaks where a rule is read otherwise. "Tokens and grammar",
+-- "Outcomes" (Translating) and "The image", in 01's order. Refusals have their outcome and place, texts that are
+-- accepted the length of their image, and the last table has images.
 use mathlib.Core.Path.{_≡_, refl}
 use mathlib.Core.Bool.{Bool, true, _&&_}
 use mathlib.Core.List.{List, [], _∷_, _++_}
@@ -319,7 +319,8 @@ statement-rows =
     ∷ refused ";" 4 0
     ∷ refused "\n;{}" 4 1
     ∷ accepted "# c" 13
-    -- items: BEGIN and END have their `{` on the same line; nothing need follow a `}`; a pattern alone ends at newline, `;` or the text's end
+    -- items: BEGIN and END have their `{` on the same line; nothing need follow a `}`; a pattern alone ends at newline,
+    -- `;` or the text's end
     ∷ accepted "BEGIN{}END{}{}" 13
     ∷ refused "BEGIN\n{}" 4 5
     ∷ refused "END\n{}" 4 3

@@ -1,4 +1,5 @@
--- Internal: cited by private contracts only. What is claimed of translations, beside the contract of the code: a statement, proved in proofs/.
+-- Internal: cited by private contracts only. What is claimed of translations, beside the contract of the code: a
+-- statement, proved in proofs/.
 use mathlib.Core.Path.{_≡_}
 use mathlib.Core.Bool.{true}
 use mathlib.Core.List.{List}

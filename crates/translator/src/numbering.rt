@@ -8,7 +8,7 @@ use edition::Edition;
 use program_image::Counts;
 use program_image::Sections;
 
-// Numbers the words of a program that was read, in three passes; gives how many variables, constants and EREs there
+// Numbers the words of a program that was read, in three passes; returns how many variables, constants and EREs there
 // are, or 1 more than there is room for.
 pub fn number_words(
     s: &[u8],

@@ -45,7 +45,7 @@ notOf a = bind (truthOf a) (λ b. gives (truthValue (not b)))
 abbrev pub orderOf : ℤ → ℤ → Order
 orderOf x y = cond (isZero (x -ℤ y)) Equal (cond (negative (x -ℤ y)) Less Greater)
 
--- whether it is so, where the left side stands to the right one as the order says: less, equal, greater
+-- whether it is so, where the left side compares with the right one as the order says: less, equal, greater
 abbrev pub among : Bool → Bool → Bool → Order → Bool
 among l e g Less = l
 among l e g Equal = e
@@ -59,7 +59,8 @@ holds different = among true false true
 holds greater = among false false true
 holds at-least = among false true true
 
--- "Comparison is of numbers if both sides are numbers, unset, or numeric-looking field text; else of unsigned bytes, the shorter first."
+-- "Comparison is of numbers if both sides are numbers, unset, or numeric-looking field text; else of unsigned bytes,
+-- the shorter first."
 unfoldable pub compareOf : Comparison → Value → Value → Result Value
 compareOf o a b =
     cond (numeric a && numeric b)

@@ -69,7 +69,8 @@ nonempty l = not (eqb (length l) 0)
 abbrev pub nonzero : Result ℤ → Result Bool
 nonzero r = bind r (λ z. gives (not (isZero z)))
 
--- "Truth: numbers and numeric-looking field text nonzero, other texts nonempty, unset false; a numeric look takes the number here too (11, 12)."
+-- "Truth: numbers and numeric-looking field text nonzero, other texts nonempty, unset false; a numeric look takes the
+-- number here too (11, 12)."
 unfoldable pub truthOf : Value → Result Bool
 truthOf a = cond (numeric a) (nonzero (numberOf a)) (gives (nonempty (textOf a)))
 

@@ -1,4 +1,4 @@
--- A number by its groups from the front on: what is read so far, at a scale, and what the bytes behind it give.
+-- A number by its groups from the front on: what is read so far, at a scale, and what the bytes after it give.
 use mathlib.Core.Path.{_≡_, refl, sym, ap, subst, _∙_}
 use mathlib.Core.Bool.{Bool, true, false, cond, not, _&&_}
 use mathlib.Core.List.{List}
@@ -17,7 +17,7 @@ use Rattle.image_format.specs.Numbers.{above, takeGroups, bounded, takeNumber}
 use Rattle.varint.specs.Take.{TakesAt, lastOf}
 use Rattle.varint.specs.declared.numbers.Taken.the-variants.{Number, Nothing}
 
--- what is read so far, with what stands behind it; behind others a 0 is needless
+-- what is read so far, with what comes after it; after others a 0 is needless
 abbrev pub combined : ℕ → ℕ → Option (Parsed ℕ) → Option (Parsed ℕ)
 combined v s none = none
 combined v s (some r) = cond (eqb (r .value) 0 && not (eqb s 1)) none (parsed (v + s * r .value) (r .rest))

@@ -1,4 +1,5 @@
--- A number written to a room, group by group: with what is left of the number, a room comes to the same as at the start.
+-- A number written to a room, group by group: with what is left of the number, a room comes to the same as at the
+-- start.
 use mathlib.Core.Path.{_≡_, refl, sym, ap, _∙_}
 use mathlib.Core.Bool.{Bool, true, false, cond}
 use mathlib.Core.List.{List, [], _∷_}

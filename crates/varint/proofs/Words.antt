@@ -28,7 +28,7 @@ all-sets room k (x ∷ l) = all-sets (withOne room k x) (suc k) l ∙ ap (λ (r 
 pub all-fits : (room : List ℕ) (k : ℕ) (l : List ℕ) → k + length l ≤ length room → withAll room k l ≡ take k room ++ l ++ drop (k + length l) room
 all-fits room k l h = all-sets room k l ∙ sets-eq l room k h
 
--- one list behind the other
+-- one list after the other
 pub all-append : (room : List ℕ) (k : ℕ) (a b : List ℕ) → withAll room k (a ++ b) ≡ withAll (withAll room k a) (k + length a) b
 unfolding withAll
 all-append room k [] b = ap (λ (n : ℕ). withAll room n b) (sym (add-zero k))

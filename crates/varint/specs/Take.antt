@@ -1,4 +1,5 @@
--- Internal: cited by private contracts only. What an answer of the code says: `takeNumber` of `image_format` on the bytes from a place on.
+-- Internal: cited by private contracts only. What an answer of the code says: `takeNumber` of `image_format` on the
+-- bytes from a place on.
 use mathlib.Core.Path.{_≡_}
 use mathlib.Core.Bool.{cond, not, _&&_}
 use mathlib.Core.List.{List}

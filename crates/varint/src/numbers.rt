@@ -7,7 +7,7 @@ ghost use lib.Dec.{eqb};
 ghost use Rattle.varint.specs.Take.{TakesAt, lastOf};
 use edition::Edition;
 
-// A number and the place behind it, or that there is none.
+// A number and the place after it, or that there is none.
 pub enum Taken {
     Number(u64, usize),
     Nothing,
@@ -16,14 +16,15 @@ pub enum Taken {
 // Groups of a number at most, but for the last.
 const GROUPS: usize = 7;
 
-// Whether the last group g is needless: a 0 behind other groups.
+// Tells whether the last group g is needless: a 0 after other groups.
 fn needless(scale: u64, g: u64) -> bool
     ensures { λ r. ⌜ r ≡ (eqb g 0 && not (eqb scale 1)) ⌝ }
 {
     g == 0 && scale != 1
 }
 
-// The number of which `value` is what was read so far, with the last group g, which counts `scale` times; its bytes end at `end`.
+// Returns the number of which `value` is what was read so far, with the last group g, which counts `scale` times; its
+// bytes end at `end`.
 fn last(value: u64, scale: u64, g: u64, end: usize) -> Taken
     requires { ⌜ (value < scale) × (scale ≤ 2 ^ 49) × (g < 128) ⌝ }
     ensures { λ r. ⌜ r ≡ lastOf value scale g end ⌝ }
@@ -38,7 +39,7 @@ fn last(value: u64, scale: u64, g: u64, end: usize) -> Taken
     Taken::Number(n, end)
 }
 
-// The number whose bytes start at `at`.
+// Reads the number whose bytes start at `at`.
 pub fn take_number(image: &[u8], at: usize) -> Taken
     requires { ⌜ at ≤ length (now image) ⌝ }
     ensures { λ r. ⌜ TakesAt (now (image .entry)) at r ⌝ }

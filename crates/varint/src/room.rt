@@ -15,7 +15,7 @@ pub fn put_byte(room: &mut [u8], k: usize, x: u8)
     }
 }
 
-// Writes a number from byte k on, the low group first; the index behind it.
+// Writes a number from byte k on, the low group first; returns the index after it.
 pub fn put_number(room: &mut [u8], k: usize, n: u64) -> usize
     requires { ⌜ (n ≤ numberBound) × (k + 8 < 2 ^ 64) ⌝ }
     ensures { λ r. ⌜ (r ≡ k + length (coded n)) × (now (room .exit) ≡ withAll (now (room .entry)) k (coded n)) ⌝ }

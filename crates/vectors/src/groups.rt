@@ -21,7 +21,7 @@ pub enum Group {
     Ways,
 }
 
-// Whether the case in a frame's payload passes.
+// Tells whether the case in a frame's payload passes.
 pub fn passes(group: Group, p: &[u8]) -> bool {
     match group {
         Group::Limits => vectors_values::limits::passes(p),

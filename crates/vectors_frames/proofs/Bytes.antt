@@ -30,7 +30,8 @@ halves a p h =
     let high : a + 4 + 4 ≤ length p = omega arith in
     omega (arith, le-at 7 a p h, le-at 3 a p (omega arith), simp add-assoc at (le-at 3 (a + 4) p high))
 
--- a room x that is l with the first k elements of s at its front: one element more, all that l has room for, and all of s
+-- a room x that is l with the first k elements of s at its front: one element more, all that l has room for, and all of
+-- s
 module _ (l s : List ℕ) (k : ℕ) {x : List ℕ} (e : x ≡ put l 0 (take k s)) where
   pub loaded-more : k < length l → k < length s → set x k (getD s k 0) ≡ put l 0 (take (k + 1) s)
   loaded-more h hs =

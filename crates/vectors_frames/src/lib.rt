@@ -1,5 +1,5 @@
-// What every program that runs test cases from data files needs: numbers of a payload, the room of a case, the frames of a file, and a
-// group's line. Nothing here leans on a crate that is under test.
+// What every program that runs test cases from data files needs: numbers of a payload, the room of a case, the frames
+// of a file, and a group's line. Nothing here uses a crate that is under test.
 //
 // A program keeps its groups, the function that judges a case of each, and the walk through a group's file:
 //

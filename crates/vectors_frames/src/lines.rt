@@ -2,7 +2,8 @@
 use crate::tally::Tally;
 use libc::STDOUT_FILENO;
 
-// Opens a group's file, which has its name, and begins its line. Where there is no such file the line says so, and the answer is negative.
+// Opens a group's file, which has its name, and begins its line. Where there is no such file the line says so, and the
+// answer is negative.
 pub fn open(name: &[u8]) -> i32 {
     io::write_all(STDOUT_FILENO, name);
     io::write_all(STDOUT_FILENO, b": ");

@@ -9,13 +9,14 @@ ghost use Rattle.vectors_frames.specs.Payload.{numberAt, loaded};
 // The most bytes that the room of a case has: as many as `io::buffer` gives.
 pub const ROOM: usize = 4096;
 
+// Returns a byte as a word.
 pub fn wide(b: u8) -> u64
     ensures { λ r. ⌜ r ≡ b ⌝ }
 {
     b as u64
 }
 
-// The byte at an index; 0 where the payload has none.
+// Returns the byte at an index, 0 where the payload has none.
 pub fn byte(p: &[u8], at: usize) -> u8
     ensures { λ r. ⌜ r ≡ getD (now (p .entry)) at 0 ⌝ }
 {
@@ -25,7 +26,7 @@ pub fn byte(p: &[u8], at: usize) -> u8
     p[at]
 }
 
-// A low byte below the bytes above it.
+// Returns the number of a low byte and the bytes above it.
 fn low(b: u8, above: u64) -> u64
     requires { ⌜ above < 2 ^ 56 ⌝ }
     ensures { λ r. ⌜ (r ≡ b + 256 * above) × (r < 256 * (above + 1)) ⌝ }
@@ -33,6 +34,7 @@ fn low(b: u8, above: u64) -> u64
     b as u64 + 256 * above
 }
 
+// Returns the number in the two bytes from an index on.
 fn two(p: &[u8], at: usize) -> u64
     requires { ⌜ at + 2 ≤ length (now p) ⌝ }
     ensures { λ r. ⌜ r ≡ leValue (part at 2 (now (p .entry))) ⌝ }
@@ -41,6 +43,7 @@ fn two(p: &[u8], at: usize) -> u64
     low(p[at], high)
 }
 
+// Returns the number in the four bytes from an index on.
 fn four(p: &[u8], at: usize) -> u64
     requires { ⌜ at + 4 ≤ length (now p) ⌝ }
     ensures { λ r. ⌜ (r ≡ leValue (part at 4 (now (p .entry)))) × (r < 2 ^ 32) ⌝ }
@@ -51,6 +54,7 @@ fn four(p: &[u8], at: usize) -> u64
     low(p[at], w1)
 }
 
+// Returns the number in the eight bytes from an index on.
 fn eight(p: &[u8], at: usize) -> u64
     requires { ⌜ at + 8 ≤ length (now p) ⌝ }
     ensures { λ r. ⌜ r ≡ leValue (part at 8 (now (p .entry))) ⌝ }
@@ -59,7 +63,7 @@ fn eight(p: &[u8], at: usize) -> u64
     four(p, at) + 4294967296 * high
 }
 
-// The number in the two bytes from an index on, the low byte first; 0 where the payload has no such bytes.
+// Returns the number in the two bytes from an index on, the low byte first; 0 where the payload has no such bytes.
 pub fn short(p: &[u8], at: usize) -> usize
     ensures { λ r. ⌜ r ≡ numberAt 2 at (now (p .entry)) ⌝ }
 {
@@ -72,7 +76,7 @@ pub fn short(p: &[u8], at: usize) -> usize
     two(p, at) as usize
 }
 
-// The number in the eight bytes from an index on, the low byte first; 0 where the payload has no such bytes.
+// Returns the number in the eight bytes from an index on, the low byte first; 0 where the payload has no such bytes.
 pub fn word(p: &[u8], at: usize) -> u64
     ensures { λ r. ⌜ r ≡ numberAt 8 at (now (p .entry)) ⌝ }
 {

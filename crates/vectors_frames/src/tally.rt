@@ -6,7 +6,8 @@ ghost use Rattle.vectors_frames.specs.Tally.{begun, after, more, verdict
 // More frames than any file has. A proved loop has to end, and nothing says that a file does.
 const FRAMES: u64 = 1000000000;
 
-// What is known of a frame: its case passed or failed, the file ends inside it, or there is none, since the file is at its end.
+// What is known of a frame: its case passed or failed, the file ends inside it, or there is none, since the file is at
+// its end.
 pub enum Verdict {
     Passed,
     Failed,
@@ -21,6 +22,7 @@ pub struct Tally {
     pub left: u64,
 }
 
+// Returns the tally of no case.
 pub fn start() -> Tally
     ensures { λ r. ⌜ r ≡ begun ⌝ }
 {
@@ -31,6 +33,7 @@ pub fn start() -> Tally
     }
 }
 
+// Returns the verdict on a case.
 pub fn judged(passed: bool) -> Verdict
     ensures { λ r. ⌜ r ≡ verdictOf passed ⌝ }
 {
@@ -41,21 +44,21 @@ pub fn judged(passed: bool) -> Verdict
     }
 }
 
-// One more. The greatest number stays.
+// Returns a number and 1; the greatest number stays.
 fn one_more(n: u64) -> u64
     ensures { λ r. ⌜ r ≡ more n ⌝ }
 {
     if n < u64::MAX { n + 1 } else { n }
 }
 
-// One less. 0 stays.
+// Returns a number less 1; 0 stays.
 fn one_less(n: u64) -> u64
     ensures { λ r. ⌜ r ≡ n - 1 ⌝ }
 {
     if 0 < n { n - 1 } else { n }
 }
 
-// A tally with one look more. A cut frame counts as one that did not pass.
+// Counts one look more. A frame that is cut counts as a case that did not pass.
 pub fn counted(t: Tally, v: Verdict) -> Tally
     ensures { λ r. ⌜ r ≡ after t v ⌝ }
 {

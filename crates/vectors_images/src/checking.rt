@@ -4,7 +4,7 @@
 use edition::Outcome;
 use image_check::Verdict;
 
-// The number of a verdict.
+// Returns the number of a verdict.
 fn number(v: Verdict) -> u64 {
     match v {
         Verdict::Accepted => Outcome::DONE,
@@ -13,6 +13,7 @@ fn number(v: Verdict) -> u64 {
     }
 }
 
+// Tells whether the case in a payload passes.
 pub fn passes(p: &[u8]) -> bool {
     if p.len() < 1 {
         return false;

@@ -1,6 +1,7 @@
 // The content of an image, from its bytes.
 //
-// Payload: the outcome, the words of the room, 2 bytes, the words of the content, 2 bytes, 0 where the outcome is not 0, the content, 8 bytes a word, and the image.
+// Payload: the outcome, the words of the room, 2 bytes, the words of the content, 2 bytes, 0 where the outcome is not
+// 0, the content, 8 bytes a word, and the image.
 use edition::Outcome;
 use image::Copied;
 
@@ -10,7 +11,7 @@ const ROOM: usize = 4096;
 // What a word of the room has before.
 const BEFORE: u64 = 0xa5a5a5a5a5a5a5a5;
 
-// Whether an answer is as a payload says, in its first byte and the two bytes from 3 on.
+// Tells whether an answer is as a payload says, in its first byte and the two bytes from 3 on.
 pub fn answers(p: &[u8], c: Copied) -> bool {
     let outcome = vectors_frames::wide(vectors_frames::byte(p, 0));
     let count = vectors_frames::short(p, 3);
@@ -21,7 +22,7 @@ pub fn answers(p: &[u8], c: Copied) -> bool {
     }
 }
 
-// What word k of the room has after.
+// Returns what word k of the room has after.
 fn after(content: &[u8], k: usize) -> u64 {
     if k < content.len() / 8 {
         return vectors_frames::word(content, 8 * k);
@@ -29,7 +30,7 @@ fn after(content: &[u8], k: usize) -> u64 {
     BEFORE
 }
 
-// Whether the room has the content in front, and is as before behind it.
+// Tells whether the room has the content in front, and is as before after it.
 fn is_after(room: &[u64], content: &[u8]) -> bool {
     let mut k = 0;
     while k < room.len() {
@@ -41,6 +42,7 @@ fn is_after(room: &[u64], content: &[u8]) -> bool {
     true
 }
 
+// Reads an image, and tells whether the answer and the room are as the payload says.
 fn runs(p: &[u8], content: &[u8], image: &[u8]) -> bool {
     let n = vectors_frames::short(p, 1);
     if ROOM < n {
@@ -51,6 +53,7 @@ fn runs(p: &[u8], content: &[u8], image: &[u8]) -> bool {
     answers(p, image::read(image, room)) && is_after(room, content)
 }
 
+// Tells whether the case in a payload passes.
 pub fn passes(p: &[u8]) -> bool {
     if p.len() < 5 {
         return false;

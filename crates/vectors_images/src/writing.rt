@@ -1,6 +1,7 @@
 // The bytes of an image, from its content.
 //
-// Payload: the outcome, the bytes of the room, 2 bytes, the bytes of the image, 2 bytes, 0 where the outcome is not 0, the image, and the content, 8 bytes a word.
+// Payload: the outcome, the bytes of the room, 2 bytes, the bytes of the image, 2 bytes, 0 where the outcome is not 0,
+// the image, and the content, 8 bytes a word.
 use crate::reading;
 
 // The most bytes that the room of a case has.
@@ -12,7 +13,7 @@ const CONTENT: usize = 4096;
 // What a byte of the room has before.
 const BEFORE: u8 = 0xa5;
 
-// Whether the room has the image in front, and is as before behind it.
+// Tells whether the room has the image in front, and is as before after it.
 fn is_after(room: &[u8], image: &[u8]) -> bool {
     let n = room.len();
     let m = image.len();
@@ -35,6 +36,7 @@ fn load(words: &mut [u64], bytes: &[u8]) {
     }
 }
 
+// Writes an image, and tells whether the answer and the room are as the payload says.
 fn runs(p: &[u8], image: &[u8], bytes: &[u8]) -> bool {
     let n = vectors_frames::short(p, 1);
     if ROOM < n {
@@ -52,6 +54,7 @@ fn runs(p: &[u8], image: &[u8], bytes: &[u8]) -> bool {
     reading::answers(p, image::write(content, room)) && is_after(room, image)
 }
 
+// Tells whether the case in a payload passes.
 pub fn passes(p: &[u8]) -> bool {
     if p.len() < 5 {
         return false;

@@ -9,7 +9,7 @@ const MOST: usize = 4096;
 
 const OLD: u8 = 165;
 
-// Returns whether what a run answers is as the payload says.
+// Tells whether what a run answers is as the payload says.
 fn answers(p: &[u8], a: Answer) -> bool {
     if vectors_frames::wide(vectors_frames::byte(p, 0)) != a.outcome {
         return false;
@@ -19,7 +19,7 @@ fn answers(p: &[u8], a: Answer) -> bool {
         && vectors_frames::short(p, 27) as u64 == a.bytes
 }
 
-// Returns whether an output room has what was written in front, and is as it was beyond.
+// Tells whether an output room has what was written in front, and is as it was beyond.
 fn shows(output: &[u8], written: &[u8]) -> bool {
     let end = written.len();
     let n = output.len();
@@ -56,6 +56,7 @@ pub fn runs(
     answers(p, a) && shows(room, written)
 }
 
+// Tells whether the case in a payload passes.
 pub fn passes(p: &[u8]) -> bool {
     if p.len() < 31 {
         return false;

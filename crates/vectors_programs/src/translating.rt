@@ -1,13 +1,14 @@
 // The translation of a filter text.
 //
-// Payload: the outcome, the place, the size of the image room and the image's length, 2 bytes each, 0 where the outcome is not 0, the image and the text.
+// Payload: the outcome, the place, the size of the image room and the image's length, 2 bytes each, 0 where the outcome
+// is not 0, the image and the text.
 
 // The most bytes that an image room has here, and what is in it before.
 const MOST: usize = 16384;
 
 const OLD: u8 = 165;
 
-// Returns whether a room has the bytes in front, and is as it was beyond.
+// Tells whether a room has the bytes in front, and is as it was beyond.
 fn shows(room: &[u8], bytes: &[u8]) -> bool {
     let end = bytes.len();
     let n = room.len();
@@ -35,6 +36,7 @@ fn translates(p: &[u8], image: &[u8], text: &[u8], size: usize) -> bool {
     vectors_frames::short(p, 1) == t.place && shows(room, image)
 }
 
+// Tells whether the case in a payload passes.
 pub fn passes(p: &[u8]) -> bool {
     if p.len() < 7 {
         return false;

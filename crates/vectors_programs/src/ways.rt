@@ -46,6 +46,7 @@ fn goes(
     )
 }
 
+// Tells whether the case in a payload passes.
 pub fn passes(p: &[u8]) -> bool {
     if p.len() < 31 {
         return false;

@@ -40,13 +40,14 @@ fn loads(work: &mut [u8; ROOM], p: &[u8]) -> bool {
         && slots::set(work, 2, slots::value(p, 3))
 }
 
-// Returns whether the first of them has what is expected, and the others what they had.
+// Tells whether the first of them has what is expected, and the others what they had.
 fn leaves(work: &[u8; ROOM], p: &[u8]) -> bool {
     slots::has(work, 0, slots::value(p, 0))
         && slots::has(work, 1, slots::value(p, 2))
         && slots::has(work, 2, slots::value(p, 3))
 }
 
+// Tells whether the case in a payload passes.
 pub fn passes(p: &[u8]) -> bool {
     if p.len() < 2 {
         return false;

@@ -36,7 +36,7 @@ fn loads(work: &mut [u8; ROOM], rest: &[u8]) -> bool {
         && slots::set(work, FIELD, slots::value(rest, 10))
 }
 
-// Returns whether an assignment has left its value, or its operands where it stops.
+// Tells whether an assignment has left its value, or its operands where it stops.
 fn leaves(work: &[u8; ROOM], a: usize, outcome: u8, number: &[u8], assigned: &[u8]) -> bool
     requires { ⌜ a + 1 < operandDepth ⌝ }
 {
@@ -46,7 +46,7 @@ fn leaves(work: &[u8; ROOM], a: usize, outcome: u8, number: &[u8], assigned: &[u
     slots::has(work, a, assigned) && slots::has(work, a + 1, assigned)
 }
 
-// Returns whether the assignments have left what they should.
+// Tells whether the assignments have left what they should.
 fn both_leave(work: &[u8; ROOM], p: &[u8], rest: &[u8]) -> bool {
     let first = vectors_frames::byte(p, 1);
     let second = vectors_frames::byte(p, 2);
@@ -60,14 +60,14 @@ fn both_leave(work: &[u8; ROOM], p: &[u8], rest: &[u8]) -> bool {
         )
 }
 
-// Returns whether the record, the number of fields and the field are as expected.
+// Tells whether the record, the number of fields and the field are as expected.
 fn shows(work: &[u8; ROOM], rest: &[u8]) -> bool {
     slots::has(work, RECORD, slots::value(rest, 0))
         && slots::has(work, COUNT, slots::value(rest, 1))
         && slots::has(work, FIELD, slots::value(rest, 2))
 }
 
-// Returns whether one of the payload's outcomes is this one.
+// Tells whether one of the payload's outcomes is this one.
 fn is_outcome(p: &[u8], at: usize, outcome: u64) -> bool {
     vectors_frames::wide(vectors_frames::byte(p, at)) == outcome
 }
@@ -142,6 +142,7 @@ fn runs(work: &mut [u8; ROOM], p: &[u8], rest: &[u8]) -> bool {
     answers(work, &t, kind, edition, p, record)
 }
 
+// Tells whether the case in a payload passes.
 pub fn passes(p: &[u8]) -> bool {
     if p.len() < 12 {
         return false;

@@ -100,7 +100,7 @@ pub fn set(work: &mut [u8; ROOM], i: usize, v: &[u8]) -> bool {
     }
 }
 
-// Returns whether a slot has a value of a payload: its kind, and its number or its text.
+// Tells whether a slot has a value of a payload: its kind, and its number or its text.
 pub fn has(work: &[u8; ROOM], i: usize, v: &[u8]) -> bool {
     if run_room::SLOTS <= i {
         return false;

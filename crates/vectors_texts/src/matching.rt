@@ -1,11 +1,11 @@
 // The leftmost, longest match of an ERE in a text.
 //
-// Payload: the outcome, whether there is a match, its start from 0 and its length, 2 bytes each, 0 where there is none, the ERE's
-// length, 2 bytes, the ERE and the text.
+// Payload: the outcome, whether there is a match, its start from 0 and its length, 2 bytes each, 0 where there is none,
+// the ERE's length, 2 bytes, the ERE and the text.
 use edition::Outcome;
 use ere::Matched;
 
-// Whether a match, or that there is none, is as the payload says.
+// Tells whether a match, or that there is none, is as the payload says.
 fn spans(p: &[u8], is_found: u8, start: usize, length: usize) -> bool {
     if vectors_frames::byte(p, 1) != is_found {
         return false;
@@ -13,7 +13,7 @@ fn spans(p: &[u8], is_found: u8, start: usize, length: usize) -> bool {
     vectors_frames::short(p, 2) == start && vectors_frames::short(p, 4) == length
 }
 
-// Whether what a search answers is as the payload says.
+// Tells whether what a search answers is as the payload says.
 fn answers(p: &[u8], m: Matched) -> bool {
     let outcome = vectors_frames::wide(vectors_frames::byte(p, 0));
     match m {
@@ -24,6 +24,7 @@ fn answers(p: &[u8], m: Matched) -> bool {
     }
 }
 
+// Tells whether the case in a payload passes.
 pub fn passes(p: &[u8]) -> bool {
     if p.len() < 8 {
         return false;

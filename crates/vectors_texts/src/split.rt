@@ -1,10 +1,11 @@
 // The fields of a record, counted.
 //
-// Payload: the outcome, the count, 2 bytes, 0 where the outcome is not 0, the separator's length, 2 bytes, the separator and the record.
+// Payload: the outcome, the count, 2 bytes, 0 where the outcome is not 0, the separator's length, 2 bytes, the
+// separator and the record.
 use edition::Outcome;
 use fields::Splitting;
 
-// Whether what a split answers is as the payload says, in its first three bytes.
+// Tells whether what a split answers is as the payload says, in its first three bytes.
 pub fn answers(p: &[u8], s: Splitting) -> bool {
     let outcome = vectors_frames::wide(vectors_frames::byte(p, 0));
     let count = vectors_frames::short(p, 1);
@@ -16,6 +17,7 @@ pub fn answers(p: &[u8], s: Splitting) -> bool {
     }
 }
 
+// Tells whether the case in a payload passes.
 pub fn passes(p: &[u8]) -> bool {
     if p.len() < 5 {
         return false;

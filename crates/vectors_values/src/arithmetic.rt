@@ -1,11 +1,12 @@
 // The operators on numbers.
 //
-// Payload, 26 bytes: the operator by its code in document 01 (7 to 11: + - * / %, 12: negation, which looks at the left operand
-// alone), the left and the right operand, 8 bytes each, the outcome, and the result, 8 bytes, 0 where the outcome is not 0.
+// Payload, 26 bytes: the operator by its code in document 01 (7 to 11: + - * / %, 12: negation, which looks at the left
+// operand alone), the left and the right operand, 8 bytes each, the outcome, and the result, 8 bytes, 0 where the
+// outcome is not 0.
 use edition::Outcome;
 use number::Computed;
 
-// Whether what an operator gives has the outcome and the result that are expected.
+// Tells whether what an operator gives has the outcome and the result that are expected.
 fn gives(c: Computed, outcome: u64, result: u64) -> bool {
     match c {
         Computed::Number(w) => outcome == Outcome::DONE && result == w,
@@ -15,7 +16,7 @@ fn gives(c: Computed, outcome: u64, result: u64) -> bool {
     }
 }
 
-// The same of the operator with a code, where the operands are numbers and there is such an operator.
+// Tells the same of the operator with a code, where the operands are numbers and there is such an operator.
 fn computes(code: u8, a: u64, b: u64, outcome: u64, result: u64) -> bool {
     if number::TOP < a {
         return false;
@@ -34,6 +35,7 @@ fn computes(code: u8, a: u64, b: u64, outcome: u64, result: u64) -> bool {
     }
 }
 
+// Tells whether the case in a payload passes.
 pub fn passes(p: &[u8]) -> bool {
     if p.len() != 26 {
         return false;

@@ -1,8 +1,10 @@
 // Comparison of byte strings.
 //
-// Payload: how the first stands to the second (0 less, 1 equal, 2 greater), the first's length, 2 bytes, the first, the second.
+// Payload: how the first compares with the second (0 less, 1 equal, 2 greater), the first's length, 2 bytes, the first,
+// the second.
 use buffer::Order;
 
+// Returns the payload's number of an order.
 fn order(o: Order) -> u8 {
     match o {
         Order::Less => 0,
@@ -11,11 +13,12 @@ fn order(o: Order) -> u8 {
     }
 }
 
-// Whether `compare` and `equal` say what is expected.
+// Tells whether `compare` and `equal` say what is expected.
 fn stands(a: &[u8], b: &[u8], expected: u8) -> bool {
     order(buffer::compare(a, b)) == expected && buffer::equal(a, b) == (expected == 1)
 }
 
+// Tells whether the case in a payload passes.
 pub fn passes(p: &[u8]) -> bool {
     if p.len() < 3 {
         return false;

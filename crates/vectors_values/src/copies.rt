@@ -1,7 +1,8 @@
 // Copies and fills, on a whole room.
 //
-// Payload: the kind (0 `copy`, 1 `copy_within`, 2 `fill`), the index to write at, the index to read from and the count, 2 bytes
-// each, the byte to fill with, the room's length, 2 bytes, the room before, the room after, and the bytes that `copy` copies.
+// Payload: the kind (0 `copy`, 1 `copy_within`, 2 `fill`), the index to write at, the index to read from and the count,
+// 2 bytes each, the byte to fill with, the room's length, 2 bytes, the room before, the room after, and the bytes that
+// `copy` copies.
 use vectors_frames::ROOM;
 
 // Runs `copy` on the room, if it fits.
@@ -43,7 +44,8 @@ fn filled(room: &mut [u8], at: usize, n: usize, b: u8) -> bool {
     true
 }
 
-// How many bytes there are to copy: as many as the count says, and none where the case does not copy from elsewhere.
+// Returns how many bytes there are to copy: as many as the count says, and none where the case does not copy from
+// elsewhere.
 fn source(p: &[u8]) -> usize {
     if vectors_frames::byte(p, 0) == 0 {
         return vectors_frames::short(p, 5);
@@ -78,6 +80,7 @@ fn runs(p: &[u8], before: &[u8], after: &[u8], src: &[u8]) -> bool {
     changes(p, room, src) && check::same(room, after)
 }
 
+// Tells whether the case in a payload passes.
 pub fn passes(p: &[u8]) -> bool {
     if p.len() < 10 {
         return false;

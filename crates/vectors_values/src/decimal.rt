@@ -1,10 +1,10 @@
 // Numbers as texts.
 //
-// Payload: the number, 8 bytes, the index to write at, 2 bytes, the text's length, 2 bytes, the room before and the room after,
-// which have the same length.
+// Payload: the number, 8 bytes, the index to write at, 2 bytes, the text's length, 2 bytes, the room before and the
+// room after, which have the same length.
 use vectors_frames::ROOM;
 
-// Writes a number into the room, if it fits. Whether its text has the length that is expected.
+// Writes a number into the room, if it fits, and tells whether its text has the length that is expected.
 fn writes(room: &mut [u8], at: usize, w: u64, length: usize) -> bool {
     if number::TOP < w {
         return false;
@@ -41,6 +41,7 @@ fn runs(p: &[u8], before: &[u8], after: &[u8]) -> bool {
     changes(p, room) && check::same(room, after)
 }
 
+// Tells whether the case in a payload passes.
 pub fn passes(p: &[u8]) -> bool {
     if p.len() < 12 {
         return false;

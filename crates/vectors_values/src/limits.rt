@@ -1,14 +1,14 @@
 // Sizes and outcome numbers.
 //
-// Payload, 10 bytes: the kind (0 a size, 1 an outcome, 2 a constant that another crate makes of a size), which of them, and its
-// value, 8 bytes.
+// Payload, 10 bytes: the kind (0 a size, 1 an outcome, 2 a constant that another crate makes of a size), which of them,
+// and its value, 8 bytes.
 use edition::Edition;
 use edition::Outcome;
 
 // More than any number of the tables.
 const NONE: u64 = u64::MAX;
 
-// The sizes of document 01, in its order.
+// Returns a size of document 01, in its order.
 fn size(which: u8) -> u64 {
     let l = Edition::limits();
     match which {
@@ -31,13 +31,13 @@ fn size(which: u8) -> u64 {
     }
 }
 
-// The outcome number in a row of document 01's table.
+// Returns the outcome number in a row of document 01's table.
 fn outcome(row: usize) -> u64 {
     let numbers = Outcome::numbers();
     if row < 20 { numbers[row] } else { NONE }
 }
 
-// What 0, the greatest number and the length of the longest number's text are.
+// Returns what 0, the greatest number or the length of the longest number's text is.
 fn made(which: u8) -> u64 {
     match which {
         0 => number::ZERO,
@@ -47,6 +47,7 @@ fn made(which: u8) -> u64 {
     }
 }
 
+// Returns the value that a kind and a number of the payload name.
 fn value(kind: u8, which: u8) -> u64 {
     match kind {
         0 => size(which),
@@ -56,6 +57,7 @@ fn value(kind: u8, which: u8) -> u64 {
     }
 }
 
+// Tells whether the case in a payload passes.
 pub fn passes(p: &[u8]) -> bool {
     if p.len() != 10 {
         return false;

@@ -1,12 +1,12 @@
 // Texts as numbers.
 //
-// Payload: the outcome, the number, 8 bytes, 0 where the outcome is not 0, the length of the numeric prefix, 2 bytes, whether the
-// text looks numeric, and the text.
+// Payload: the outcome, the number, 8 bytes, 0 where the outcome is not 0, the length of the numeric prefix, 2 bytes,
+// whether the text looks numeric, and the text.
 use edition::Outcome;
 use numeral::Reading;
 use numeral::Value;
 
-// Whether a text's number is as the payload says.
+// Tells whether a text's number is as the payload says.
 fn valued(v: Value, outcome: u64, number: u64) -> bool {
     match v {
         Value::Is(w) => outcome == Outcome::DONE && number == w,
@@ -15,11 +15,12 @@ fn valued(v: Value, outcome: u64, number: u64) -> bool {
     }
 }
 
+// Returns 1 for true and 0 for false.
 fn one_or_zero(b: bool) -> u8 {
     if b { 1 } else { 0 }
 }
 
-// Whether what was read is as the payload says.
+// Tells whether what was read is as the payload says.
 fn agrees(p: &[u8], r: Reading) -> bool {
     if r.length != vectors_frames::short(p, 9) {
         return false;
@@ -35,6 +36,7 @@ fn agrees(p: &[u8], r: Reading) -> bool {
     )
 }
 
+// Tells whether the case in a payload passes.
 pub fn passes(p: &[u8]) -> bool {
     if p.len() < 12 {
         return false;

@@ -1,9 +1,10 @@
 // The first place of a byte, or of a part.
 //
-// Payload: 0 for a byte, that byte, the index, 2 bytes, the length where there is none, and the text; or 1 for a part, whether it
-// is found, its index, 2 bytes, 0 where it is not, the part's length, 2 bytes, the part and the text.
+// Payload: 0 for a byte, that byte, the index, 2 bytes, the length where there is none, and the text; or 1 for a part,
+// whether it is found, its index, 2 bytes, 0 where it is not, the part's length, 2 bytes, the part and the text.
 use buffer::Found;
 
+// Tells whether a part was found where the payload says.
 fn found(f: Found, is_found: u8, at: usize) -> bool {
     match f {
         Found::At(k) => is_found == 1 && at == k,
@@ -11,6 +12,7 @@ fn found(f: Found, is_found: u8, at: usize) -> bool {
     }
 }
 
+// Tells whether the first place of a byte is as the payload says.
 fn finds_byte(p: &[u8]) -> bool {
     if p.len() < 4 {
         return false;
@@ -18,6 +20,7 @@ fn finds_byte(p: &[u8]) -> bool {
     buffer::first_byte(&p[4..], p[1]) == vectors_frames::short(p, 2)
 }
 
+// Tells whether the first place of a part is as the payload says.
 fn finds_part(p: &[u8]) -> bool {
     if p.len() < 6 {
         return false;
@@ -34,6 +37,7 @@ fn finds_part(p: &[u8]) -> bool {
     )
 }
 
+// Tells whether the case in a payload passes.
 pub fn passes(p: &[u8]) -> bool {
     if p.len() == 0 {
         return false;

@@ -1,8 +1,8 @@
 // Numbers in bytes.
 //
-// Payload: the width (8 for `get_word` and `put_word`, 2 for `get_short` and `put_short`), the index, 2 bytes, the number, 8 bytes,
-// the room before the number is put and the room after it, which have the same length. It is got back from the room, which is then
-// compared with the room after.
+// Payload: the width (8 for `get_word` and `put_word`, 2 for `get_short` and `put_short`), the index, 2 bytes, the
+// number, 8 bytes, the room before the number is put and the room after it, which have the same length. It is got back
+// from the room, which is then compared with the room after.
 use vectors_frames::ROOM;
 
 // Puts a number in eight bytes, if they fit, and gets it back.
@@ -17,7 +17,7 @@ fn word(room: &mut [u8], at: usize, w: u64) -> bool {
     buffer::get_word(room, at) == w
 }
 
-// The same in two bytes.
+// Puts a number in two bytes, if they fit, and gets it back.
 fn short(room: &mut [u8], at: usize, w: u64) -> bool {
     if 65535 < w {
         return false;
@@ -55,6 +55,7 @@ fn runs(p: &[u8], before: &[u8], after: &[u8]) -> bool {
     changes(p, room) && check::same(room, after)
 }
 
+// Tells whether the case in a payload passes.
 pub fn passes(p: &[u8]) -> bool {
     if p.len() < 11 {
         return false;

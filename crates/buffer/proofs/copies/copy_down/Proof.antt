@@ -1,4 +1,5 @@
--- `copy_down` meets its contract: after k turns the first k bytes of the part are copied, and the byte read next stands behind them.
+-- `copy_down` meets its contract: after k turns the first k bytes of the part are copied, and the byte read next comes
+-- after them.
 use Prim.Native.Nat.{ℕ, _+_, _-_, _≤_}
 use native.Mathlib.Omega.{arith}
 use mathlib.Core.Path.{_≡_, sym, ap, _∙_}

@@ -1,4 +1,5 @@
--- `copy_up` meets its contract: with k turns to go all but the first k bytes of the part are copied, and the byte read next stands before them.
+-- `copy_up` meets its contract: with k turns to go all but the first k bytes of the part are copied, and the byte read
+-- next comes before them.
 use Prim.Native.Nat.{ℕ, _+_, _-_, _≤_}
 use native.Mathlib.Omega.{arith}
 use mathlib.Core.Path.{_≡_, sym, ap, ap₂, _∙_}

@@ -1,4 +1,4 @@
--- A group and its turns: each kind of turn is a move, and the loop keeps what stands.
+-- A group and its turns: each kind of turn is a move, and the loop keeps what holds.
 use mathlib.Core.Path.{_≡_, refl, sym, subst}
 use mathlib.Core.Bool.{cond}
 use Prim.Native.Nat.{ℕ, _<_, suc, _+_, _*_, _-_}

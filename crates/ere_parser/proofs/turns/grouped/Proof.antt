@@ -8,7 +8,7 @@ use borrow.Author.Needs.{needs}
 use Rattle.ere_parser.proofs.turns.grouped.Statement.{statement}
 use Rattle.ere_parser.proofs.turns.grouped.Tie as tie
 
--- `grouped`: by the group's answer and the byte behind it.
+-- `grouped`: by the group's answer and the byte after it.
 
 refused-requires : tie.Need-refused-requires
 refused-requires c κs = search needs

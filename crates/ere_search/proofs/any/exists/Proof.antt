@@ -1,4 +1,5 @@
--- `exists` meets its contract: if the table is sealed, live is what may come next at i after the starts before i, and no walk could stop before i.
+-- `exists` meets its contract: if the table is sealed, live is what may come next at i after the starts before i, and
+-- no walk could stop before i.
 use mathlib.Core.Bool.{true, false}
 use mathlib.Core.Path.{_≡_, refl, sym, _∙_}
 use Prim.Native.Nat.{ℕ, _+_, _-_, _≤_, _<_}

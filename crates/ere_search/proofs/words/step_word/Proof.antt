@@ -1,4 +1,5 @@
--- `step_word` meets its contract: what is left of the word, from what is gathered so far, gives what the whole word gives.
+-- `step_word` meets its contract: what is left of the word, from what is gathered so far, gives what the whole word
+-- gives.
 use lib.Count.{trailingZeros, trailing-le}
 use lib.Pow.{pow-pos}
 use Prim.Native.Nat.{_^_, _<_}

@@ -1,4 +1,5 @@
--- `sections` meets its contract: each section starts where the one before it ends, and the last ends where the image does.
+-- `sections` meets its contract: each section starts where the one before it ends, and the last ends where the image
+-- does.
 use Rattle.image_check.proofs.Deciding.{first-refused, second-refused, third-judged}
 use borrow.Author.Tests.{not-true, not-false}
 use borrow.Author.Needs.{needs}

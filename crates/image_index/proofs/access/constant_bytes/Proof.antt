@@ -1,4 +1,4 @@
--- `constant_bytes` meets its contract: the constant that stands at the entry's place is the one that the entry tells.
+-- `constant_bytes` meets its contract: the constant that is at the entry's place is the one that the entry tells.
 use lib.ListN.{getD}
 use Rattle.buffer.specs.Parts.{part}
 use Rattle.image_index.proofs.Reaching.{is-part, constant-reached}

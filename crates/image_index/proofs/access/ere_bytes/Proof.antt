@@ -1,4 +1,4 @@
--- `ere_bytes` meets its contract: the text that stands at the entry's place is the one that the entry tells.
+-- `ere_bytes` meets its contract: the text that is at the entry's place is the one that the entry tells.
 use lib.ListN.{getD}
 use Rattle.buffer.specs.Parts.{part}
 use Rattle.image_index.proofs.Reaching.{is-part, text-reached}

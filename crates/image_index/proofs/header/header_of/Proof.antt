@@ -1,4 +1,4 @@
--- `header_of` meets its contract: the two numbers, one behind the other.
+-- `header_of` meets its contract: the two numbers, one after the other.
 use Rattle.image_index.proofs.Following.{edition-missing, edition-unknown, users-missing, header-there}
 use Rattle.lists.proofs.Tests.{was-false, was-true}
 use Rattle.varint.specs.Take.{TakesAt}

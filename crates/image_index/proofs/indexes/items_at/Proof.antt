@@ -1,4 +1,5 @@
--- `items_at` meets its contract: k items are passed, each fits, and those that the index has room for have their entries there.
+-- `items_at` meets its contract: k items are passed, each fits, and those that the index has room for have their
+-- entries there.
 use mathlib.Core.Path.{_≡_}
 use Prim.Native.Nat.{_≤_, _-_}
 use native.Mathlib.Omega.{arith}

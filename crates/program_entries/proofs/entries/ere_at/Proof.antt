@@ -1,4 +1,4 @@
--- `ere_at`: what stands between the slashes, or nothing.
+-- `ere_at`: what is between the slashes, or nothing.
 use mathlib.Core.Path.{sym, ap, subst, _∙_}
 use mathlib.Core.Bool.{false}
 use Prim.Native.Nat.{_+_, _-_, _<_, _≤_}

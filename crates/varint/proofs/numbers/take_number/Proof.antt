@@ -1,4 +1,4 @@
--- `take_number` meets its contract: k groups are read, and what the bytes behind them give, with these, is the number.
+-- `take_number` meets its contract: k groups are read, and what the bytes after them give, with these, is the number.
 use Rattle.varint.proofs.Groups.{ReadTo, read-start, take-last, take-more, take-many, read-out, scale-most, scale-some, scale-more, group-fits, group-below}
 use Rattle.varint.specs.Take.{TakesAt}
 use lib.ListN.{length, getD}

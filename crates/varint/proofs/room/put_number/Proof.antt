@@ -1,4 +1,5 @@
--- `put_number` meets its contract: the number's groups, from its lowest on, are those of what is left of it, group by group.
+-- `put_number` meets its contract: the number's groups, from its lowest on, are those of what is left of it, group by
+-- group.
 use borrow.Author.Needs.{needs}
 use native.Mathlib.Omega.{arith}
 use lib.ListN.{length}

@@ -1,4 +1,4 @@
--- `load` meets its contract: after k turns the first k bytes stand at the front of the room.
+-- `load` meets its contract: after k turns the first k bytes are at the front of the room.
 use mathlib.Core.Path.{_≡_, refl}
 use Prim.Native.Nat.{_-_, _≤_}
 use native.Mathlib.Omega.{arith}
