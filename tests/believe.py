@@ -1,14 +1,18 @@
 #!/usr/bin/env python3
 """Computes what a reader has to believe: the definitions that the contracts of public entries and the claims of docs/PROMISES.md reach.
 
-    tests/believe.py [--list] [--why NAME]
+    tests/believe.py [--list] [--why NAME] [--book]
 
 A definition of crates/*/specs/ is reached if a contract of a public entry (ENTRIES), the statement of a theorem that the section "Demands 1 to 3" of
 docs/PROMISES.md names, or another definition that is reached names it. Where a theorem explains a computed definition by a relation (EXPLAINED), the
 relation is reached in its place, and the computation isn't. What is counted are lines of definitions, without blank lines, comments and `use` lines.
 
-Writes a line for each crate and the sum; --list writes the definitions themselves, in reading order, --why NAME how NAME is reached. The status is 1
-if a file of specs/ of which nothing is reached doesn't say so in its first line, or another says it.
+Writes a line for each crate and the sum; --list writes the definitions themselves, --why NAME how NAME is reached, and --book writes docs/BELIEVE.md:
+the definitions in reading order (CHAPTERS), each under its comment, which names its sentence of document 01. The status is 1 if
+
+- a file of specs/ of which nothing is reached doesn't say so in its first line, or another says it;
+- a theorem that is named, here or in docs/PROMISES.md, is none;
+- a file of which something is reached is in no chapter, or docs/BELIEVE.md is not what --book would write.
 """
 import argparse
 import collections
@@ -16,6 +20,7 @@ import glob
 import os
 import re
 import sys
+import textwrap
 
 ROOT = os.path.dirname(os.path.dirname(os.path.abspath(__file__)))
 MARK = '-- Internal: cited by private contracts only.'
@@ -59,7 +64,54 @@ EXPLAINED = {
     ('values', 'Operations', 'indexOf'): (('values', 'Explained', ['Index']), 'index-is index-one'),
     ('image_format', 'Numbers', 'coded'): (('image_format', 'Numbers', ['Coded']), 'coded-is coded-one'),
     ('image_format', 'Numbers', 'takeNumber'): (('image_format', 'Numbers', ['Coded']), 'number-back number-only'),
+    # what a source reads is what is written: `bytesOf` from bytes, `contentOf` from words, of a well-formed image and of nothing else
+    ('image_format', 'Reading', 'fromBytes'): (('image_format', 'Writing', ['bytesOf']), 'read-written read-only reading-back'),
+    ('image_format', 'Reading', 'fromWords'): (('image_format', 'Writing', ['contentOf']), 'read-written read-only writing-back'),
+    # tests of equality, by equality itself
+    ('program_tokens', 'Kinds', 'same'): (('program_tokens', 'Kinds', ['Kind']), 'same-is is-same'),
+    ('program_tokens', 'Words', 'sameBytes'): (('program_tokens', 'Words', []), 'bytes-same same-equal'),
+    # how many instructions a tree has, by the length of its code
+    ('program_code', 'Expressions', 'size'): (('program_code', 'Expressions', ['compile']), 'size-length'),
+    ('program_code', 'Sections', 'sizeAll'): (('program_code', 'Sections', ['compileAll']), 'all-length'),
+    ('program_code', 'Sections', 'sizeOf'): (('program_code', 'Sections', ['compileStatement']), 'statement-length'),
+    # an index, by what is at it and before it; a test of a whole list, by the tests of its elements
+    ('buffer', 'First', 'firstByte'): (('buffer', 'First', []), 'first-byte-most first-byte-below first-byte-at'),
+    ('lists', 'Elements', 'leading'): (('lists', 'Elements', []), 'leading-le leading-each leading-stops'),
+    ('lists', 'Elements', 'all'): (('lists', 'Elements', []), 'all-says'),
+    # To switch on when it is proved that the tree that is read is the one that each derivation says, for whole programs, and that 6 is
+    # answered exactly at the token that opens level 17; the names are those of the files that then say so:
+    # ('program_reader', 'Programs', 'readProgram'): (('program_exact', 'Trees', ['said']), 'reads-exactly refused-exactly one-tree'),
+    # and, if the grammar is said once more with the levels as an index, the one without levels by the one with them:
+    # ('program_grammar', 'Grammar', 'Sentence'): (('program_exact', 'Levels', ['Sentence']), '..'),
+    # To switch on with the law that the row at `opcode o` has the operation o (`opcode-row` says which row it is, by `rowOf`):
+    # ('program_code', 'Emitted', 'opcode'): (('image_format', 'Codes', ['codeOf']), 'opcode-row opcode-operation'),
 }
+
+# the chapters of the book: a title, what a reader should know, and the files (crate, names) in reading order
+CHAPTERS = [
+    ('Words that all chapters use', 'Elements of lists and parts of them.', [('lists', ['Elements', 'Parsing']), ('buffer', ['Parts', 'First', 'Order'])]),
+    ('Sizes and outcomes', 'Every number of 01\'s "Sizes" and of its table of outcomes.', [('edition', ['Limits', 'Outcomes'])]),
+    ('EREs', 'First what a tree means, then which bytes spell which tree, then what the public match answers.',
+     [('ere_meaning', ['Tree', 'Meaning']), ('ere_grammar', ['Bytes', 'Grammar']), ('ere', ['Answer'])]),
+    ('Splitting', 'Which fields a record has, one relation for each kind of separator; then what the public split and field answer.',
+     [('splitting', ['Field', 'Meaning', 'Separator', 'Splitting']), ('fields', ['Answer'])]),
+    ('Numbers', 'Arithmetic on whole numbers, and texts as numbers.', [('number', ['Range', 'Arithmetic']), ('numeral', ['Form', 'Judgement', 'Decimal'])]),
+    ('Values', 'The kinds of values, and what the operations on them give.', [('values', ['Value', 'Operations', 'Explained'])]),
+    ('The image', 'The instruction set as a table, an image, how it is written, and which images can be written; reading is the way back.',
+     [('image_format', ['Codes', 'Image', 'Numbers', 'Writing', 'Formed', 'Reading']), ('image', ['Copy'])]),
+    ('A run', 'The state of a run, its operations, its moves, and the run with a budget.',
+     [('semantics', ['Variables', 'Feed', 'World', 'Operations', 'Moves', 'Run']), ('runner', ['Report'])]),
+    ('The check, and where a run is stuck', 'The clauses of the check as a statement; one constructor for each way to be stuck.',
+     [('semantics', ['Check', 'Checked', 'Stuck']), ('image_check', ['Verdict'])]),
+    ('Filter texts', 'Tokens, trees, the grammar as a relation on kinds of tokens, where a text is refused, and the reader.',
+     [('program_tokens', ['Kinds', 'Words', 'Tokens']), ('program_tree', ['Tree', 'Functions']), ('program_grammar', ['Sets', 'Grammar', 'Viable']),
+      ('program_reader', ['Read', 'Operators', 'Expressions', 'Statements', 'Programs']), ('program_exact', ['Claims', 'Trees', 'Levels'])]),
+    ('Translation', 'From a tree to code by names, from names to numbers, and the outcomes of a translation.',
+     [('program_code', ['Emitted', 'Expressions', 'Sections']), ('program_numbering', ['Names', 'Numbering', 'Sizes']), ('translation', ['Translation']),
+      ('translator', ['Answer'])]),
+    ('The claim about whole runs', 'Demand 3, from bytes.', [('sound', ['Demand'])]),
+]
+BOOK = os.path.join(ROOT, 'docs', 'BELIEVE.md')
 
 # crates of claims about the whole and of computed tables, of which no file is asked for its mark
 TO_COME = {'sound', 'sound_cases'}
@@ -102,8 +154,8 @@ def read_file(crate, name, path):
         while len(sections) > 1 and indent < sections[-1][0]:
             sections.pop()
         word = line.strip()
-        if indent == sections[-1][0] and word.startswith('module '):
-            sections.append((indent + 2, sections[-1][1] + [word]))
+        if indent == sections[-1][0] and (word.startswith('module ') or word == 'mutual'):
+            sections.append((indent + 2, sections[-1][1] + ([] if word == 'mutual' else [word])))
             current = None
             continue
         if indent > sections[-1][0]:
@@ -248,6 +300,119 @@ def marks(book):
     return wrong
 
 
+def unproved():
+    """Theorems that EXPLAINED names and no crate has."""
+    there = set()
+    for path in glob.glob(os.path.join(ROOT, 'crates', '*', 'proofs', '*.antt')):
+        with open(path, encoding='utf-8') as f:
+            there.update(re.findall(r'^\s*(?:abbrev )?pub (%s) :' % NAME, f.read(), re.M))
+    named = {name for _, theorems in EXPLAINED.values() for name in theorems.split()}
+    return ['%s, which EXPLAINED names, is no theorem' % name for name in sorted(named - there)]
+
+
+def raw(crate, name):
+    with open(os.path.join(ROOT, 'crates', crate, 'specs', name + '.antt'), encoding='utf-8') as f:
+        return f.read().split('\n')
+
+
+def is_comment(line):
+    return line.strip().startswith('--')
+
+
+def prose(comment):
+    """Lines of comments as a paragraph; `---- words` is a heading."""
+    text = ' '.join(line.strip()[2:].strip() for line in comment).replace(MARK[3:], '').strip()
+    heading = re.match(r'^---- (.*)$', text)
+    text = heading.group(1) if heading else text
+    return '\n'.join(textwrap.wrap(text + ('' if text.endswith(('.', ':', '."')) or not text else '.'), 120, break_long_words=False, break_on_hyphens=False))
+
+
+def head_of(lines):
+    """The comment at the head of a file."""
+    end = next((i for i, line in enumerate(lines) if not is_comment(line)), len(lines))
+    return prose(lines[:end])
+
+
+def pages(book, crate, name):
+    """The definitions of a file that are reached, in its order: each with the comment above it and its section."""
+    lines = raw(crate, name)
+    found = book.files[crate, name][0]
+    places = [p for p in book.reached if p[:2] == (crate, name)]
+    for definition in sorted((found[p[2]] for p in places), key=lambda d: d.lines[0][0]):
+        numbers = [number for number, _ in definition.lines]
+        first, last = numbers[0] - 1, numbers[-1] - 1
+        kept = [lines[i] for i in range(first, last + 1) if i + 1 in numbers or is_comment(lines[i])]
+        top = first
+        while top > 0 and is_comment(lines[top - 1]):
+            top -= 1
+        comment = lines[top:first] if top > 0 else []
+        yield definition, comment, kept
+
+
+def dedent(lines):
+    margin = min(len(line) - len(line.lstrip()) for line in lines if line.strip())
+    return [line[margin:] for line in lines]
+
+
+def given(section):
+    """The parameters of a section, in words."""
+    return ' '.join(re.sub(r'^module _ (.*) where$', r'\1', word) for word in section)
+
+
+def of_file(book, crate, name):
+    text = ['', '### `%s`: %s' % (crate, name), '', head_of(raw(crate, name))]
+    block, section = [], []
+    for definition, comment, kept in pages(book, crate, name):
+        if block and (comment or definition.section != section):
+            text += ['', '```text'] + block + ['```']
+            block = []
+        if definition.section != section:
+            section = definition.section
+            text += ['', '*Given `%s`:*' % given(section) if section else '*For all:*']
+        if comment:
+            text += ['', prose(comment)]
+        block += ([''] if block else []) + dedent(kept)
+    return text + ['', '```text'] + block + ['```']
+
+
+def written(book):
+    """The book, and what is wrong with its chapters."""
+    files = {place[:2] for place in book.reached}
+    listed = [(crate, name) for _, _, parts in CHAPTERS for crate, names in parts for name in names]
+    wrong = ['crates/%s/specs/%s.antt is in no chapter' % place for place in sorted(files - set(listed))]
+    contents, body = [], []
+    for number, (title, about, parts) in enumerate(CHAPTERS, 1):
+        shown = [(crate, name) for crate, names in parts for name in names if (crate, name) in files]
+        lines = counted(book, [p for p in book.reached if p[:2] in shown])
+        contents.append('%d. [%s](#%d-%s): %d lines' % (number, title, number, re.sub(r'[^a-z0-9 -]', '', title.lower()).replace(' ', '-'), lines))
+        body += ['', '## %d. %s' % (number, title), '', about]
+        for crate, name in shown:
+            body += of_file(book, crate, name)
+        told = [place for place in sorted(book.explained) if chapter_of(place) == number]
+        if told:
+            body += ['', 'Not to be believed, since theorems say what they compute:', '']
+            body += ['- `%s` of `%s`: %s' % (place[2], place[0], ', '.join('`%s`' % name for name in book.explained[place].split())) for place in told]
+    total = counted(book, book.reached)
+    top = ['# What a reader has to believe', '',
+           'Made by `python3 tests/believe.py --book`; `tests/all.py` checks that it is up to date. %s lines of definitions, without blank lines and' % format(total, ','),
+           'comments: what the contracts of the public entries and the claims of `PROMISES.md`, "Demands 1 to 3", reach. Whoever believes that these say what',
+           'document 01 ("01") says, and trusts the prover, need read nothing else: no code and no proof. Quotations are 01\'s.', '',
+           'How to read it: `f : A → B` is a function, and its equations follow; `data` lists the ways in which something can be or hold, one constructor each;',
+           '`record` is what holds together; `a ≡ b` is equality, `×` is "and", `⊎` is "or", `⊥` is falsity, so `A → ⊥` is "not A"; `(x : A) × B` is "there is an x',
+           'with B"; `x ∷ l` is a list with x in front, `l ++ m` one list after the other; `cond c a b` is a if c is true, else b; bytes are numbers. Names in `{ }`',
+           'can be told from the rest. `abbrev`, `unfoldable` and `pub` say how proofs see a definition, and nothing of its meaning.', '',
+           '## Contents', '']
+    return '\n'.join(top + contents + body) + '\n', wrong
+
+
+def chapter_of(place):
+    """The chapter of an explained definition: that of its file, or else the first that has its crate."""
+    for number, (_, _, parts) in enumerate(CHAPTERS, 1):
+        if any(crate == place[0] and place[1] in names for crate, names in parts):
+            return number
+    return next(number for number, (_, _, parts) in enumerate(CHAPTERS, 1) if any(crate == place[0] for crate, _ in parts))
+
+
 def order():
     with open(os.path.join(ROOT, 'crates.txt'), encoding='utf-8') as f:
         return [line.split(':')[0] for line in f if re.match(r'^[a-z_]+:', line)]
@@ -257,6 +422,7 @@ def main():
     parser = argparse.ArgumentParser()
     parser.add_argument('--list', action='store_true')
     parser.add_argument('--why')
+    parser.add_argument('--book', action='store_true')
     options = parser.parse_args()
     book = Book()
     contracts(book)
@@ -287,7 +453,13 @@ def main():
                     chain.append(why)
                     why = book.reached[why]
                 print(' <- '.join('%s.%s.%s' % p for p in chain) + ' <- ' + (why if isinstance(why, str) else '.'.join(why)))
-    wrong = missing + marks(book)
+    text, wrong = written(book)
+    if options.book:
+        with open(BOOK, 'w', encoding='utf-8') as f:
+            f.write(text)
+    with open(BOOK, encoding='utf-8') as f:
+        wrong += [] if f.read() == text else ['docs/BELIEVE.md is not up to date: tests/believe.py --book']
+    wrong += missing + unproved() + marks(book)
     for line in wrong:
         print(line)
     sys.exit(1 if wrong else 0)
