@@ -18,7 +18,7 @@ import building
 RANDOM = ['match', 'split', 'images', 'translate', 'run', 'ways']
 # over other archives than capi's
 OTHER_ARCHIVES = ['exists', 'tokens']
-OTHERS = ['frames', 'believe']
+OTHERS = ['frames', 'believe', 'sentences', 'edits']
 COMPUTED = ['semantics', 'translation', 'grammar', 'wrong_definitions', 'wrong_grammar']
 
 
@@ -44,6 +44,7 @@ def main():
     jobs = [('vectors', same_vectors)]
     jobs += [(name, lambda name=name: passes(name, *drawn, '--archive', archive)) for name in RANDOM]
     jobs += [(name, lambda name=name: passes(name, *drawn)) for name in OTHER_ARCHIVES]
+    jobs += [('layers', lambda: passes('layers', '--check'))]
     jobs += [(name, lambda name=name: passes(name)) for name in OTHERS + ([] if options.quick else COMPUTED)]
     failed = []
     for name, job in jobs:
