@@ -8,71 +8,54 @@ use Rattle.program_emitter.proofs.runs.emit_both.Reads as reads
 use Rattle.program_emitter.proofs.runs.emit_both.Lts as lts
 use Rattle.program_emitter.proofs.runs.emit.Reads as emit-reads
 
--- src/runs.rt:43:34
 add-emit : tie.Need-add-emit
 add-emit c = search needs
 
--- src/runs.rt:43:5
 emit-requires : tie.Need-emit-requires
 emit-requires c κs = search needs
 
--- src/runs.rt:44:19
 add-emit-2 : tie.Need-add-emit-2
 add-emit-2 c = search needs
 
--- src/runs.rt:44:38
 add-emit-3 : tie.Need-add-emit-3
 add-emit-3 c = search needs
 
--- src/runs.rt:44:5
 emit-requires-2 : tie.Need-emit-requires-2
 emit-requires-2 c κs = search needs
 
--- src/runs.rt:45:19
 add-emit-4 : tie.Need-add-emit-4
 add-emit-4 c = search needs
 
--- src/runs.rt:45:39
 add-emit-5 : tie.Need-add-emit-5
 add-emit-5 c = search needs
 
--- src/runs.rt:45:51
 add-emit-6 : tie.Need-add-emit-6
 add-emit-6 c = search needs
 
--- src/runs.rt:45:5
 emit-requires-3 : tie.Need-emit-requires-3
 emit-requires-3 c κs = search needs
 
--- src/runs.rt:46:19
 add-emit-7 : tie.Need-add-emit-7
 add-emit-7 c = search needs
 
--- src/runs.rt:46:5
 emit-requires-4 : tie.Need-emit-requires-4
 emit-requires-4 c κs = search needs
 
--- src/runs.rt:47:44
 add-emit-8 : tie.Need-add-emit-8
 add-emit-8 c = search needs
 
--- src/runs.rt:47:56
 add-emit-9 : tie.Need-add-emit-9
 add-emit-9 c = search needs
 
--- src/runs.rt:47:5
 emit-requires-5 : tie.Need-emit-requires-5
 emit-requires-5 c κs = search needs
 
--- src/runs.rt:48:5
 add-result : tie.Need-add-result
 add-result c = search needs
 
--- src/runs.rt:39:1
 same-length : tie.Need-same-length
 same-length c = search needs
 
--- src/runs.rt:39:1
 returns : tie.Need-returns
 returns c =
     let n : ℕ = c .before .before .before .before .before .before .before .before .before .before .before .before .before .before .before .before .before .before .before .before .before .args .n in

@@ -8,71 +8,54 @@ use Rattle.program_emitter.proofs.runs.emit_either.Reads as reads
 use Rattle.program_emitter.proofs.runs.emit_either.Lts as lts
 use Rattle.program_emitter.proofs.runs.emit.Reads as emit-reads
 
--- src/runs.rt:56:34
 add-emit : tie.Need-add-emit
 add-emit c = search needs
 
--- src/runs.rt:56:5
 emit-requires : tie.Need-emit-requires
 emit-requires c κs = search needs
 
--- src/runs.rt:57:19
 add-emit-2 : tie.Need-add-emit-2
 add-emit-2 c = search needs
 
--- src/runs.rt:57:38
 add-emit-3 : tie.Need-add-emit-3
 add-emit-3 c = search needs
 
--- src/runs.rt:57:5
 emit-requires-2 : tie.Need-emit-requires-2
 emit-requires-2 c κs = search needs
 
--- src/runs.rt:58:44
 add-emit-4 : tie.Need-add-emit-4
 add-emit-4 c = search needs
 
--- src/runs.rt:58:56
 add-emit-5 : tie.Need-add-emit-5
 add-emit-5 c = search needs
 
--- src/runs.rt:58:5
 emit-requires-3 : tie.Need-emit-requires-3
 emit-requires-3 c κs = search needs
 
--- src/runs.rt:59:19
 add-emit-6 : tie.Need-add-emit-6
 add-emit-6 c = search needs
 
--- src/runs.rt:59:5
 emit-requires-4 : tie.Need-emit-requires-4
 emit-requires-4 c κs = search needs
 
--- src/runs.rt:60:19
 add-emit-7 : tie.Need-add-emit-7
 add-emit-7 c = search needs
 
--- src/runs.rt:60:39
 add-emit-8 : tie.Need-add-emit-8
 add-emit-8 c = search needs
 
--- src/runs.rt:60:51
 add-emit-9 : tie.Need-add-emit-9
 add-emit-9 c = search needs
 
--- src/runs.rt:60:5
 emit-requires-5 : tie.Need-emit-requires-5
 emit-requires-5 c κs = search needs
 
--- src/runs.rt:61:5
 add-result : tie.Need-add-result
 add-result c = search needs
 
--- src/runs.rt:52:1
 same-length : tie.Need-same-length
 same-length c = search needs
 
--- src/runs.rt:52:1
 returns : tie.Need-returns
 returns c =
     let n : ℕ = c .before .before .before .before .before .before .before .before .before .before .before .before .before .before .before .before .before .before .before .before .before .args .n in

@@ -8,39 +8,30 @@ use Rattle.program_emitter.proofs.runs.emit_ere.Reads as reads
 use Rattle.program_emitter.proofs.runs.emit_ere.Lts as lts
 use Rattle.program_emitter.proofs.runs.emit.Reads as emit-reads
 
--- src/runs.rt:33:5
 emit-requires : tie.Need-emit-requires
 emit-requires c κs = search needs
 
--- src/runs.rt:34:19
 add-emit : tie.Need-add-emit
 add-emit c = search needs
 
--- src/runs.rt:34:40
 add-emit-2 : tie.Need-add-emit-2
 add-emit-2 c = search needs
 
--- src/runs.rt:34:5
 emit-requires-2 : tie.Need-emit-requires-2
 emit-requires-2 c κs = search needs
 
--- src/runs.rt:35:19
 add-emit-3 : tie.Need-add-emit-3
 add-emit-3 c = search needs
 
--- src/runs.rt:35:42
 add-emit-4 : tie.Need-add-emit-4
 add-emit-4 c = search needs
 
--- src/runs.rt:35:5
 emit-requires-3 : tie.Need-emit-requires-3
 emit-requires-3 c κs = search needs
 
--- src/runs.rt:29:1
 same-length : tie.Need-same-length
 same-length c = search needs
 
--- src/runs.rt:29:1
 returns : tie.Need-returns
 returns c =
     let n : ℕ = c .before .before .before .before .before .before .before .before .before .before .before .before .before .args .n in

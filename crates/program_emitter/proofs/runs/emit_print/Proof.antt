@@ -8,31 +8,24 @@ use Rattle.program_emitter.proofs.runs.emit_print.Reads as reads
 use Rattle.program_emitter.proofs.runs.emit_print.Lts as lts
 use Rattle.program_emitter.proofs.runs.emit.Reads as emit-reads
 
--- src/runs.rt:69:5
 emit-requires : tie.Need-emit-requires
 emit-requires c κs = search needs
 
--- src/runs.rt:70:19
 add-emit : tie.Need-add-emit
 add-emit c = search needs
 
--- src/runs.rt:70:5
 emit-requires-2 : tie.Need-emit-requires-2
 emit-requires-2 c κs = search needs
 
--- src/runs.rt:71:19
 add-emit-2 : tie.Need-add-emit-2
 add-emit-2 c = search needs
 
--- src/runs.rt:71:5
 emit-requires-3 : tie.Need-emit-requires-3
 emit-requires-3 c κs = search needs
 
--- src/runs.rt:65:1
 same-length : tie.Need-same-length
 same-length c = search needs
 
--- src/runs.rt:65:1
 returns : tie.Need-returns
 returns c =
     let n : ℕ = c .before .before .before .before .before .before .before .before .before .before .before .before .before .args .n in

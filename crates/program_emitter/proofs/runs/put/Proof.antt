@@ -6,23 +6,18 @@ use Rattle.program_emitter.proofs.runs.put.Tie as tie
 use Rattle.program_emitter.proofs.runs.put.Reads as reads
 use Rattle.program_emitter.proofs.runs.put.Lts as lts
 
--- src/runs.rt:15:9
 mul-section : tie.Need-mul-section
 mul-section c = search needs
 
--- src/runs.rt:15:9
 slice-write-section : tie.Need-slice-write-section
 slice-write-section c = search needs
 
--- src/runs.rt:11:1
 same-length : tie.Need-same-length
 same-length c = search needs
 
--- src/runs.rt:11:1
 returns : tie.Need-returns
 returns c = search needs
 
--- src/runs.rt:11:1
 returns-2 : tie.Need-returns-2
 returns-2 c = sym (set-out (c .before .args .section .now) _ _ (c .if1 .left))
 

@@ -12,43 +12,34 @@ use Rattle.program_parser.proofs.calls.function_of.Reads as reads
 use Rattle.program_parser.proofs.calls.function_of.Lts as lts
 use Rattle.program_parser.proofs.calls.with_since.Reads as with-since-reads
 
--- src/calls.rt:37:26
 with-since-requires : tie.Need-with-since-requires
 with-since-requires c κs = search needs
 
--- src/calls.rt:38:25
 with-since-requires-2 : tie.Need-with-since-requires-2
 with-since-requires-2 c κs = search needs
 
--- src/calls.rt:39:26
 with-since-requires-3 : tie.Need-with-since-requires-3
 with-since-requires-3 c κs = search needs
 
--- src/calls.rt:40:25
 with-since-requires-4 : tie.Need-with-since-requires-4
 with-since-requires-4 c κs = search needs
 
--- src/calls.rt:32:1
 returns : tie.Need-returns
 unfolding kindOf
 returns c = rw (c .before .match .keys1) (c .with-since .ensures ∙ length-function _)
 
--- src/calls.rt:32:1
 returns-2 : tie.Need-returns-2
 unfolding kindOf
 returns-2 c = rw (c .before .match .keys2) (c .with-since2 .ensures ∙ index-function _)
 
--- src/calls.rt:32:1
 returns-3 : tie.Need-returns-3
 unfolding kindOf
 returns-3 c = rw (c .before .match .keys3) (c .with-since3 .ensures ∙ substr-function _)
 
--- src/calls.rt:32:1
 returns-4 : tie.Need-returns-4
 unfolding kindOf
 returns-4 c = rw (c .before .match .keys4) (c .with-since4 .ensures ∙ match-function _)
 
--- src/calls.rt:32:1
 returns-5 : tie.Need-returns-5
 returns-5 c = no-function (c .before .args .kind) (c .before .pre) _ (c .match .rest .0 .0 .0 .1) (c .match .rest .0 .0 .1) (c .match .rest .0 .1) (c .match .rest .1)
 

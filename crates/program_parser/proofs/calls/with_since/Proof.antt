@@ -4,11 +4,9 @@ use Rattle.program_parser.proofs.calls.with_since.Tie as tie
 use Rattle.program_parser.proofs.calls.with_since.Reads as reads
 use Rattle.program_parser.proofs.calls.with_since.Lts as lts
 
--- src/calls.rt:26:9
 returns : tie.Need-returns
 returns c = rw (le-leb _ _ (c .if1 .taken))
 
--- src/calls.rt:22:1
 returns-2 : tie.Need-returns-2
 returns-2 c = rw (lt-leb _ _ (c .if1 .left))
 

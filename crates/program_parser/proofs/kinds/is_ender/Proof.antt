@@ -4,7 +4,6 @@ use Rattle.program_parser.proofs.kinds.is_ender.Tie as tie
 use Rattle.program_parser.proofs.kinds.is_ender.Reads as reads
 use Rattle.program_parser.proofs.kinds.is_ender.Lts as lts
 
--- src/kinds.rt:105:1
 returns : tie.Need-returns
 returns c = ender-kind (c .args .kind) (c .pre)
 

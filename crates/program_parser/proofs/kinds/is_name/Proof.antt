@@ -4,7 +4,6 @@ use Rattle.program_parser.proofs.kinds.is_name.Tie as tie
 use Rattle.program_parser.proofs.kinds.is_name.Reads as reads
 use Rattle.program_parser.proofs.kinds.is_name.Lts as lts
 
--- src/kinds.rt:113:1
 returns : tie.Need-returns
 returns c = name-kind (c .args .kind) (c .pre)
 

@@ -4,7 +4,6 @@ use Rattle.program_parser.proofs.kinds.is_prefix.Tie as tie
 use Rattle.program_parser.proofs.kinds.is_prefix.Reads as reads
 use Rattle.program_parser.proofs.kinds.is_prefix.Lts as lts
 
--- src/kinds.rt:121:1
 returns : tie.Need-returns
 returns c = prefix-kind (c .args .kind) (c .pre)
 

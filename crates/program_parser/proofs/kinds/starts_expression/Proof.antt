@@ -8,15 +8,12 @@ use Rattle.program_parser.proofs.kinds.starts_expression.Lts as lts
 use Rattle.program_parser.proofs.kinds.is_prefix.Reads as is-prefix-reads
 use Rattle.program_parser.proofs.kinds.starts_joined.Reads as starts-joined-reads
 
--- src/kinds.rt:150:5
 starts-joined-requires : tie.Need-starts-joined-requires
 starts-joined-requires c κs = search needs
 
--- src/kinds.rt:150:53
 is-prefix-requires : tie.Need-is-prefix-requires
 is-prefix-requires c κs = search needs
 
--- src/kinds.rt:146:1
 returns : tie.Need-returns
 unfolding startsExpression
 returns c = rw (c .before .starts-joined .ensures, c .is-prefix .ensures, late-kind (c .before .before .args .kind) (c .before .before .pre))

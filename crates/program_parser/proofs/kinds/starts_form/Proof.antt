@@ -4,7 +4,6 @@ use Rattle.program_parser.proofs.kinds.starts_form.Tie as tie
 use Rattle.program_parser.proofs.kinds.starts_form.Reads as reads
 use Rattle.program_parser.proofs.kinds.starts_form.Lts as lts
 
--- src/kinds.rt:154:1
 returns : tie.Need-returns
 returns c = form-kind (c .args .kind) (c .pre)
 

@@ -10,15 +10,12 @@ use Rattle.program_parser.proofs.kinds.starts_joined.Lts as lts
 use Rattle.program_parser.proofs.calls.function_of.Reads as function-of-reads
 use Rattle.program_parser.proofs.kinds.starts_operand.Reads as starts-operand-reads
 
--- src/kinds.rt:141:9
 function-of-requires : tie.Need-function-of-requires
 function-of-requires c κs = search needs
 
--- src/kinds.rt:142:5
 starts-operand-requires : tie.Need-starts-operand-requires
 starts-operand-requires c κs = search needs
 
--- src/kinds.rt:137:1
 returns : tie.Need-returns
 unfolding startsJoined
 returns c = rw (c .before .starts-operand .ensures, c .before .before .function-of .ensures, coded-function (functionOf (c .before .before .before .args .edition .number) (kindOf (c .before .before .before .args .kind))))

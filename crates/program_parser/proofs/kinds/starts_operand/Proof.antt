@@ -6,11 +6,9 @@ use Rattle.program_parser.proofs.kinds.starts_operand.Reads as reads
 use Rattle.program_parser.proofs.kinds.starts_operand.Lts as lts
 use Rattle.program_parser.proofs.kinds.is_name.Reads as is-name-reads
 
--- src/kinds.rt:133:88
 is-name-requires : tie.Need-is-name-requires
 is-name-requires c κs = search needs
 
--- src/kinds.rt:129:1
 returns : tie.Need-returns
 returns c = rw (c .is-name .ensures) (operand-kind (c .before .args .kind) (c .before .pre))
 

@@ -8,15 +8,12 @@ use Rattle.program_parser.proofs.kinds.starts_statement.Lts as lts
 use Rattle.program_parser.proofs.kinds.starts_expression.Reads as starts-expression-reads
 use Rattle.program_parser.proofs.kinds.starts_form.Reads as starts-form-reads
 
--- src/kinds.rt:168:5
 starts-expression-requires : tie.Need-starts-expression-requires
 starts-expression-requires c κs = search needs
 
--- src/kinds.rt:168:41
 starts-form-requires : tie.Need-starts-form-requires
 starts-form-requires c κs = search needs
 
--- src/kinds.rt:164:1
 returns : tie.Need-returns
 unfolding startsStatement
 returns c = rw (c .before .starts-expression .ensures, c .starts-form .ensures, next-kind (c .before .before .args .kind) (c .before .before .pre))

@@ -2,7 +2,6 @@ use Rattle.program_parser.proofs.Passing.{passing-kind}
 use Rattle.program_parser.proofs.newlines.is_passed.Statement.{statement}
 use Rattle.program_parser.proofs.newlines.is_passed.Tie as tie
 
--- src/newlines.rt:15:1
 returns : tie.Need-returns
 returns c = passing-kind (c .args .semicolons) (c .args .kind) (c .pre)
 

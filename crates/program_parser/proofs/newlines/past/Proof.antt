@@ -14,33 +14,27 @@ Inv-loop s semicolons edition u₀ u = Passes (edition .number) s (passing semic
 abbrev μ-loop : tie.MeasureT-loop
 μ-loop s semicolons edition u₀ u = length s - u .start
 
--- src/newlines.rt:28:5
 loop-holds : tie.Need-loop-holds Inv-loop μ-loop
 loop-holds c = pass-start _ _ _ _ (c .before .pre .0) (c .before .pre .1)
 
--- src/newlines.rt:28:11
 is-passed-requires : tie.Need-is-passed-requires Inv-loop μ-loop
 is-passed-requires c κs = c .loop .inv .known
 
--- src/newlines.rt:29:9
 token-after-requires : tie.Need-token-after-requires Inv-loop μ-loop
 token-after-requires c κs = search needs
 
--- src/newlines.rt:28:5
 loop-less : tie.Need-loop-less Inv-loop μ-loop
 loop-less c =
     pass-nearer _ _ (c .before .before .before .before .before .args .semicolons) _ _
     (c .before .before .before .loop .inv) _
     (sym (c .before .before .is-passed .ensures) ∙ c .before .if1 .taken) (c .token-after .ensures)
 
--- src/newlines.rt:28:5
 loop-again : tie.Need-loop-again Inv-loop μ-loop
 loop-again c =
     pass-more _ _ (c .before .before .before .before .before .args .semicolons) _ _
     (c .before .before .before .loop .inv) _
     (sym (c .before .before .is-passed .ensures) ∙ c .before .if1 .taken) (c .token-after .ensures)
 
--- src/newlines.rt:23:1
 returns : tie.Need-returns Inv-loop μ-loop
 returns c =
     pass-done _ _ (c .before .before .before .before .args .semicolons) _ _ (c .before .before .loop .inv)

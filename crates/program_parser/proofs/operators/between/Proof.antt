@@ -4,15 +4,12 @@ use Rattle.program_parser.proofs.operators.between.Tie as tie
 use Rattle.program_parser.proofs.operators.between.Reads as reads
 use Rattle.program_parser.proofs.operators.between.Lts as lts
 
--- src/operators.rt:115:9
 returns : tie.Need-returns
 returns c = rw (eq-eqb _ 61 (c .if1 .taken))
 
--- src/operators.rt:118:9
 returns-2 : tie.Need-returns-2
 returns-2 c = rw (ne-eqb _ 61 (c .before .if1 .left), eq-eqb _ 60 (c .if2 .taken))
 
--- src/operators.rt:111:1
 returns-3 : tie.Need-returns-3
 returns-3 c = rw (ne-eqb _ 61 (c .before .if1 .left), ne-eqb _ 60 (c .if2 .left))
 

@@ -5,15 +5,12 @@ use Rattle.program_parser.proofs.operators.joined_tier.Reads as reads
 use Rattle.program_parser.proofs.operators.joined_tier.Lts as lts
 use Rattle.program_parser.proofs.kinds.starts_joined.Reads as starts-joined-reads
 
--- src/operators.rt:37:8
 starts-joined-requires : tie.Need-starts-joined-requires
 starts-joined-requires c κs = search needs
 
--- src/operators.rt:38:9
 returns : tie.Need-returns
 returns c = rw (← (c .before .starts-joined .ensures), c .if1 .taken)
 
--- src/operators.rt:33:1
 returns-2 : tie.Need-returns-2
 returns-2 c = rw (← (c .before .starts-joined .ensures), c .if1 .left)
 

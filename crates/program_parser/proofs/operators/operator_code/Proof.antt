@@ -8,62 +8,50 @@ use Rattle.program_parser.proofs.operators.operator_code.Tie as tie
 use Rattle.program_parser.proofs.operators.operator_code.Reads as reads
 use Rattle.program_parser.proofs.operators.operator_code.Lts as lts
 
--- src/operators.rt:78:1
 returns : tie.Need-returns
 unfolding actionOf actionCode arithmeticCode comparisonCode kindOf rank
 returns c = rw (c .match .keys1)
 
--- src/operators.rt:78:1
 returns-2 : tie.Need-returns-2
 unfolding actionOf actionCode arithmeticCode comparisonCode kindOf rank
 returns-2 c = rw (c .match .keys2)
 
--- src/operators.rt:78:1
 returns-3 : tie.Need-returns-3
 unfolding actionOf actionCode arithmeticCode comparisonCode kindOf rank
 returns-3 c = rw (c .match .keys3)
 
--- src/operators.rt:78:1
 returns-4 : tie.Need-returns-4
 unfolding actionOf actionCode arithmeticCode comparisonCode kindOf rank
 returns-4 c = rw (c .match .keys4)
 
--- src/operators.rt:78:1
 returns-5 : tie.Need-returns-5
 unfolding actionOf actionCode arithmeticCode comparisonCode kindOf rank
 returns-5 c = rw (c .match .keys5)
 
--- src/operators.rt:78:1
 returns-6 : tie.Need-returns-6
 unfolding actionOf actionCode arithmeticCode comparisonCode kindOf rank
 returns-6 c = rw (c .match .keys6)
 
--- src/operators.rt:78:1
 returns-7 : tie.Need-returns-7
 unfolding actionOf actionCode arithmeticCode comparisonCode kindOf rank
 returns-7 c = rw (c .match .keys7)
 
--- src/operators.rt:78:1
 returns-8 : tie.Need-returns-8
 unfolding actionOf actionCode arithmeticCode comparisonCode kindOf rank
 returns-8 c = rw (c .match .keys8)
 
--- src/operators.rt:78:1
 returns-9 : tie.Need-returns-9
 unfolding actionOf actionCode arithmeticCode comparisonCode kindOf rank
 returns-9 c = rw (c .match .keys9)
 
--- src/operators.rt:78:1
 returns-10 : tie.Need-returns-10
 unfolding actionOf actionCode arithmeticCode comparisonCode kindOf rank
 returns-10 c = rw (c .match .keys10)
 
--- src/operators.rt:78:1
 returns-11 : tie.Need-returns-11
 unfolding actionOf actionCode arithmeticCode comparisonCode kindOf rank
 returns-11 c = rw (c .match .keys11)
 
--- src/operators.rt:78:1
 returns-12 : tie.Need-returns-12
 returns-12 c = other-code (c .before .args .kind) (c .before .pre) (c .match .rest .0 .0 .0 .0 .0 .0 .0 .0 .0 .0 .1) (c .match .rest .0 .0 .0 .0 .0 .0 .0 .0 .0 .1) (c .match .rest .0 .0 .0 .0 .0 .0 .0 .0 .1) (c .match .rest .0 .0 .0 .0 .0 .0 .0 .1) (c .match .rest .0 .0 .0 .0 .0 .0 .1) (c .match .rest .0 .0 .0 .0 .0 .1) (c .match .rest .0 .0 .0 .0 .1) (c .match .rest .0 .0 .0 .1) (c .match .rest .0 .0 .1) (c .match .rest .0 .1) (c .match .rest .1)
 

@@ -10,76 +10,61 @@ use Rattle.program_parser.proofs.operators.plain_tier.Reads as reads
 use Rattle.program_parser.proofs.operators.plain_tier.Lts as lts
 use Rattle.program_parser.proofs.operators.joined_tier.Reads as joined-tier-reads
 
--- src/operators.rt:62:14
 joined-tier-requires : tie.Need-joined-tier-requires
 joined-tier-requires c κs = search needs
 
--- src/operators.rt:44:1
 returns : tie.Need-returns
 unfolding tierOf operatorIn kindOf rank
 returns c = rw (c .match .keys1)
 
--- src/operators.rt:44:1
 returns-2 : tie.Need-returns-2
 unfolding tierOf operatorIn kindOf rank
 returns-2 c = rw (c .match .keys2)
 
--- src/operators.rt:44:1
 returns-3 : tie.Need-returns-3
 unfolding tierOf operatorIn kindOf rank
 returns-3 c = rw (c .match .keys3)
 
--- src/operators.rt:44:1
 returns-4 : tie.Need-returns-4
 unfolding tierOf operatorIn kindOf rank
 returns-4 c = rw (c .match .keys4)
 
--- src/operators.rt:44:1
 returns-5 : tie.Need-returns-5
 unfolding tierOf operatorIn kindOf rank
 returns-5 c = rw (c .match .keys5)
 
--- src/operators.rt:44:1
 returns-6 : tie.Need-returns-6
 unfolding tierOf operatorIn kindOf rank
 returns-6 c = rw (c .match .keys6)
 
--- src/operators.rt:44:1
 returns-7 : tie.Need-returns-7
 unfolding tierOf operatorIn kindOf rank
 returns-7 c = rw (c .match .keys7)
 
--- src/operators.rt:44:1
 returns-8 : tie.Need-returns-8
 unfolding tierOf operatorIn kindOf rank
 returns-8 c = rw (c .match .keys8)
 
--- src/operators.rt:44:1
 returns-9 : tie.Need-returns-9
 unfolding tierOf operatorIn kindOf rank
 returns-9 c = rw (c .match .keys9)
 
--- src/operators.rt:44:1
 returns-10 : tie.Need-returns-10
 unfolding tierOf operatorIn kindOf rank
 returns-10 c = rw (c .match .keys10)
 
--- src/operators.rt:44:1
 returns-11 : tie.Need-returns-11
 unfolding tierOf operatorIn kindOf rank
 returns-11 c = rw (c .match .keys11)
 
--- src/operators.rt:44:1
 returns-12 : tie.Need-returns-12
 unfolding tierOf operatorIn kindOf rank
 returns-12 c = rw (c .match .keys12)
 
--- src/operators.rt:44:1
 returns-13 : tie.Need-returns-13
 unfolding tierOf operatorIn kindOf rank
 returns-13 c = rw (c .match .keys13)
 
--- src/operators.rt:44:1
 returns-14 : tie.Need-returns-14
 returns-14 c = c .joined-tier .ensures ∙ other-tier (c .before .before .args .kind) (c .before .before .pre) _ (c .before .match .rest .0 .0 .0 .0 .0 .0 .0 .0 .0 .0 .0 .0 .1) (c .before .match .rest .0 .0 .0 .0 .0 .0 .0 .0 .0 .0 .0 .1) (c .before .match .rest .0 .0 .0 .0 .0 .0 .0 .0 .0 .0 .1) (c .before .match .rest .0 .0 .0 .0 .0 .0 .0 .0 .0 .1) (c .before .match .rest .0 .0 .0 .0 .0 .0 .0 .0 .1) (c .before .match .rest .0 .0 .0 .0 .0 .0 .0 .1) (c .before .match .rest .0 .0 .0 .0 .0 .0 .1) (c .before .match .rest .0 .0 .0 .0 .0 .1) (c .before .match .rest .0 .0 .0 .0 .1) (c .before .match .rest .0 .0 .0 .1) (c .before .match .rest .0 .0 .1) (c .before .match .rest .0 .1) (c .before .match .rest .1)
 

@@ -9,17 +9,14 @@ use Rattle.program_parser.proofs.operators.prefix_code.Tie as tie
 use Rattle.program_parser.proofs.operators.prefix_code.Reads as reads
 use Rattle.program_parser.proofs.operators.prefix_code.Lts as lts
 
--- src/operators.rt:99:1
 returns : tie.Need-returns
 unfolding prefixOf prefixAction actionCode kindOf rank
 returns c = rw (c .match .keys1)
 
--- src/operators.rt:99:1
 returns-2 : tie.Need-returns-2
 unfolding prefixOf prefixAction actionCode kindOf rank
 returns-2 c = rw (c .match .keys2)
 
--- src/operators.rt:99:1
 returns-3 : tie.Need-returns-3
 returns-3 c = other-prefix (c .before .args .kind) (c .before .pre) (c .match .rest .0 .1) (c .match .rest .1)
 

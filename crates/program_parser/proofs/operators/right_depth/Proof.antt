@@ -4,15 +4,12 @@ use Rattle.program_parser.proofs.operators.right_depth.Tie as tie
 use Rattle.program_parser.proofs.operators.right_depth.Reads as reads
 use Rattle.program_parser.proofs.operators.right_depth.Lts as lts
 
--- src/operators.rt:129:9
 returns : tie.Need-returns
 returns c = rw (c .if1 .taken)
 
--- src/operators.rt:131:5
 add-result : tie.Need-add-result
 add-result c = search needs
 
--- src/operators.rt:124:1
 returns-2 : tie.Need-returns-2
 returns-2 c = rw (c .if1 .left)
 

@@ -7,15 +7,12 @@ use Rattle.program_parser.proofs.operators.tier_of.Reads as reads
 use Rattle.program_parser.proofs.operators.tier_of.Lts as lts
 use Rattle.program_parser.proofs.operators.plain_tier.Reads as plain-tier-reads
 
--- src/operators.rt:72:9
 returns : tie.Need-returns
 returns c = barred (c .before .args .kind) (c .before .pre) _ _ (c .if1 .taken)
 
--- src/operators.rt:74:5
 plain-tier-requires : tie.Need-plain-tier-requires
 plain-tier-requires c κs = search needs
 
--- src/operators.rt:67:1
 returns-2 : tie.Need-returns-2
 returns-2 c = c .plain-tier .ensures ∙ not-barred (c .before .before .args .kind) (c .before .before .pre) _ _ (c .before .if1 .left)
 

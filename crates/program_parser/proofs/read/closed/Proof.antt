@@ -8,27 +8,21 @@ use Rattle.program_lexer.proofs.token_after.Reads as token-after-reads
 use Rattle.program_parser.proofs.read.ok.Reads as ok-reads
 use Rattle.program_parser.proofs.read.refuse.Reads as refuse-reads
 
--- src/read.rt:98:9
 returns : tie.Need-returns
 returns c = closed-no (c .before .before .before .args .edition .number) (c .before .before .before .args .s .now) (c .before .before .before .args .r) (c .if1 .taken)
 
--- src/read.rt:103:9
 refuse-requires : tie.Need-refuse-requires
 refuse-requires c κs = search needs
 
--- src/read.rt:103:9
 returns-2 : tie.Need-returns-2
 returns-2 c = closed-refused (c .before .before .before .before .before .before .args .edition .number) (c .before .before .before .before .before .before .args .s .now) (c .before .before .before .before .before .before .args .r) (c .before .before .before .if1 .left) (c .before .before .before .before .before .before .pre) _ (c .before .if2 .taken) (c .refuse .ensures)
 
--- src/read.rt:105:8
 token-after-requires : tie.Need-token-after-requires
 token-after-requires c κs = search needs
 
--- src/read.rt:105:5
 ok-requires : tie.Need-ok-requires
 ok-requires c κs = search needs
 
--- src/read.rt:93:1
 returns-3 : tie.Need-returns-3
 returns-3 c = closed-ok (c .before .before .before .before .before .before .before .args .edition .number) (c .before .before .before .before .before .before .before .args .s .now) (c .before .before .before .before .before .before .before .args .r) (c .before .before .before .before .if1 .left) (c .before .before .before .before .before .before .before .pre) _ _ (c .before .before .if2 .left) (c .before .token-after .ensures) (c .ok .ensures)
 

@@ -7,15 +7,12 @@ use Rattle.program_parser.proofs.read.operand_after.Lts as lts
 use Rattle.program_lexer.proofs.as_operand.Reads as as-operand-reads
 use Rattle.program_lexer.proofs.token_after.Reads as token-after-reads
 
--- src/read.rt:88:9
 token-after-requires : tie.Need-token-after-requires
 token-after-requires c κs = search needs
 
--- src/read.rt:89:5
 as-operand-requires : tie.Need-as-operand-requires
 as-operand-requires c κs = operand-ready (c .before .before .args .edition .number) (c .before .before .args .s .now) (c .before .before .args .t) _ (c .token-after .ensures) (c .before .before .pre)
 
--- src/read.rt:84:1
 returns : tie.Need-returns
 returns c = operand-again (c .before .before .before .args .edition .number) (c .before .before .before .args .s .now) (c .before .before .before .args .t) _ (c .before .token-after .ensures) _ (c .as-operand .ensures)
 

@@ -9,27 +9,21 @@ use Rattle.program_parser.proofs.read.refuse.Reads as reads
 use Rattle.program_parser.proofs.read.refuse.Lts as lts
 use Rattle.program_parser.proofs.read.no.Reads as no-reads
 
--- src/read.rt:68:9
 no-requires : tie.Need-no-requires
 no-requires c κs = search needs
 
--- src/read.rt:68:9
 returns : tie.Need-returns
 returns c = c .no .ensures ∙ ap (λ (x : ℕ). refusal x (c .before .before .args .t .start)) (refused-bad (c .before .before .args .t) (c .before .before .pre) (c .before .if1 .taken))
 
--- src/read.rt:71:9
 no-requires-2 : tie.Need-no-requires-2
 no-requires-2 c κs = search needs
 
--- src/read.rt:71:9
 returns-2 : tie.Need-returns-2
 returns-2 c = c .no2 .ensures ∙ ap (λ (x : ℕ). refusal x (c .before .before .before .args .t .start)) (refused-ere (c .before .before .before .args .t) (c .before .before .before .pre) (c .before .before .if1 .left) (c .before .if2 .taken))
 
--- src/read.rt:73:5
 no-requires-3 : tie.Need-no-requires-3
 no-requires-3 c κs = search needs
 
--- src/read.rt:62:1
 returns-3 : tie.Need-returns-3
 returns-3 c = c .no3 .ensures ∙ ap (λ (x : ℕ). refusal x (c .before .before .before .args .t .start)) (refused-place (c .before .before .before .args .t) (c .before .before .before .pre) (c .before .before .if1 .left) (c .before .if2 .left))
 
