@@ -260,15 +260,44 @@ def edited(text, edits):
     return text
 
 
-def checked(scratch):
-    """What `rt check sound_cases` says: None if all is proved, else the crate that refuses and its first error."""
-    done = subprocess.run(['rt', 'check', 'sound_cases'], cwd=scratch, stdout=subprocess.PIPE, stderr=subprocess.STDOUT)
+def checked(scratch, crate):
+    """What `rt check` says of a crate and those below it: None if all is proved, else the crate that refuses and its first error."""
+    done = subprocess.run(['rt', 'check', crate], cwd=scratch, stdout=subprocess.PIPE, stderr=subprocess.STDOUT)
     answer = done.stdout.decode('utf-8', 'replace')
     if done.returncode == 0:
         return None
-    crate = re.search(r'^rt: (\S+) NOT PROVED \(', answer, re.M)
+    refusing = re.search(r'^rt: (\S+) NOT PROVED \(', answer, re.M)
     error = re.search(r'crates/[^/\s]+/((?:specs|proofs)/\S+?\.antt:\d+):\d+: (?:error: )?`([^`]+)`', answer)
-    return (crate.group(1) if crate else '?', '%s %s' % (error.group(1), error.group(2)) if error else answer[-300:])
+    return (refusing.group(1) if refusing else '?', '%s %s' % (error.group(1), error.group(2)) if error else answer[-300:])
+
+
+def tried(script, wrong, words, crate, tables=False):
+    """Tries each row of `wrong` whose description has one of the words, by a check of a crate; the exit status."""
+    chosen = [row for row in wrong if not words or any(word in row[0] for word in words)]
+    stale = [what for what, place, edits in chosen if edited(read(specs(ROOT, *place)), edits) is None]
+    if stale:
+        print('%s: the text to be replaced is not there: %s' % (script, '; '.join(stale)))
+        return 2
+    scratch = copied(tables)
+    failed = []
+    try:
+        first = checked(scratch, crate)
+        if first:
+            print('%s: without an edit, %s is refused: %s' % (script, *first))
+            return 2
+        for what, (home, name), edits in chosen:
+            path = specs(scratch, home, name)
+            right = read(path)
+            write(path, edited(right, edits))
+            refusal = checked(scratch, crate)
+            write(path, right)
+            if refusal is None or refusal[1].startswith('specs/'):
+                failed.append(what)
+            print('%-55s %-16s %s' % (what, home, 'ACCEPTED' if refusal is None else '%s, %s' % refusal), flush=True)
+    finally:
+        shutil.rmtree(scratch)
+    print('%d wrong definitions, %d refused by a proof' % (len(chosen), len(chosen) - len(failed)))
+    return 1 if failed else 0
 
 
 def main():
@@ -276,31 +305,7 @@ def main():
     parser.add_argument('--tables', action='store_true')
     parser.add_argument('words', nargs='*')
     options = parser.parse_args()
-    chosen = [row for row in WRONG if not options.words or any(word in row[0] for word in options.words)]
-    stale = [what for what, place, edits in chosen if edited(read(specs(ROOT, *place)), edits) is None]
-    if stale:
-        print('wrong_definitions.py: the text to be replaced is not there: ' + '; '.join(stale))
-        sys.exit(2)
-    scratch = copied(options.tables)
-    failed = []
-    try:
-        first = checked(scratch)
-        if first:
-            print('wrong_definitions.py: without an edit, %s is refused: %s' % first)
-            sys.exit(2)
-        for what, (crate, name), edits in chosen:
-            path = specs(scratch, crate, name)
-            right = read(path)
-            write(path, edited(right, edits))
-            refusal = checked(scratch)
-            write(path, right)
-            if refusal is None or refusal[1].startswith('specs/'):
-                failed.append(what)
-            print('%-55s %-13s %s' % (what, crate, 'ACCEPTED' if refusal is None else '%s, %s' % refusal), flush=True)
-    finally:
-        shutil.rmtree(scratch)
-    print('%d wrong definitions, %d refused by a proof' % (len(chosen), len(chosen) - len(failed)))
-    sys.exit(1 if failed else 0)
+    sys.exit(tried('wrong_definitions.py', WRONG, options.words, 'sound_cases', options.tables))
 
 
 if __name__ == '__main__':

@@ -10,12 +10,9 @@ accepted, or is no definition at all; 2 if a text to be replaced is not there, o
 
 WORD.. tries only those whose description has one of the words.
 """
-import re
-import shutil
-import subprocess
 import sys
 
-from wrong_definitions import ROOT, copied, edited, read, specs, write
+from wrong_definitions import tried
 
 GRAMMAR = ('program_grammar', 'Grammar.antt')
 OPERATORS = ('program_reader', 'Operators.antt')
@@ -47,45 +44,5 @@ WRONG = [
 ]
 
 
-def checked(scratch):
-    """What `rt check program_exact` says: None if all is proved, else the crate that refuses and its first error."""
-    done = subprocess.run(['rt', 'check', 'program_exact'], cwd=scratch, stdout=subprocess.PIPE, stderr=subprocess.STDOUT)
-    answer = done.stdout.decode('utf-8', 'replace')
-    if done.returncode == 0:
-        return None
-    crate = re.search(r'^rt: (\S+) NOT PROVED \(', answer, re.M)
-    error = re.search(r'crates/[^/\s]+/((?:specs|proofs)/\S+?\.antt:\d+):\d+: (?:error: )?`([^`]+)`', answer)
-    return (crate.group(1) if crate else '?', '%s %s' % (error.group(1), error.group(2)) if error else answer[-300:])
-
-
-def main():
-    words = sys.argv[1:]
-    chosen = [row for row in WRONG if not words or any(word in row[0] for word in words)]
-    stale = [what for what, place, edits in chosen if edited(read(specs(ROOT, *place)), edits) is None]
-    if stale:
-        print('wrong_grammar.py: the text to be replaced is not there: ' + '; '.join(stale))
-        sys.exit(2)
-    scratch = copied(False)
-    failed = []
-    try:
-        first = checked(scratch)
-        if first:
-            print('wrong_grammar.py: without an edit, %s is refused: %s' % first)
-            sys.exit(2)
-        for what, (crate, name), edits in chosen:
-            path = specs(scratch, crate, name)
-            right = read(path)
-            write(path, edited(right, edits))
-            refusal = checked(scratch)
-            write(path, right)
-            if refusal is None or refusal[1].startswith('specs/'):
-                failed.append(what)
-            print('%-45s %-16s %s' % (what, crate, 'ACCEPTED' if refusal is None else '%s, %s' % refusal), flush=True)
-    finally:
-        shutil.rmtree(scratch)
-    print('%d wrong rules, %d refused by a proof' % (len(chosen), len(chosen) - len(failed)))
-    sys.exit(1 if failed else 0)
-
-
 if __name__ == '__main__':
-    main()
+    sys.exit(tried('wrong_grammar.py', WRONG, sys.argv[1:], 'program_exact'))
