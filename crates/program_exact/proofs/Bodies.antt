@@ -442,15 +442,15 @@ module _ (edition : ℕ) (s : List ℕ) where
 
   -- ---- lists of statements
 
-  else-line : (j : ℕ) (z p : Bool) (t : Token) → is newline t ≡ true → elseAfter edition s (suc j) z p t ≡ elseAfter edition s j true p (tokenAfter edition s t)
+  pub else-line : (j : ℕ) (z p : Bool) (t : Token) → is newline t ≡ true → elseAfter edition s (suc j) z p t ≡ elseAfter edition s j true p (tokenAfter edition s t)
   unfolding elseAfter
   else-line j z p t q = rw q
 
-  else-mark : (j : ℕ) (z : Bool) (t : Token) → is newline t ≡ false → is semicolon t ≡ true → elseAfter edition s (suc j) z false t ≡ elseAfter edition s j true true (tokenAfter edition s t)
+  pub else-mark : (j : ℕ) (z : Bool) (t : Token) → is newline t ≡ false → is semicolon t ≡ true → elseAfter edition s (suc j) z false t ≡ elseAfter edition s j true true (tokenAfter edition s t)
   unfolding elseAfter
   else-mark j z t r q = rw (r, q)
 
-  else-here : (j : ℕ) (p : Bool) (t : Token) → is newline t ≡ false → is semicolon t ≡ false → is ELSE t ≡ true → elseAfter edition s (suc j) true p t ≡ some (tokenAfter edition s t)
+  pub else-here : (j : ℕ) (p : Bool) (t : Token) → is newline t ≡ false → is semicolon t ≡ false → is ELSE t ≡ true → elseAfter edition s (suc j) true p t ≡ some (tokenAfter edition s t)
   unfolding elseAfter
   else-here j p t a b q = rw (a, b, q)
 

@@ -1,6 +1,6 @@
 -- The tree of an expression that is read is the one that each derivation of its tokens says.
 use mathlib.Core.Path.{_≡_, refl, sym, ap, subst, _∙_}
-use mathlib.Core.Bool.{Bool, true, false, cond}
+use mathlib.Core.Bool.{Bool, true, false, cond, _||_}
 use mathlib.Core.List.{List, [], _∷_, _++_}
 use mathlib.Core.Option.{Option, some, none}
 use mathlib.Core.Logic.{_⊎_, inl, inr, ⊎-elim}
@@ -40,15 +40,15 @@ abbrev pub kindsOf : List Token → List Kind
 kindsOf [] = []
 kindsOf (t ∷ ts) = (t .kind) ∷ kindsOf ts
 
-abbrev firstKind : List Kind → Kind
+abbrev pub firstKind : List Kind → Kind
 firstKind [] = text-end
 firstKind (k ∷ l) = k
 
-abbrev otherKinds : List Kind → List Kind
+abbrev pub otherKinds : List Kind → List Kind
 otherKinds [] = []
 otherKinds (k ∷ l) = l
 
-abbrev IsEmpty : List Kind → Type 0
+abbrev pub IsEmpty : List Kind → Type 0
 IsEmpty [] = Unit
 IsEmpty (k ∷ l) = ⊥
 
@@ -65,14 +65,14 @@ module _ (edition : ℕ) (s : List ℕ) where
   Trail t [] u = t ≡ u
   Trail t (a ∷ ts) u = (v : Token) × (a ≡ t) × (Follow t v) × (Trail v ts u)
 
-  record Cut (l m : List Kind) (t : Token) (ts : List Token) (u : Token) : Type 0 where
-    middle : Token
-    left : Trail t (first l ts) middle
-    right : Trail middle (rest l ts) u
-    left-kinds : kindsOf (first l ts) ≡ l
-    right-kinds : kindsOf (rest l ts) ≡ m
+  pub record Cut (l m : List Kind) (t : Token) (ts : List Token) (u : Token) : Type 0 where
+    pub middle : Token
+    pub left : Trail t (first l ts) middle
+    pub right : Trail middle (rest l ts) u
+    pub left-kinds : kindsOf (first l ts) ≡ l
+    pub right-kinds : kindsOf (rest l ts) ≡ m
 
-  cut : (l m : List Kind) (t : Token) (ts : List Token) (u : Token) → kindsOf ts ≡ l ++ m → Trail t ts u → Cut l m t ts u
+  pub cut : (l m : List Kind) (t : Token) (ts : List Token) (u : Token) → kindsOf ts ≡ l ++ m → Trail t ts u → Cut l m t ts u
   cut [] m t ts u e w = record { middle = t; left = refl; right = w; left-kinds = refl; right-kinds = e }
   cut (k ∷ l) m t [] u e w = absurd (subst IsEmpty e tt)
   cut (k ∷ l) m t (a ∷ ts) u e w =
@@ -85,95 +85,134 @@ module _ (edition : ℕ) (s : List ℕ) where
         right-kinds = i .right-kinds;
       }
 
-  record OneStep (k : Kind) (l : List Kind) (t : Token) (ts : List Token) (u : Token) : Type 0 where
-    next : Token
-    kind : t .kind ≡ k
-    follow : Follow t next
-    trail : Trail next (tail ts) u
-    kinds : kindsOf (tail ts) ≡ l
-    here : head ts ≡ t
+  pub record OneStep (k : Kind) (l : List Kind) (t : Token) (ts : List Token) (u : Token) : Type 0 where
+    pub next : Token
+    pub kind : t .kind ≡ k
+    pub follow : Follow t next
+    pub trail : Trail next (tail ts) u
+    pub kinds : kindsOf (tail ts) ≡ l
+    pub here : head ts ≡ t
 
-  one-step : (k : Kind) (l : List Kind) (t : Token) (ts : List Token) (u : Token) → kindsOf ts ≡ k ∷ l → Trail t ts u → OneStep k l t ts u
+  pub one-step : (k : Kind) (l : List Kind) (t : Token) (ts : List Token) (u : Token) → kindsOf ts ≡ k ∷ l → Trail t ts u → OneStep k l t ts u
   one-step k l t [] u e w = absurd (subst IsEmpty e tt)
   one-step k l t (a ∷ ts) u e w =
       record { next = w .0; kind = sym (ap (λ (x : Token). x .kind) (w .1)) ∙ ap firstKind e; follow = w .2; trail = w .3; kinds = ap otherKinds e; here = w .1 }
 
-  -- how the next token is read
-  raw-next : (t v : Token) → Follow t v → Raw (v .kind) → v ≡ tokenAfter edition s t
+  -- a token, and as it is read: as it is, or again where an operand may stand
+  abbrev pub Reread : Token → Token → Type 0
+  Reread x v = (v ≡ x) ⊎ (v ≡ asOperand edition s x)
+
+  pub raw-again : (x v : Token) → Reread x v → Raw (v .kind) → v ≡ x
   unfolding asOperand among rank
-  raw-next t v (inl e) h = e
-  raw-next t v (inr e) h =
-      by-test (λ (x : Token). v ≡ x → v ≡ tokenAfter edition s t) (isOneOf Slashes (tokenAfter edition s t)) (Again edition s (tokenAfter edition s t)) (tokenAfter edition s t)
-      (λ q f. absurd (clash (sym (ere-kind (λ (k : Kind). among (ERE ∷ bad ∷ bad-ere ∷ []) k ≡ true) refl refl refl edition _ _ _) ∙ (sym (ap (λ (x : Token). among (ERE ∷ bad ∷ bad-ere ∷ []) (x .kind)) f) ∙ h))))
+  raw-again x v (inl e) h = e
+  raw-again x v (inr e) h =
+      by-test (λ (y : Token). v ≡ y → v ≡ x) (isOneOf Slashes x) (Again edition s x) x
+      (λ q f. absurd (clash (sym (ere-kind (λ (k : Kind). among (ERE ∷ bad ∷ bad-ere ∷ []) k ≡ true) refl refl refl edition _ _ _) ∙ (sym (ap (λ (y : Token). among (ERE ∷ bad ∷ bad-ere ∷ []) (y .kind)) f) ∙ h))))
       (λ q f. f) e
 
-  operand-next : (t v : Token) → Follow t v → among Slashes (v .kind) ≡ false → v ≡ operandAfter edition s t
-  operand-next t v (inr e) h = e
-  operand-next t v (inl e) h = e ∙ sym (operand-still edition s (tokenAfter edition s t) (sym (ap (λ (x : Token). among Slashes (x .kind)) e) ∙ h))
+  pub operand-again : (x v : Token) → Reread x v → among Slashes (v .kind) ≡ false → v ≡ asOperand edition s x
+  operand-again x v (inr e) h = e
+  operand-again x v (inl e) h = e ∙ sym (operand-still edition s x (sym (ap (λ (y : Token). among Slashes (y .kind)) e) ∙ h))
 
-  next-in : (t v : Token) → Follow t v → InText edition s 0 t → InText edition s 0 v
+  -- how the next token is read
+  pub raw-next : (t v : Token) → Follow t v → Raw (v .kind) → v ≡ tokenAfter edition s t
+  raw-next t v f h = raw-again (tokenAfter edition s t) v f h
+
+  pub operand-next : (t v : Token) → Follow t v → among Slashes (v .kind) ≡ false → v ≡ operandAfter edition s t
+  operand-next t v f h = operand-again (tokenAfter edition s t) v f h
+
+  pub next-in : (t v : Token) → Follow t v → InText edition s 0 t → InText edition s 0 v
   next-in t v (inl e) g = subst (InText edition s 0) (sym e) (after-in edition s t g)
   next-in t v (inr e) g = subst (InText edition s 0) (sym e) (operand-after-in edition s t g)
 
-  next-on : (t v : Token) → Follow t v → InText edition s 0 t → same (t .kind) text-end ≡ false → t .start < v .start
+  pub next-on : (t v : Token) → Follow t v → InText edition s 0 t → same (t .kind) text-end ≡ false → t .start < v .start
   next-on t v (inl e) g n = subst (λ (x : Token). t .start < x .start) (sym e) (onward-after edition s t g n)
   next-on t v (inr e) g n = subst (λ (x : Token). t .start < x .start) (sym e) (onward-operand edition s t g n)
 
-  trail-in : (t : Token) (ts : List Token) (u : Token) → InText edition s 0 t → Trail t ts u → InText edition s 0 u
+  pub trail-in : (t : Token) (ts : List Token) (u : Token) → InText edition s 0 t → Trail t ts u → InText edition s 0 u
   trail-in t [] u g w = subst (InText edition s 0) w g
   trail-in t (a ∷ ts) u g w = trail-in (w .0) ts u (next-in t (w .0) (w .2) g) (w .3)
 
-  -- ---- newlines that may follow
+  -- ---- tokens that may follow
+
+  -- each of some kinds is one that may be passed
+  abbrev pub AllOf : List Kind → List Kind → Type 0
+  AllOf ks [] = Unit
+  AllOf ks (k ∷ n) = (among ks k ≡ true) × (AllOf ks n)
+
+  -- kinds that a token has only as it is, and not at the text's end
+  abbrev pub Passed : List Kind → Type 0
+  Passed ks = ((k : Kind) → among ks k ≡ true → (Raw k) × (same k text-end ≡ false))
+      × ((x : Token) → isOneOf ks (asOperand edition s x) ≡ isOneOf ks x)
+
+  past-still : (ks : List Kind) (i : ℕ) (x : Token) → isOneOf ks x ≡ false → pastIn edition s ks i x ≡ x
+  unfolding pastIn
+  past-still ks zero x q = refl
+  past-still ks (suc i) x q = rw q
+
+  pub past-turn : (ks : List Kind) (i : ℕ) (x : Token) → isOneOf ks x ≡ true → pastIn edition s ks (suc i) x ≡ pastIn edition s ks i (tokenAfter edition s x)
+  unfolding pastIn
+  past-turn ks i x q = rw q
+
+  -- tokens of such kinds are passed, up to the first of another kind
+  pub past-trail : (ks : List Kind) → Passed ks → (n : List Kind) → AllOf ks n → (i : ℕ) (x v : Token) (ts : List Token) (w : Token) → InText edition s 0 x → length s ≤ i + x .start
+      → Reread x v → kindsOf ts ≡ n → Trail v ts w → among ks (w .kind) ≡ false → among Slashes (w .kind) ≡ false
+      → asOperand edition s (pastIn edition s ks i x) ≡ w
+  past-trail ks p [] z i x v [] w g f h e k a b =
+      let read : w ≡ asOperand edition s x = sym k ∙ operand-again x v h (ap (λ (y : Token). among Slashes (y .kind)) k ∙ b) in
+      ap (asOperand edition s) (past-still ks i x (sym (p .1 x) ∙ (ap (λ (y : Token). isOneOf ks y) (sym read) ∙ a))) ∙ sym read
+  past-trail ks p [] z i x v (c ∷ ts) w g f h e k a b = absurd (subst IsEmpty (sym e) tt)
+  past-trail ks p (j ∷ n) z i x v [] w g f h e k a b = absurd (subst IsEmpty e tt)
+  past-trail ks p (j ∷ n) z i x v (c ∷ ts) w g f h e k a b =
+      let kind : v .kind ≡ j = sym (ap (λ (y : Token). y .kind) (k .1)) ∙ ap firstKind e in
+      let two = p .0 j (z .0) in
+      let own : v ≡ x = raw-again x v h (ap (among (ERE ∷ bad ∷ bad-ere ∷ [])) kind ∙ two .0) in
+      let kind-x : x .kind ≡ j = ap (λ (y : Token). y .kind) (sym own) ∙ kind in
+      let no-end : same (x .kind) text-end ≡ false = ap (λ (j : Kind). same j text-end) kind-x ∙ two .1 in
+      let fuel = fuelled edition s x i g no-end f in
+      let on : x .start < tokenAfter edition s x .start = onward-after edition s x g no-end in
+      ap (λ (m : ℕ). asOperand edition s (pastIn edition s ks m x)) (fuel .1)
+      ∙ (ap (asOperand edition s) (past-turn ks (fuel .0) x (ap (among ks) kind-x ∙ z .0))
+      ∙ past-trail ks p n (z .1) (fuel .0) (tokenAfter edition s x) (k .0) ts w (after-in edition s x g) (omega (arith, f, on, fuel .1)) (subst (λ (y : Token). Follow y (k .0)) own (k .2)) (ap otherKinds e) (k .3) a b)
+
+  pub all-lines : (n : List Kind) → Newlines n → AllOf (newline ∷ []) n
+  unfolding among rank
+  all-lines _ no-newline = tt
+  all-lines _ (newline-more {l = n} d) = (refl, all-lines n d)
+
+  pub lines-passed : Passed (newline ∷ [])
+  unfolding among rank
+  lines-passed = (
+    λ k q. each (λ k. (Raw k) × (same k text-end ≡ false)) (newline ∷ []) ((refl, refl), tt) k q,
+    λ x. ap (λ (b : Bool). b || false) (operand-test edition s newline x (refl, refl, refl, refl, refl)),
+  )
 
   lines-trail : (n : List Kind) → Newlines n → (i : ℕ) (t v : Token) (ts : List Token) (w : Token) → InText edition s 0 t → same (t .kind) text-end ≡ false → length s ≤ i + tokenAfter edition s t .start
       → Follow t v → kindsOf ts ≡ n → Trail v ts w → same (w .kind) newline ≡ false → among Slashes (w .kind) ≡ false
       → asOperand edition s (pastIn edition s (newline ∷ []) i (tokenAfter edition s t)) ≡ w
-  unfolding pastIn among rank
-  lines-trail _ no-newline i t v [] w g z f h e k a b =
-      let read : w ≡ operandAfter edition s t = sym k ∙ operand-next t v h (ap (λ (x : Token). among Slashes (x .kind)) k ∙ b) in
-      let plain-kind : is newline (tokenAfter edition s t) ≡ false = sym (operand-test edition s newline (tokenAfter edition s t) (refl, refl, refl, refl, refl)) ∙ (ap (λ (x : Token). is newline x) (sym read) ∙ a) in
-      ap (asOperand edition s) (still i (tokenAfter edition s t) plain-kind) ∙ sym read
-    where
-      still : (i : ℕ) (x : Token) → is newline x ≡ false → pastIn edition s (newline ∷ []) i x ≡ x
-      still zero x q = refl
-      still (suc i) x q = rw q
-  lines-trail _ no-newline i t v (c ∷ ts) w g z f h e k a b = absurd (subst IsEmpty (sym e) tt)
-  lines-trail _ (newline-more {l = n} d) i t v [] w g z f h e k a b = absurd (subst IsEmpty e tt)
-  lines-trail _ (newline-more {l = n} d) i t v (c ∷ ts) w g z f h e k a b =
-      let line : v .kind ≡ newline = sym (ap (λ (x : Token). x .kind) (k .1)) ∙ ap firstKind e in
-      let own : v ≡ tokenAfter edition s t = raw-next t v h (ap (among (ERE ∷ bad ∷ bad-ere ∷ [])) line) in
-      let inside-v : InText edition s 0 v = next-in t v h g in
-      let no-end : same (v .kind) text-end ≡ false = ap (λ (j : Kind). same j text-end) line in
-      let start-v : v .start ≡ tokenAfter edition s t .start = ap (λ (x : Token). x .start) own in
-      let fuel = fuelled edition s v i inside-v no-end (omega (arith, f, start-v)) in
-      let on : v .start < tokenAfter edition s v .start = onward-after edition s v inside-v no-end in
-      let more-turns : length s ≤ fuel .0 + tokenAfter edition s v .start = omega (arith, f, start-v, on, fuel .1) in
-      let later-lines = lines-trail n d (fuel .0) v (k .0) ts w inside-v no-end more-turns (k .2) (ap otherKinds e) (k .3) a b in
-      ap (λ (x : Token). asOperand edition s (pastIn edition s (newline ∷ []) i x)) (sym own)
-      ∙ (ap (λ (m : ℕ). asOperand edition s (pastIn edition s (newline ∷ []) m v)) (fuel .1) ∙ (ap (asOperand edition s) (turn (fuel .0) v (ap (λ (j : Kind). same j newline) line)) ∙ later-lines))
-    where
-      turn : (i : ℕ) (x : Token) → is newline x ≡ true → pastIn edition s (newline ∷ []) (suc i) x ≡ pastIn edition s (newline ∷ []) i (tokenAfter edition s x)
-      turn i x q = rw q
+  unfolding among
+  lines-trail n d i t v ts w g z f h e k a b =
+      past-trail (newline ∷ []) lines-passed n (all-lines n d) i (tokenAfter edition s t) v ts w (after-in edition s t g) f h e k (rw a) b
 
   -- ---- answers
 
-  abbrev Deep6 : Read Expression → Type 0
+  abbrev pub Deep6 : Read Expression → Type 0
   Deep6 r = (place : ℕ) × (r ≡ no sizePassed place)
 
-  abbrev Exact : Read Expression → Expression → Token → Type 0
+  abbrev pub Exact : Read Expression → Expression → Token → Type 0
   Exact r e u = (Deep6 r) ⊎ (r ≡ ok e u)
 
-  abbrev Tier : ℕ → Bool → ℕ → Token → Read Expression
+  abbrev pub Tier : ℕ → Bool → ℕ → Token → Read Expression
   Tier levels p n t = tier edition s (inside edition s levels) p n t
 
-  abbrev Loop : ℕ → Bool → ℕ → ℕ → Read Expression → Read Expression
+  abbrev pub Loop : ℕ → Bool → ℕ → ℕ → Read Expression → Read Expression
   Loop levels p n i r = more edition s p (suc n) (tier edition s (inside edition s levels) p n) i r
 
-  abbrev Looped : ℕ → Bool → ℕ → Token → Expression → Token → Type 0
+  abbrev pub Looped : ℕ → Bool → ℕ → Token → Expression → Token → Type 0
   Looped levels p n t e u = (Deep6 (Loop levels p n (length s) (Tier levels p n t)))
       ⊎ ((j : ℕ) × (length s ≤ j + u .start) × (Loop levels p n (length s) (Tier levels p n t) ≡ Loop levels p n j (ok e u)))
 
-  abbrev Halt : Bool → ℕ → Kind → Type 0
+  abbrev pub Halt : Bool → ℕ → Kind → Type 0
   Halt p n k = (tierOf edition p k ≡ 0) ⊎ (n < tierOf edition p k)
 
   halt-lower : (p : Bool) (n : ℕ) (k : Kind) → Halt p (suc n) k → Halt p n k
@@ -236,14 +275,14 @@ module _ (edition : ℕ) (s : List ℕ) where
   next-le t v (inr e) g =
       subst (λ (x : Token). t .start ≤ x .start) (sym e) (omega (arith, good-operand edition s (t .stop) (tokenAfter edition s t) (good-after edition s 0 t g) .after, g .ordered))
 
-  trail-on : (t : Token) (ts : List Token) (u : Token) → InText edition s 0 t → Trail t ts u → t .start ≤ u .start
+  pub trail-on : (t : Token) (ts : List Token) (u : Token) → InText edition s 0 t → Trail t ts u → t .start ≤ u .start
   trail-on t [] u g w = subst (λ (x : Token). t .start ≤ x .start) w (omega arith)
   trail-on t (a ∷ ts) u g w = omega (arith, next-le t (w .0) (w .2) g, trail-on (w .0) ts u (next-in t (w .0) (w .2) g) (w .3))
 
-  abbrev Starts : Kind → Type 0
+  abbrev pub Starts : Kind → Type 0
   Starts k = (among Slashes k ≡ false) × (same k newline ≡ false) × (same k text-end ≡ false)
 
-  first-of : (l : List Kind) (t : Token) (ts : List Token) (u : Token) → kindsOf ts ≡ l → Trail t ts u → (IsEmpty l → ⊥) → t .kind ≡ firstKind l
+  pub first-of : (l : List Kind) (t : Token) (ts : List Token) (u : Token) → kindsOf ts ≡ l → Trail t ts u → (IsEmpty l → ⊥) → t .kind ≡ firstKind l
   first-of l t [] u e w n = absurd (n (subst IsEmpty e tt))
   first-of l t (a ∷ ts) u e w n = sym (ap (λ (x : Token). x .kind) (w .1)) ∙ ap firstKind e
 
@@ -290,7 +329,7 @@ module _ (edition : ℕ) (s : List ℕ) where
   IsAt elsewhere b = b ≡ false
 
   -- what is shown of each form
-  abbrev Spoken : (part : Part) (l : List Kind) → Form edition part l → Type 0
+  abbrev pub Spoken : (part : Part) (l : List Kind) → Form edition part l → Type 0
   Spoken (expression p) l d = (levels : ℕ) (b : Bool) (t : Token) (ts : List Token) (u : Token) → IsAt p b → Span l t ts u → among quiet (u .kind) ≡ true
       → Exact (Tier levels b 10 t) (said edition s d ts) u
   Spoken (disjunction p) l d = (levels : ℕ) (b : Bool) (t : Token) (ts : List Token) (u : Token) → IsAt p b → Span l t ts u → Halt b 8 (u .kind)
@@ -520,7 +559,7 @@ module _ (edition : ℕ) (s : List ℕ) where
   -- ---- levels
 
   -- a form one level further in
-  inner-exact : (levels : ℕ) (b : Bool) (n : ℕ) (o t : Token) (e : Expression) (u : Token) → ((l : ℕ) → Exact (Tier l b n t) e u) → Exact (inside edition s levels b n o t) e u
+  pub inner-exact : (levels : ℕ) (b : Bool) (n : ℕ) (o t : Token) (e : Expression) (u : Token) → ((l : ℕ) → Exact (Tier l b n t) e u) → Exact (inside edition s levels b n o t) e u
   unfolding inside
   inner-exact zero b n o t e u h = inl (o .start, refl)
   inner-exact (suc l) b n o t e u h = h l
@@ -613,7 +652,7 @@ module _ (edition : ℕ) (s : List ℕ) where
 
   -- ---- what forms begin with
 
-  starts-expression : (p : Place) (l : List Kind) → Form edition (expression p) l → (IsEmpty l → ⊥) × (Starts (firstKind l))
+  pub starts-expression : (p : Place) (l : List Kind) → Form edition (expression p) l → (IsEmpty l → ⊥) × (Starts (firstKind l))
   starts-expression p l d = let i = runs edition d (contextOf p) (context-at p) in starts-form fresh (contextOf p) (after (i .0) (contextOf p)) l (i .1)
 
   starts-argument : (x : Shape) (l : List Kind) → Form edition (argument x) l → (IsEmpty l → ⊥) × (Starts (firstKind l))
@@ -621,11 +660,11 @@ module _ (edition : ℕ) (s : List ℕ) where
   starts-argument x l (expression-argument d) = starts-expression elsewhere l d
   starts-argument x l ere-form = ((λ z. z), (refl, refl, refl))
 
-  first-append : (l m : List Kind) → (IsEmpty l → ⊥) → firstKind (l ++ m) ≡ firstKind l
+  pub first-append : (l m : List Kind) → (IsEmpty l → ⊥) → firstKind (l ++ m) ≡ firstKind l
   first-append [] m n = absurd (n tt)
   first-append (k ∷ l) m n = refl
 
-  still-some : (l m : List Kind) → (IsEmpty l → ⊥) → IsEmpty (l ++ m) → ⊥
+  pub still-some : (l m : List Kind) → (IsEmpty l → ⊥) → IsEmpty (l ++ m) → ⊥
   still-some [] m n = λ z. n tt
   still-some (k ∷ l) m n = λ z. z
 
@@ -844,7 +883,7 @@ module _ (edition : ℕ) (s : List ℕ) where
   starts-matching : (p : Place) (l : List Kind) → Form edition (matching p) l → (IsEmpty l → ⊥) × (Starts (firstKind l))
   starts-matching p l d = let i = runs edition d plain (contextOf p) tt (context-at p) in starts-form plain (contextOf p) (after (i .0) (contextOf p)) l (i .2)
 
-  first-not : (test : Kind → Bool) (f : Kind → Option State) (l : List Kind) (x : State) → ((k : Kind) → test k ≡ true → f k ≡ none) → from edition f l ≡ some x → test (firstKind l) ≡ false
+  pub first-not : (test : Kind → Bool) (f : Kind → Option State) (l : List Kind) (x : State) → ((k : Kind) → test k ≡ true → f k ≡ none) → from edition f l ≡ some x → test (firstKind l) ≡ false
   first-not test f [] x h e = absurd (none-some e)
   first-not test f (k ∷ l) x h e = decide (test k) refl
     where
@@ -896,7 +935,7 @@ module _ (edition : ℕ) (s : List ℕ) where
   say-arguments [] f l d h levels o v ts = tt
   say-arguments (x ∷ xs) f l d h levels o v ts = λ w p k. h levels o f v (first l ts) w p k
 
-  spoken : {part : Part} {l : List Kind} (d : Form edition part l) → Spoken part l d
+  pub spoken : {part : Part} {l : List Kind} (d : Form edition part l) → Spoken part l d
   unfolding said assignTo rightOf leaf among rank
   spoken (to-name {p = p} {k = k} {r = r} o e) = λ levels b t ts u at sp q.
       let a = one-step k (assign-kind ∷ r) t ts u (sp .kinds) (sp .trail) in
