@@ -1,0 +1,7 @@
+-- The reader of statements, items and programs, beside what derivations say.
+pub mod Stretches
+pub mod Openings
+pub mod Parts
+pub mod Blocks
+pub mod Items
+pub mod Exactly
