@@ -82,16 +82,17 @@ fn compare_numbers(
     0
 }
 
-// Compares two values as a code says: their numbers if both look numeric, else their texts.
+// Compares two values as a code says: their numbers if both look numeric, else their texts. The right one is judged first:
+// often it is a text constant, and then a field on the left isn't read as a number.
 pub fn compare(work: &mut [u8], a: usize, code: u64) -> u64
     requires { ⌜ (slotsEnd ≤ length (now work)) × (a + 1 < slotCount) ⌝ }
     ensures { λ r. ⌜ Left (now (work .entry)) (now (work .exit)) a r
         (compareOf (comparisonBy code) (slotAt (now (work .entry)) a) (slotAt (now (work .entry)) (a + 1))) ⌝ }
 {
-    let x = numbers::judge(work, a);
-    if x.numeric {
-        let y = numbers::judge(work, a + 1);
-        if y.numeric {
+    let y = numbers::judge(work, a + 1);
+    if y.numeric {
+        let x = numbers::judge(work, a);
+        if x.numeric {
             return compare_numbers(work, a, code, x, y);
         }
     }

@@ -10,11 +10,11 @@ use borrow.Author.Needs.{needs}
 use Rattle.run_values.proofs.comparing.compare.Statement.{statement}
 use Rattle.run_values.proofs.comparing.compare.Tie as tie
 
-judge-requires : tie.Need-judge-requires
-judge-requires c κs = search needs
-
 add-judge : tie.Need-add-judge
 add-judge c = search needs
+
+judge-requires : tie.Need-judge-requires
+judge-requires c κs = search needs
 
 judge-requires-2 : tie.Need-judge-requires-2
 judge-requires-2 c κs = search needs
@@ -27,14 +27,14 @@ same-length c = search needs
 
 returns : tie.Need-returns
 returns c =
-    let judge = c .before .before .before .before .before .before .before .before .judge in
-    let judge2 = c .before .before .before .before .before .judge2 in
+    let right = c .before .before .before .before .before .before .before .before .judge in
+    let left = c .before .before .before .before .before .judge2 in
     let if1 = c .before .before .before .before .before .before .before .if1 in
     let if2 = c .before .before .before .before .if2 in
     let a = c .before .before .before .before .before .before .before .before .before .before .before .args in
     c .before .before .compare-numbers .ensures (slotAt (a .work .now) (a .a)) (slotAt (a .work .now) (a .a + 1))
-    (judge .ensures) (judge2 .ensures)
-    (if1 .taken) (if2 .taken)
+    (left .ensures) (right .ensures)
+    (if2 .taken) (if1 .taken)
 
 text-order-requires : tie.Need-text-order-requires
 text-order-requires c κs = search needs
@@ -61,9 +61,9 @@ returns-2 c =
     let t = c .before .before .before .before .before .before .before .text-order in
     let h = c .before .before .before .holds in
     left-slot (a .a) _ _
-    (⊎-elim (λ s. compare-right-text o v w (t .result) (h .result) (t .ensures .0) (h .ensures) _ (s .2 .ensures)
+    (⊎-elim (λ s. compare-left-text o v w (t .result) (h .result) (t .ensures .0) (h .ensures) _ (s .2 .ensures)
     (s .3 .left))
-    (λ s. compare-left-text o v w (t .result) (h .result) (t .ensures .0) (h .ensures) _ (judge .ensures) (s .left))
+    (λ s. compare-right-text o v w (t .result) (h .result) (t .ensures .0) (h .ensures) _ (judge .ensures) (s .left))
     (if1 .came))
     (omega (arith, pre .1)) (t .ensures .1) (c .before .before .set-truth .ensures)
 
@@ -71,8 +71,8 @@ pub compare-spec : {M : Type 1} → statement M
 compare-spec =
     tie.close
     (tie.spec
-    judge-requires
     add-judge
+    judge-requires
     judge-requires-2
     compare-numbers-requires
     same-length
