@@ -6,7 +6,7 @@
 The documents are, unless some are named, README.md, docs/LANGUAGE.md, docs/IMAGE.md and man/flowawk.1; then the examples of examples/ are built and run by
 examples/run.py (not with --no-folder, nor if documents are named). The program is ./flowawk, or FILE. In a document of Markdown:
 
-- a block `text NAME` or `awk NAME` is a file, which the examples after it find by this name;
+- a block `text NAME`, `awk NAME` or `python NAME` is a file, which the examples after it find by this name;
 - a block `awk` is a filter that must translate;
 - a block `console` is commands: `$ ` begins one, `> ` goes on with it, and what follows is what it writes to standard output and standard error; a last
   line `[N]` is its status, which is 0 without one. Commands run by sh, one after the other, in an empty directory that is the document's own. A
@@ -15,6 +15,7 @@ examples/run.py (not with --no-folder, nor if documents are named). The program 
 - a table with the head `| awk | flowawk |`: each code of the first column is a filter that is refused with 3, 4 or 5, each of the second one that translates;
 - a table with the head `| Filter | Line | flowawk | POSIX | gawk | mawk |`: what each of the three programs prints for the filter on the line; `outcome N` is a
   status. The columns of gawk and mawk are compared where they are installed, in the versions that the document names; --table writes what they print.
+- a table with the head `| Number | Bytes |` has how an image spells numbers, one that begins `| Code | Name |` what codes take and leave: both as the reference has it.
 
 In the man page, commands are the lines of displays (`.Bd -literal`) that begin with `$ `. The status is 1 if an example fails.
 """
@@ -27,6 +28,10 @@ import sys
 import tempfile
 
 import building
+
+sys.path.insert(0, building.REFERENCE)
+sys.dont_write_bytecode = True
+import reference
 
 DOCUMENTS = ['README.md', 'docs/LANGUAGE.md', 'docs/IMAGE.md', 'man/flowawk.1']
 PEERS = {'gawk': ['gawk', '--version'], 'mawk': ['mawk', '-W', 'version']}
@@ -145,7 +150,7 @@ def run_block(place, words, lines, wrong):
     text = ''.join(line + '\n' for line in lines).encode()
     if words == ['console']:
         return run_console(place, lines, wrong)
-    if len(words) == 2 and words[0] in ('text', 'awk'):
+    if len(words) == 2 and words[0] in ('text', 'awk', 'python'):
         place.write(words[1], text)
         return 0
     if len(words) == 2 and words[0] == 'hex':
@@ -197,6 +202,31 @@ def run_instead(place, rows, wrong):
             if status:
                 wrong('%s: refused: %s' % (text, output.decode('latin-1')))
     return count
+
+
+def run_numbers(rows, wrong):
+    """How an image spells numbers."""
+    for number, spelled in rows:
+        got = reference.write_image([1, int(number), 0, 0, 0, 0, 0])[1][1:-5].hex(' ')
+        if plain(spelled) != got:
+            wrong('%s is spelled %s' % (number, got))
+    return len(rows)
+
+
+def run_codes(rows, wrong):
+    """What the codes of an image take and leave."""
+    said = {}
+    for code, _, operand, takes, leaves, _ in rows:
+        first, last = (code.split(' to ') * 2)[:2]
+        for c in range(int(first), int(last) + 1):
+            said[c] = (operand != '', takes, leaves)
+    for c, effect in reference.TAKES_LEAVES.items():
+        takes, leaves = effect or ('n', 0)
+        if said.pop(c, None) != (c in reference.HAS_OPERAND, str(takes), str(leaves)):
+            wrong('code %d' % c)
+    if said:
+        wrong('codes that there are not: %s' % sorted(said))
+    return len(rows)
 
 
 def answer(place, program, text, line):
@@ -268,6 +298,10 @@ def run_document(name, program, show):
                 mistakes.append('%s:%d: %s' % (name, number, text))
             if head == ['awk', 'flowawk']:
                 count += run_instead(place, rows, wrong)
+            if head == ['Number', 'Bytes']:
+                count += run_numbers(rows, wrong)
+            if head[:2] == ['Code', 'Name']:
+                count += run_codes(rows, wrong)
             if head[:2] == ['Filter', 'Line']:
                 count += run_peers(place, head, rows, document, show, wrong)
     return count, mistakes
