@@ -11,13 +11,14 @@ examples/run.py (not with --no-folder, nor if documents are named). The program 
 - a block `console` is commands: `$ ` begins one, `> ` goes on with it, and what follows is what it writes to standard output and standard error; a last
   line `[N]` is its status, which is 0 without one. Commands run by sh, one after the other, in an empty directory that is the document's own. A
   command that uses gawk or mawk is left out where that is not installed;
+  A first `cat NAME` of a file that is not there writes it;
 - a block `hex NAME` is the bytes of a file, two digits each, a line's note behind two spaces and more;
 - a table with the head `| awk | flowawk |`: each code of the first column is a filter that is refused with 3, 4 or 5, each of the second one that translates;
 - a table with the head `| Filter | Line | flowawk | POSIX | gawk | mawk |`: what each of the three programs prints for the filter on the line; `outcome N` is a
   status. The columns of gawk and mawk are compared where they are installed, in the versions that the document names; --table writes what they print.
 - a table with the head `| Number | Bytes |` has how an image spells numbers, one that begins `| Code | Name |` what codes take and leave: both as the reference has it.
 
-In the man page, commands are the lines of displays (`.Bd -literal`) that begin with `$ `. The status is 1 if an example fails.
+In the man page, commands are the lines of displays (`.Bd -literal`) that begin with `$ `; mandoc and groff, where they are installed, must have nothing to say about it. The status is 1 if an example fails.
 """
 import argparse
 import os
@@ -121,6 +122,8 @@ def run_console(place, lines, wrong):
     for command, written, status in commands(lines):
         if uses_missing(command):
             continue
+        if command.startswith('cat ') and not os.path.exists(place.path(command[4:])):
+            place.write(command[4:], '\n'.join(written + ['']).encode())
         count += 1
         got, output = place.run(['sh', '-c', command])
         shown = output.decode('latin-1').split('\n')
@@ -281,13 +284,23 @@ def run_peers(place, head, rows, document, show, wrong):
     return count
 
 
+def manual_faults(name):
+    """What mandoc and groff say about a man page."""
+    for words in (['mandoc', '-Tlint', '-W', 'style'], ['groff', '-ww', '-mdoc', '-Tascii', '-z']):
+        if shutil.which(words[0]):
+            said = subprocess.run(words + [os.path.join(building.ROOT, name)], stdout=subprocess.PIPE, stderr=subprocess.STDOUT).stdout.decode('latin-1')
+            for line in said.splitlines():
+                if 'outdated mandoc.db' not in line and 'referenced manual not found' not in line:
+                    yield line
+
+
 def run_document(name, program, show):
     """Runs a document's examples: how many there are, and what is wrong."""
     with open(os.path.join(building.ROOT, name), encoding='utf-8') as f:
         document = f.read()
     lines = document.split('\n')
     manual = not name.endswith('.md')
-    mistakes = []
+    mistakes = list(manual_faults(name)) if manual else []
     count = 0
     with tempfile.TemporaryDirectory() as directory:
         place = Place(directory, program)
