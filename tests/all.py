@@ -19,6 +19,8 @@ RANDOM = ['match', 'split', 'images', 'translate', 'run', 'ways']
 # over other archives than capi's
 OTHER_ARCHIVES = ['exists', 'tokens']
 OTHERS = ['frames', 'believe', 'sentences', 'edits']
+# over the program ./flowawk, which they build if it is missing
+PROGRAM = ['cli', 'install']
 COMPUTED = ['semantics', 'translation', 'grammar', 'wrong_definitions', 'wrong_grammar']
 
 
@@ -45,7 +47,8 @@ def main():
     jobs += [(name, lambda name=name: passes(name, *drawn, '--archive', archive)) for name in RANDOM]
     jobs += [(name, lambda name=name: passes(name, *drawn)) for name in OTHER_ARCHIVES]
     jobs += [('layers', lambda: passes('layers', '--check'))]
-    jobs += [(name, lambda name=name: passes(name)) for name in OTHERS + ([] if options.quick else COMPUTED)]
+    jobs += [('examples', lambda: passes('examples', '--archive', archive))]
+    jobs += [(name, lambda name=name: passes(name)) for name in PROGRAM + OTHERS + ([] if options.quick else COMPUTED)]
     failed = []
     for name, job in jobs:
         start = time.time()

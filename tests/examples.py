@@ -1,15 +1,15 @@
 #!/usr/bin/env python3
 """Runs every example of the documents and compares what it writes with what the document says.
 
-    tests/examples.py [--program FILE] [--table] [--no-folder] [DOCUMENT..]
+    tests/examples.py [--program FILE] [--archive FILE] [--table] [--no-folder] [DOCUMENT..]
 
 The documents are, unless some are named, README.md, docs/LANGUAGE.md, docs/IMAGE.md and man/flowawk.1; then the examples of examples/ are built and run by
-examples/run.py (not with --no-folder, nor if documents are named). The program is ./flowawk, or FILE. In a document of Markdown:
+examples/run.py (not with --no-folder, nor if documents are named), over the archive that is given or built. The program is ./flowawk, or FILE. In a document of Markdown:
 
 - a block `text NAME`, `awk NAME` or `python NAME` is a file, which the examples after it find by this name;
 - a block `awk` is a filter that must translate;
 - a block `console` is commands: `$ ` begins one, `> ` goes on with it, and what follows is what it writes to standard output and standard error; a last
-  line `[N]` is its status, which is 0 without one. Commands run by sh, one after the other, in an empty directory that is the document's own. A
+  line `[N]` is its status, which is 0 without one. Commands run by sh, one after the other, in a directory that is the document's own and has `flowawk` and `examples`. A
   command that uses gawk or mawk is left out where that is not installed;
   A first `cat NAME` of a file that is not there writes it;
 - a block `hex NAME` is the bytes of a file, two digits each, a line's note behind two spaces and more;
@@ -40,17 +40,19 @@ TEXT_LIMIT = 60
 
 
 class Place:
-    """The directory of a document's examples, with the program `flowawk` on the path."""
+    """The directory of a document's examples, with the program `flowawk` on the path and in it, and the folder `examples`."""
 
     def __init__(self, directory, program):
         self.directory = os.path.join(directory, 'examples')
         binaries = os.path.join(directory, 'bin')
         os.mkdir(self.directory)
         os.mkdir(binaries)
-        wrapper = os.path.join(binaries, 'flowawk')
-        with open(wrapper, 'w') as f:
-            f.write('#!/bin/sh\nexec %s "$@"\n' % program)
-        os.chmod(wrapper, 0o755)
+        for where in (binaries, self.directory):
+            wrapper = os.path.join(where, 'flowawk')
+            with open(wrapper, 'w') as f:
+                f.write('#!/bin/sh\nexec %s "$@"\n' % program)
+            os.chmod(wrapper, 0o755)
+        os.symlink(os.path.join(building.ROOT, 'examples'), self.path('examples'))
         self.environment = dict(os.environ, PATH=binaries + os.pathsep + os.environ['PATH'], LC_ALL='C')
 
     def run(self, words, stdin=b''):
@@ -323,6 +325,7 @@ def run_document(name, program, show):
 def main():
     parser = argparse.ArgumentParser()
     parser.add_argument('--program', default=os.path.join(building.ROOT, 'flowawk'))
+    parser.add_argument('--archive')
     parser.add_argument('--table', action='store_true')
     parser.add_argument('--no-folder', action='store_true')
     parser.add_argument('documents', nargs='*')
@@ -336,7 +339,8 @@ def main():
             print('  ' + text)
         failed += len(mistakes)
     if not options.documents and not options.no_folder:
-        failed += subprocess.run([sys.executable, os.path.join('examples', 'run.py'), '--program', program], cwd=building.ROOT).returncode != 0
+        words = [sys.executable, os.path.join(building.ROOT, 'examples', 'run.py'), '--program', program]
+        failed += subprocess.run(words + (['--archive', options.archive] if options.archive else [])).returncode != 0
     sys.exit(1 if failed else 0)
 
 
