@@ -139,6 +139,9 @@ def run_console(place, lines, wrong):
 def run_hex(place, name, lines, wrong):
     digits = ''.join(re.split(r'\s{2,}', line.strip())[0] for line in lines)
     expected = bytes.fromhex(digits)
+    if not os.path.exists(place.path(name)):
+        wrong('%s: there is no such file' % name)
+        return 1
     with open(place.path(name), 'rb') as f:
         got = f.read()
     if got != expected:
