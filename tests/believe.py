@@ -41,7 +41,8 @@ ENTRIES = [
     ('capi', 'runs', ['flowawk_run']),
 ]
 
-# computed definition (crate, file, name): what explains it (crate, file, names), and the theorems that say so
+# computed definition (crate, file, name): what explains it (crate, file, names), and the theorems that say so. An explanation is a relation, which is
+# counted in its place, or a notion that every reader has (equality, a length); it is never longer than what it explains.
 EXPLAINED = {
     ('ere_grammar', 'Read', 'readEre'): (('ere_grammar', 'Grammar', ['Reads']), 'read-sound read-complete refused-exactly'),
     ('ere_meaning', 'Search', 'bestOf'): (('ere_meaning', 'Meaning', ['Best']), 'best best-one nowhere-exactly'),
@@ -74,17 +75,15 @@ EXPLAINED = {
     ('program_code', 'Expressions', 'size'): (('program_code', 'Expressions', ['compile']), 'size-length'),
     ('program_code', 'Sections', 'sizeAll'): (('program_code', 'Sections', ['compileAll']), 'all-length'),
     ('program_code', 'Sections', 'sizeOf'): (('program_code', 'Sections', ['compileStatement']), 'statement-length'),
-    # an index, by what is at it and before it; a test of a whole list, by the tests of its elements
-    ('buffer', 'First', 'firstByte'): (('buffer', 'First', []), 'first-byte-most first-byte-below first-byte-at'),
-    ('lists', 'Elements', 'leading'): (('lists', 'Elements', []), 'leading-le leading-each leading-stops'),
-    ('lists', 'Elements', 'all'): (('lists', 'Elements', []), 'all-says'),
-    # To switch on when it is proved that the tree that is read is the one that each derivation says, for whole programs, and that 6 is
-    # answered exactly at the token that opens level 17; the names are those of the files that then say so:
-    # ('program_reader', 'Programs', 'readProgram'): (('program_exact', 'Trees', ['said']), 'reads-exactly refused-exactly one-tree'),
+    # To switch on once these are proved (with the crate program_says in its chapter below):
+    # the tree that is read is the one that each derivation says, and 6 is answered exactly at the token that opens level 17:
+    # ('program_reader', 'Programs', 'readProgram'): (('program_says', 'Trees', ['saidBy']), 'reads-exactly trees-exactly refused-exactly'),
     # and, if the grammar is said once more with the levels as an index, the one without levels by the one with them:
     # ('program_grammar', 'Grammar', 'Sentence'): (('program_exact', 'Levels', ['Sentence']), '..'),
-    # To switch on with the law that the row at `opcode o` has the operation o (`opcode-row` says which row it is, by `rowOf`):
+    # the row at `opcode o` has the operation o (`opcode-row` says which row it is, by `rowOf`):
     # ('program_code', 'Emitted', 'opcode'): (('image_format', 'Codes', ['codeOf']), 'opcode-row opcode-operation'),
+    # constants that are told to be the same are equal (`constant-same` is the other way):
+    # ('program_numbering', 'Numbering', 'sameConstant'): (('program_numbering', 'Numbering', []), 'constant-same constant-equal'),
 }
 
 # the chapters of the book: a title, what a reader should know, and the files (crate, names) in reading order
@@ -105,7 +104,7 @@ CHAPTERS = [
      [('semantics', ['Check', 'Checked', 'Stuck']), ('image_check', ['Verdict'])]),
     ('Filter texts', 'Tokens, trees, the grammar as a relation on kinds of tokens, where a text is refused, and the reader.',
      [('program_tokens', ['Kinds', 'Words', 'Tokens']), ('program_tree', ['Tree', 'Functions']), ('program_grammar', ['Sets', 'Grammar', 'Viable']),
-      ('program_reader', ['Read', 'Operators', 'Expressions', 'Statements', 'Programs']), ('program_exact', ['Claims', 'Trees', 'Levels'])]),
+      ('program_reader', ['Read', 'Operators', 'Expressions', 'Statements', 'Programs']), ('program_exact', ['Claims', 'Trees', 'Levels']), ('program_says', ['Trees', 'Claims'])]),
     ('Translation', 'From a tree to code by names, from names to numbers, and the outcomes of a translation.',
      [('program_code', ['Emitted', 'Expressions', 'Sections']), ('program_numbering', ['Names', 'Numbering', 'Sizes']), ('translation', ['Translation']),
       ('translator', ['Answer'])]),
