@@ -6,6 +6,8 @@
 A definition of crates/*/specs/ is reached if a contract of a public entry (ENTRIES), the statement of a theorem that the section "Demands 1 to 3" of
 docs/PROMISES.md names, or another definition that is reached names it. Where a theorem explains a computed definition by a relation (EXPLAINED), the
 relation is reached in its place, and the computation isn't. What is counted are lines of definitions, without blank lines, comments and `use` lines.
+Statements of theorems are not counted, whether they are beside the proof or have a name of their own in specs/ (STATEMENTS): they are proved. They are
+shown, and their lines are told apart.
 
 Writes a line for each crate and the sum; --list writes the definitions themselves, --why NAME how NAME is reached, and --book writes docs/BELIEVE.md:
 the definitions in reading order (CHAPTERS), each under its comment, which names its sentence of document 01. The status is 1 if
@@ -112,14 +114,23 @@ CHAPTERS = [
      [('semantics', ['Check', 'Checked', 'Stuck']), ('image_check', ['Verdict'])]),
     ('Filter texts', 'Tokens, trees, the grammar as a relation on kinds of tokens, where a text is refused, and the reader.',
      [('program_tokens', ['Kinds', 'Words', 'Tokens']), ('program_tree', ['Tree', 'Functions']), ('program_grammar', ['Sets', 'Grammar', 'Viable']),
-      ('program_reader', ['Read', 'Operators', 'Expressions', 'Statements', 'Programs']), ('program_exact', ['Trees', 'Claims']),
-      ('program_says', ['Trees', 'Claims']), ('program_levels', ['Levels', 'Claims'])]),
+      ('program_reader', ['Read', 'Operators', 'Expressions', 'Statements', 'Programs']), ('program_exact', ['Trees']), ('program_says', ['Trees']),
+      ('program_levels', ['Levels'])]),
     ('Translation', 'From a tree to code by names, from names to numbers, and the outcomes of a translation.',
      [('program_code', ['Emitted', 'Expressions', 'Sections']), ('program_numbering', ['Names', 'Numbering', 'Sizes']), ('translation', ['Translation']),
       ('translator', ['Answer'])]),
-    ('The claim about whole runs', 'Demand 3, from bytes.', [('sound', ['Demand'])]),
+    ('What is claimed of the whole', 'Statements of theorems: that texts are read and refused exactly as the grammar says, and demand 3, from bytes. They are proved, so '
+     'nobody has to believe them; this is what they say.', [('program_exact', ['Claims']), ('program_says', ['Claims']), ('program_levels', ['Claims']), ('sound', ['Demand'])]),
 ]
 BOOK = os.path.join(ROOT, 'docs', 'BELIEVE.md')
+
+# statements of theorems that have a name in specs/, by file: all names of it, or those that are listed
+STATEMENTS = {
+    ('program_exact', 'Claims'): ['Deep', 'TooDeep', 'ReadsExactly', 'RefusedExactly', 'SlashExactly'],
+    ('program_says', 'Claims'): None,
+    ('program_levels', 'Claims'): None,
+    ('sound', 'Demand'): None,
+}
 
 # crates of claims about the whole and of computed tables, of which no file is asked for its mark
 TO_COME = {'sound', 'sound_cases', 'program_says', 'program_levels'}
@@ -291,7 +302,18 @@ def theorems(book):
 
 
 def counted(book, places):
-    return sum(len(book.files[p[:2]][0][p[2]].lines) for p in places)
+    """The lines of some definitions; statements of theorems are none."""
+    return sum(len(book.files[p[:2]][0][p[2]].lines) for p in places if not is_statement(p))
+
+
+def stated(book, places):
+    """The lines of the statements among some definitions."""
+    return sum(len(book.files[p[:2]][0][p[2]].lines) for p in places if is_statement(p))
+
+
+def is_statement(place):
+    names = STATEMENTS.get(place[:2], [])
+    return names is None or place[2] in names
 
 
 def marks(book):
@@ -391,8 +413,9 @@ def written(book):
     contents, body = [], []
     for number, (title, about, parts) in enumerate(CHAPTERS, 1):
         shown = [(crate, name) for crate, names in parts for name in names if (crate, name) in files]
-        lines = counted(book, [p for p in book.reached if p[:2] in shown])
-        contents.append('%d. [%s](#%d-%s): %d lines' % (number, title, number, re.sub(r'[^a-z0-9 -]', '', title.lower()).replace(' ', '-'), lines))
+        places = [p for p in book.reached if p[:2] in shown]
+        lines = ' and '.join(['%d lines' % counted(book, places)] * (counted(book, places) > 0) + ['%d of statements' % stated(book, places)] * (stated(book, places) > 0))
+        contents.append('%d. [%s](#%d-%s): %s' % (number, title, number, re.sub(r'[^a-z0-9 -]', '', title.lower()).replace(' ', '-'), lines))
         body += ['', '## %d. %s' % (number, title), '', about]
         for crate, name in shown:
             body += of_file(book, crate, name)
@@ -401,10 +424,12 @@ def written(book):
             body += ['', 'Not to be believed, since theorems say what they compute:', '']
             body += ['- `%s` of `%s`: %s' % (place[2], place[0], ', '.join('`%s`' % name for name in book.explained[place].split())) for place in told]
     total = counted(book, book.reached)
+    claims = stated(book, book.reached)
     top = ['# What a reader has to believe', '',
            'Made by `python3 tests/believe.py --book`; `tests/all.py` checks that it is up to date. %s lines of definitions, without blank lines and' % format(total, ','),
            'comments: what the contracts of the public entries and the claims of `PROMISES.md`, "Demands 1 to 3", reach. Whoever believes that these say what',
-           'document 01 ("01") says, and trusts the prover, need read nothing else: no code and no proof. Quotations are 01\'s.', '',
+           'document 01 ("01") says, and trusts the prover, need read no code and no proof, but the contracts and claims themselves: %d lines of claims are in the' % claims,
+           'last chapter, the others are beside the code and the proofs, where `PROMISES.md` leads. Quotations are 01\'s.', '',
            'How to read it: `f : A → B` is a function, and its equations follow; `data` lists the ways in which something can be or hold, one constructor each;',
            '`record` is what holds together; `a ≡ b` is equality, `×` is "and", `⊎` is "or", `⊥` is falsity, so `A → ⊥` is "not A"; `(x : A) × B` is "there is an x',
            'with B"; `x ∷ l` is a list with x in front, `l ++ m` one list after the other; `cond c a b` is a if c is true, else b; bytes are numbers. Names in `{ }`',
@@ -451,6 +476,7 @@ def main():
                 print('\n-- %s.%s' % place[:2])
                 print('\n'.join(line for _, line in book.files[place[:2]][0][place[2]].lines))
     print('%-16s %5d of %5d' % ('all', total, sum(len(d.lines) for found, _ in book.files.values() for d in found.values())))
+    print('%-16s %5d' % ('statements', stated(book, book.reached)))
     for place, names in sorted(book.explained.items()):
         print('explained: %s of %s, by %s' % (place[2], place[0], names))
     if options.why:
