@@ -59,7 +59,7 @@ pub data Bracket : List ℕ → Class → Type 0 where
 pub data Part : Type 0 where
   alternatives sequence piece atom : Part
 
--- The bytes spell the tree, with at most so many groups one inside the other. A later edition adds rules of its own.
+-- The bytes spell the tree, with at most n groups one inside the other. A later edition adds rules of its own.
 pub data Spells (edition : ℕ) : Part → ℕ → List ℕ → Ere Class → Type 0 where
   alternative : {n : ℕ} {s : List ℕ} {e : Ere Class} → Spells edition sequence n s e → Spells edition alternatives n s e
   or : {n : ℕ} {s t : List ℕ} {a b : Ere Class} → Spells edition alternatives n s a → Spells edition sequence n t b

@@ -65,7 +65,7 @@ module _ (rest : List ℕ → Items) where
   afterByte none = none
   afterByte (some g) = cond (joins (g .rest)) (rangeTo (g .value) (readMember (tail (g .rest)))) (withRange (range (g .value) (g .value)) (rest (g .rest)))
 
--- the items of a bracket and its end, in at most so many turns; `first` where none is before them
+-- the items of a bracket and its end, in at most that number of turns; `first` where none is before them
 unfoldable pub readItems : ℕ → Bool → List ℕ → Items
 readItems zero first t = none
 readItems (suc turns) first [] = none
@@ -137,8 +137,8 @@ unfoldable pub readGroup : Rest → ℕ → Option (Ere Class) → Option (Ere C
 readGroup rest zero A S t = none
 readGroup rest (suc n) A S t = afterGroup rest (suc n) A S (rest n none none t)
 
--- the rest of a group, with the alternatives and the sequence so far, in at most so many turns; it ends before a `)` or
--- at the end
+-- the rest of a group, with the alternatives and the sequence so far, in at most that number of turns; it ends before a
+-- `)` or at the end
 unfoldable pub readRest : ℕ → Rest
 readRest zero n A S t = none
 readRest (suc turns) n A S [] = finished A S []

@@ -14,7 +14,7 @@ use Rattle.ere_meaning.proofs.Leading.{forward, leads-true, true-leads}
 
 module _ {A : Type 0} (ok : A → ℕ → Bool) (text : List ℕ) (e : Ere A) where
   module _ (least s : ℕ) where
-    -- where no span of at least so many bytes starts at s, each starts after s
+    -- where no span of at least `least` bytes starts at s, each starts after s
     behind : ((j : ℕ) → s + least ≤ j → Spans ok text e s j → ⊥) → (k j : ℕ) → s ≤ k → k + least ≤ j → Spans ok text e k j → suc s ≤ k
     behind none k j l m x =
         ⊎-elim (λ z. absurd (none j (omega arith) (subst (λ (c : ℕ). Spans ok text e c j) (sym z) x))) (λ g. g) (eq-or-lt-of-le l)

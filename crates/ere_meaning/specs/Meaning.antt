@@ -36,7 +36,7 @@ pub data Match : Type 0 where
   nowhere : Match
 
 module _ {A : Type 0} (ok : A → ℕ → Bool) (text : List ℕ) (e : Ere A) where
-  -- Of the spans that start at `from` or later and have at least so many bytes, the answer has the smallest start, then
+  -- Of the spans that start at `from` or later and have at least `least` bytes, the answer has the smallest start, then
   -- the greatest length; there is none exactly if there is no such span.
   abbrev pub BestFrom : ℕ → ℕ → Match → Type 0
   BestFrom from least (found s n) =

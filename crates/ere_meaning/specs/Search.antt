@@ -39,7 +39,7 @@ module _ {A : Type 0} (ok : A → ℕ → Bool) (text : List ℕ) where
   leftmost e least s zero = nowhere
   leftmost e least s (suc d) = longest e s least (suc (length text) - (s + least)) (leftmost e least (suc s) d)
 
-  -- of the spans that start at `from` or later and have at least so many bytes
+  -- of the spans that start at `from` or later and have at least `least` bytes
   unfoldable pub bestFrom : Ere A → ℕ → ℕ → Match
   bestFrom e from least = leftmost e least from (suc (length text) - from)
 

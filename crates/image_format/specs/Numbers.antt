@@ -13,7 +13,7 @@ pub data Coded : ℕ → List ℕ → Type 0 where
   last : {g : ℕ} → g < 128 → Coded g (g ∷ [])
   more : {g n : ℕ} {t : List ℕ} → g < 128 → 0 < n → Coded n t → Coded (g + 128 * n) ((128 + g) ∷ t)
 
--- the same, computed: the number in at most so many groups
+-- the same, computed: the number n, in at most k groups
 abbrev pub groups : ℕ → ℕ → List ℕ
 groups zero n = []
 groups (suc k) n = cond (ltb n 128) (n ∷ []) ((128 + n % 128) ∷ groups k (n / 128))

@@ -89,7 +89,7 @@ module _ (edition : ℕ) where
       pub few : length xs ≤ mostOf k
       pub each : Every (FitsOf k) xs
 
-    -- so many items, each of which fits
+    -- n items, each of which fits
     pub record ItemsAt (n at : ℕ) (r : Listed) (index : List ℕ) : Type 0 where
       pub refused : r .ok ≡ false → (xs : List (ItemOf k)) (t : List ℕ) → many (takerOf k) n (drop at l) ≡ parsed xs t → Every (FitsOf k) xs → ⊥
       pub found : r .ok ≡ true

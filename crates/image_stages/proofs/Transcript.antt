@@ -33,7 +33,7 @@ module _ (source : Source) (write : ℕ → List ℕ) where
   abbrev pub aByte : Rest → Rest
   aByte k l = bind (source .byte l) (λ b l. before (b ∷ []) (k l))
 
-  -- so many bytes, numbers or items
+  -- n bytes, numbers or items
   unfoldable pub times : (Rest → Rest) → ℕ → Rest → Rest
   times one zero k = k
   times one (suc n) k = one (times one n k)
@@ -61,11 +61,11 @@ module _ (source : Source) (write : ℕ → List ℕ) where
     abbrev pub anInstruction : Rest → Rest
     anInstruction k = aNumber (λ c. ofCode (codeOf edition c) k)
 
-    -- an item of the list after which so many lists come: constants, EREs, and three sections of instructions
+    -- an item of the list after which n lists come: constants, EREs, and three sections of instructions
     abbrev pub anItem : ℕ → Rest → Rest
     anItem after k = cond (eqb after 4) (aConstant k) (cond (eqb after 3) (aText k) (anInstruction k))
 
-    -- so many lists
+    -- n lists
     unfoldable pub lists : ℕ → Rest
     lists zero = succeed []
     lists (suc after) = aNumber (λ n. times (anItem after) n (lists after))

@@ -53,7 +53,7 @@ start = state atEdition 0 5 0 1
 abbrev pub opening : ℕ → ℕ
 opening lists = cond (eqb lists 4) atKind (cond (eqb lists 3) atLength atCode)
 
--- the item has so many units of a stage yet
+-- the item has `units` units of a stage left
 abbrev pub withUnits : State → ℕ → ℕ → State
 withUnits s stage units = state stage (s .edition) (s .lists) (s .items) units
 

@@ -29,8 +29,8 @@ const PLAIN: u64 = 6;
 // Nothing: the image is whole.
 pub const END: u64 = 7;
 
-// The stage, the image's edition, and what comes after the present list, item and unit: so many lists, so many items of
-// the list, and so many units of the item, which are numbers or text bytes.
+// Where a walk is: the stage, the image's edition, and how many lists, items of the list and units of the item come
+// after the present ones. A unit is a number or a text byte.
 pub struct State {
     pub stage: u64,
     pub edition: u64,
@@ -79,7 +79,7 @@ fn opening(lists: u64) -> u64
     CODE
 }
 
-// Returns the state with so many units of a stage left of its item.
+// Returns the state with `units` units of a stage left of its item.
 fn with_units(s: State, stage: u64, units: u64) -> State
     ensures { λ r. ⌜ r ≡ withUnits s stage units ⌝ }
 {

@@ -21,7 +21,7 @@ unfoldable pub stringClose : List ℕ → Option (Parsed (List ℕ)) → Close
 stringClose s none = Nothing
 stringClose s (some g) = At (length s - length (g .rest))
 
--- the place of the closing slash, so many bytes after another
+-- the place of the closing slash, n bytes after the place `at`
 unfoldable pub ereClose : ℕ → Option ℕ → Close
 ereClose at none = Nothing
 ereClose at (some n) = At (at + n)

@@ -158,11 +158,11 @@ module _ (edition : ℕ) (s : List ℕ) where
     tier printed zero t = fieldForm t
     tier printed (suc k) t = stepTier printed (suc k) (tier printed k) t
 
-  -- one level further in, where so many are left: "opens level 17 (6)"
+  -- one level further in, by the levels that are left: "opens level 17 (6)"
   unfoldable pub inside : ℕ → Inner
   inside zero printed k opener t = tooDeep opener
   inside (suc levels) printed k opener t = tier (inside levels) printed k t
 
-  -- an expression, where so many levels are left
+  -- an expression, by the levels that are left
   abbrev pub expressionAt : ℕ → Bool → Token → Read Expression
   expressionAt levels printed t = tier (inside levels) printed expressions t

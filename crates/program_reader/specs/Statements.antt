@@ -125,7 +125,7 @@ module _ (edition : ℕ) (s : List ℕ) where
 
   -- ---- levels
 
-  -- a statement, where so many levels are left
+  -- a statement, by the levels that are left
   unfoldable pub statementAt : Bool → ℕ → Token → Read Statement
   statementAt inMain zero t = statementOf inMain zero (noBody edition inMain) tooDeep t
   statementAt inMain (suc levels) t =

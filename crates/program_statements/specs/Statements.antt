@@ -29,7 +29,7 @@ elseOf none = Nothing
 elseOf (some u) = At (coded u)
 
 module _ (edition : ℕ) (s : List ℕ) where
-  -- a body, and a block, one level further in, where so many levels are left
+  -- a body, and a block, one level further in, by the levels that are left
   abbrev pub bodyOf : Bool → ℕ → Token → Result Statement
   bodyOf inMain zero = noBody edition inMain
   bodyOf inMain (suc levels) = statementAt edition s inMain levels

@@ -1,4 +1,4 @@
-// A separator is told apart once, not for each field.
+// What a separator is, found out once and not for each field.
 ghost use mathlib.Core.Path.{_≡_};
 ghost use Prim.Native.Nat.{_<_};
 ghost use lib.ListN.{length};

@@ -66,7 +66,7 @@ runs-in budget room = row true budget room 0
 abbrev pub runs : String → Image → List ℕ → Option Answer → Row
 runs = runs-in 100 100
 
--- after so many records
+-- after that number of records
 abbrev pub runs-from : ℕ → String → Image → List ℕ → Option Answer → Row
 runs-from = row true 100 100
 
@@ -81,7 +81,7 @@ seen r = (check (r .image), answerOf (run (r .image) (r .budget) (feed (r .input
 abbrev pub Claim : Row → Type 0
 Claim r = seen r ≡ (r .checks, r .answer)
 
--- so many bytes, all the same
+-- n bytes, all the same
 abbrev pub repeated : ℕ → ℕ → List ℕ
 repeated n b = replicate n b
 

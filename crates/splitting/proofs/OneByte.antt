@@ -80,7 +80,7 @@ module _ (b : ℕ) where
   no-byte (more x p) zero h = x
   no-byte (more x p) (suc k) h = no-byte p k (omega arith)
 
-  -- bytes with n times b have so many fields
+  -- bytes with n times b have n + 1 fields
   occurs-split : {n : ℕ} {t : List ℕ} → Occurs b n t → (fs : List (List ℕ)) × (ByteSplit b t fs) × (length fs ≡ suc n)
   occurs-split (never {t} x) = (t ∷ [], last x, refl)
   occurs-split (once-more {f} x o) = let r = occurs-split o in (f ∷ r .0, more x (r .1), ap suc (r .2))

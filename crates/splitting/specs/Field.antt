@@ -11,7 +11,7 @@ use Rattle.ere_meaning.specs.Meaning.{Match, found, nowhere}
 use Rattle.ere_meaning.specs.Search.{bestFrom}
 use Rattle.splitting.specs.Separator.{Separator, blank, byte, ere}
 
--- so many bytes from a place on
+-- `size` bytes from the place `start` on
 pub record Span : Type 0 where
   pub start : ℕ
   pub size : ℕ
@@ -60,7 +60,7 @@ module _ (text : List ℕ) where
   follow rest none = []
   follow rest (field f at) = f ∷ rest at
 
-  -- the fields from a place on, in at most so many turns
+  -- the fields from a place on, in at most that number of turns
   unfoldable pub fieldsIn : Separator → ℕ → ℕ → List Span
   fieldsIn s zero at = []
   fieldsIn s (suc n) at = follow (fieldsIn s n) (nextField s at)

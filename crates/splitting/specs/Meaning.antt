@@ -46,7 +46,7 @@ abbrev pub pieces : List ℕ → ℕ → List Span → List ℕ
 pieces text at [] = drop at text
 pieces text at (f ∷ fs) = part at (f .start - at) text ++ (part (f .start) (f .size) text ++ pieces text (f .start + f .size) fs)
 
--- in order, none over another, within so many bytes
+-- in order, none over another, from the place `at` on and up to `end`
 abbrev pub Ordered : ℕ → ℕ → List Span → Type 0
 Ordered end at [] = at ≤ end
 Ordered end at (f ∷ fs) = (at ≤ f .start) × (Ordered end (f .start + f .size) fs)

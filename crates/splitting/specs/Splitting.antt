@@ -44,7 +44,7 @@ countOf long-record = counting recordTooLong 0
 countOf bad-separator = counting badSeparator 0
 countOf many-fields = counting badFieldNumber 0
 
--- field k of a record of so many bytes
+-- field k of a record that ends at `end`
 abbrev pub fieldAt : ℕ → List Span → ℕ → Span
 fieldAt end fs zero = span 0 end
 fieldAt end fs (suc k) = getD fs k (span end 0)

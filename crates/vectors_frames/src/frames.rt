@@ -5,7 +5,7 @@ ghost use Prim.Native.Nat.{_≤_};
 ghost use lib.ListN.{length};
 ghost use Rattle.vectors_frames.specs.Frames.{sizeOf};
 
-// What a look for the next frame finds: a payload of so many bytes, at the front of the room; a frame that the end of
+// What a look for the next frame finds: a payload, by its size, at the front of the room; a frame that the end of
 // the file cuts, or that is longer than the room; or the end of the file.
 pub enum Frame {
     Payload(usize),
