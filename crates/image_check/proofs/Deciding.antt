@@ -8,8 +8,8 @@ use native.Mathlib.Omega.{arith}
 use lib.Dec.{eqb}
 use lib.ListN.{length, drop, length-drop}
 use borrow.Author.Tests.{le-leb, eq-eqb, eqb-true}
-use Rattle.image_index.proofs.Following.{read-made}
-use Rattle.image_index.specs.Header.{SectionsIn, Follows, HeaderAt}
+use Rattle.image_items.proofs.Following.{read-made}
+use Rattle.image_items.specs.Header.{SectionsIn, Follows, HeaderAt}
 use Rattle.lists.proofs.Tests.{and-true}
 use Rattle.lists.specs.Elements.{allFrom}
 use Rattle.edition.specs.Limits.{userNames}
@@ -25,12 +25,12 @@ use Rattle.image.specs.Copy.{isImage}
 use Rattle.image_index.specs.Lists.{Fits, ListAt}
 use Rattle.image_index.specs.declared.indexes.Kind.the-variants.{Constants, Eres, Instructions}
 use Rattle.image_index.specs.declared.indexes.Listed.{Listed}
-use Rattle.image_index.proofs.Standing.{never}
+use Rattle.image_items.proofs.Standing.{never}
 use Rattle.image_check.specs.Judge.{ContextOf, Judges}
 use Rattle.image_check.specs.Sections.{Decides, SectionJudged, ImageJudged, SectionsJudged}
 use Rattle.image_check.specs.Verdict.{judged, checkOf}
 use Rattle.image_check.specs.declared.context.Context.{Context}
-use Rattle.image_index.specs.declared.header.Header.{Header}
+use Rattle.image_items.specs.declared.header.Header.{Header}
 use Rattle.image_check.proofs.Fitting.{and-both, unchecked, section-refuses, constants-fit, eres-fit, section-fits, check-all, list-refused, list-found}
 
 -- ---- one section

@@ -8,7 +8,7 @@ use Prim.Native.Nat.{ℕ, suc, _≤_}
 use native.Mathlib.Omega.{arith}
 use lib.ListN.{length, drop}
 use borrow.Author.Tests.{le-leb}
-use Rattle.image_index.proofs.Following.{taken-same}
+use Rattle.image_items.proofs.Following.{taken-same}
 use Rattle.lists.proofs.Elements.{every-of}
 use Rattle.lists.specs.Elements.{nth, Every, all, isSome, empty, cons}
 use Rattle.lists.specs.Parsing.{parsed}

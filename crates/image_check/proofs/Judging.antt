@@ -19,7 +19,7 @@ use Rattle.opcodes.specs.Rows.{rowNumber, operandsIn}
 use Rattle.semantics.specs.Moves.{Section, sectionOf, inMain}
 use Rattle.semantics.specs.Check.{depthIs, holdsFor, byCode, instructionChecks}
 use Rattle.semantics.proofs.Tables.{nth-some}
-use Rattle.image_index.specs.Stands.{instructionOf}
+use Rattle.image_items.specs.Stands.{instructionOf}
 use Rattle.image_index.specs.Lists.{Indexes}
 use Rattle.image_index.specs.declared.indexes.Kind.the-variants.{Instructions}
 use Rattle.image_check.specs.Judge.{judgedRow, judgedBy, hasDepth, judgedAt, ContextOf, Judges}

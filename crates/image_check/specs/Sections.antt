@@ -14,7 +14,7 @@ use Rattle.semantics.specs.Check.{sectionChecks, check}
 use Rattle.image_index.specs.declared.indexes.Listed.{Listed}
 use Rattle.image_check.specs.Judge.{ContextOf}
 use Rattle.image_check.specs.declared.context.Context.{Context}
-use Rattle.image_index.specs.Header.{SectionsOf, SectionsIn}
+use Rattle.image_items.specs.Header.{SectionsOf, SectionsIn}
 
 -- An answer on a part of the check. A section's answer can be false for what only another part refuses, as a number of
 -- a constant that is too great for any accepted image, so a false answer speaks of the whole.

@@ -80,7 +80,7 @@ fn passes(image: &[u8]) -> bool
     ensures { λ r. ⌜ ImageJudged (now (image .entry)) r ⌝ }
 {
     let mut places = [0u32; 0];
-    let h = image_index::header_of(image);
+    let h = image_items::header_of(image);
     if !h.ok {
         return false;
     }

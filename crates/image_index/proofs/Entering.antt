@@ -17,13 +17,13 @@ use Rattle.buffer.proofs.Parts.{length-part}
 use Rattle.image_format.specs.Codes.{codeOf}
 use Rattle.image_format.specs.Image.{number, text, Instruction}
 use Rattle.opcodes.specs.Rows.{operandsIn}
-use Rattle.image_index.specs.Stands.{Stands, ConstantAt, constantOf, instructionOf}
+use Rattle.image_items.specs.Stands.{Stands, ConstantAt, constantOf, instructionOf}
 use Rattle.image_index.specs.Lists.{ItemOf, takerOf, FitsOf, TellsOf, packed, unpacked, EntryAt}
-use Rattle.image_index.specs.declared.items.Found.{Found}
+use Rattle.image_items.specs.declared.items.Found.{Found}
 use Rattle.image_index.specs.declared.indexes.Kind.{Kind}
 use Rattle.image_index.specs.declared.indexes.Kind.the-variants.{Constants, Instructions}
 use Rattle.image_index.specs.declared.indexes.Entry.{Entry}
-use Rattle.image_index.proofs.Standing.{never}
+use Rattle.image_items.proofs.Standing.{never}
 
 -- ---- of any kind
 

@@ -23,7 +23,7 @@ use Rattle.image_index.specs.Lists.{ItemOf, mostOf, leastOf, takerOf, Fi
 use Rattle.image_index.specs.declared.indexes.Kind.{Kind}
 use Rattle.image_index.specs.declared.indexes.Entry.{Entry}
 use Rattle.image_index.specs.declared.indexes.Listed.{Listed}
-use Rattle.image_index.proofs.Standing.{never}
+use Rattle.image_items.proofs.Standing.{never}
 
 module _ (edition : ℕ) (k : Kind) (l : List ℕ) where
   -- another item's entry, after those that there are

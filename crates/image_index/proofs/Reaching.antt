@@ -13,10 +13,10 @@ use Rattle.buffer.specs.Parts.{part}
 use Rattle.buffer.proofs.Parts.{length-part}
 use Rattle.image_format.specs.Image.{number, text}
 use Rattle.image_format.specs.Reading.{fromBytes, constant}
-use Rattle.image_index.specs.Stands.{Stands, aText, bytesOf, TextAt, ConstantAt}
+use Rattle.image_items.specs.Stands.{Stands, aText, bytesOf, TextAt, ConstantAt}
 use Rattle.image_index.specs.Lists.{IsPart}
-use Rattle.image_index.specs.declared.items.Text.{Text}
-use Rattle.image_index.specs.declared.items.Found.{Found}
+use Rattle.image_items.specs.declared.items.Text.{Text}
+use Rattle.image_items.specs.declared.items.Found.{Found}
 
 module _ (l : List ℕ) where
   pub is-part : (p : ℕ × ℕ) (start end : ℕ) → start ≤ end → end ≤ length l → IsPart l p (part start (end - start) l) (p .0, start + p .1)

@@ -1,4 +1,2 @@
 -- What is where in an image's bytes, and an index of it.
-pub mod Stands
 pub mod Lists
-pub mod Header

@@ -14,7 +14,7 @@ use Rattle.ere_meaning.specs.Tree.{Class, Ere}
 use Rattle.ere_grammar.specs.Read.{readEre}
 use Rattle.image_format.specs.Image.{Constant, number, text, Instruction}
 use Rattle.image_format.specs.Reading.{fromBytes, counted, constant, instruction}
-use Rattle.image_index.specs.Stands.{Stands, aText, instructionOf}
+use Rattle.image_items.specs.Stands.{Stands, aText, instructionOf}
 use Rattle.image_index.specs.declared.indexes.Kind.{Kind}
 use Rattle.image_index.specs.declared.indexes.Kind.the-variants.{Constants, Eres, Instructions}
 use Rattle.image_index.specs.declared.indexes.Entry.{Entry}

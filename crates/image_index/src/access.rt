@@ -4,11 +4,10 @@ ghost use Prim.Native.Nat.{ℕ, _≤_, _<_};
 ghost use mathlib.Core.List.{List};
 ghost use lib.ListN.{length, getD};
 ghost use Rattle.image_format.specs.Image.{text};
-ghost use Rattle.image_index.specs.Stands.{ConstantAt};
+ghost use Rattle.image_items.specs.Stands.{ConstantAt};
 ghost use Rattle.image_index.specs.Lists.{numbersOf, TellsOf, IsPart};
 ghost use Rattle.image_index.specs.declared.indexes.Kind.the-variants.{Constants, Eres};
-use crate::items;
-use crate::items::Found;
+use image_items::Found;
 
 // The numbers of an instruction: its code, the depth before it, and its first and second number, 0 where the code names
 // none.
@@ -38,7 +37,7 @@ pub fn constant(image: &[u8], index: &[u32], n: usize) -> Found
     requires { ⌜ (n < length (now index)) × (getD (now index) n 0 ≤ length (now image)) ⌝ }
     ensures { λ r. ⌜ ConstantAt (now (image .entry)) (getD (now (index .entry)) n 0) r ⌝ }
 {
-    items::constant_at(image, index[n] as usize)
+    image_items::constant_at(image, index[n] as usize)
 }
 
 // Returns the bytes of the text constant whose entry has the number n, as a part of the image.
@@ -47,7 +46,7 @@ pub fn constant_bytes<'a, 'b>(image: &'a [u8], index: &'b [u32], n: usize) -> &'
     ensures { λ r. ⌜ (IsPart (now (image .entry)) (image .entry .ptr) (now r) (r .ptr))
         × ((edition : ℕ) (bytes : List ℕ) → TellsOf edition Constants (now (image .entry)) (getD (now (index .entry)) n 0) (text bytes) → now r ≡ bytes) ⌝ }
 {
-    let c = items::constant_at(image, index[n] as usize);
+    let c = image_items::constant_at(image, index[n] as usize);
     let start = c.start;
     let end = c.end;
     &image[start..end]
@@ -59,7 +58,7 @@ pub fn ere_bytes<'a, 'b>(image: &'a [u8], index: &'b [u32], n: usize) -> &'a [u8
     ensures { λ r. ⌜ (IsPart (now (image .entry)) (image .entry .ptr) (now r) (r .ptr))
         × ((edition : ℕ) (bytes : List ℕ) → TellsOf edition Eres (now (image .entry)) (getD (now (index .entry)) n 0) bytes → now r ≡ bytes) ⌝ }
 {
-    let e = items::text_at(image, index[n] as usize);
+    let e = image_items::text_at(image, index[n] as usize);
     let start = e.start;
     let end = e.end;
     &image[start..end]

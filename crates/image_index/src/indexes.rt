@@ -7,7 +7,6 @@ ghost use Rattle.image_format.specs.Image.{imageBound};
 ghost use Rattle.varint.specs.Room.{withOne};
 ghost use Rattle.image_index.specs.declared.indexes.Kind.the-variants.{Constants, Eres, Instructions};
 ghost use Rattle.image_index.specs.Lists.{mostOf, leastOf, EntryAt, ItemsAt, ListAt};
-use crate::items;
 use edition::Edition;
 use varint::Taken;
 
@@ -51,7 +50,7 @@ fn constant_entry(image: &[u8], edition: u64, at: usize) -> Entry
     requires { ⌜ (at ≤ length (now image)) × (length (now image) < imageBound) ⌝ }
     ensures { λ r. ⌜ EntryAt edition Constants (now (image .entry)) at r ⌝ }
 {
-    let c = items::constant_at(image, at);
+    let c = image_items::constant_at(image, at);
     if !c.ok {
         return no_entry();
     }
@@ -70,7 +69,7 @@ fn ere_entry(image: &[u8], edition: u64, at: usize) -> Entry
     requires { ⌜ (at ≤ length (now image)) × (length (now image) < imageBound) ⌝ }
     ensures { λ r. ⌜ EntryAt edition Eres (now (image .entry)) at r ⌝ }
 {
-    let e = items::text_at(image, at);
+    let e = image_items::text_at(image, at);
     if !e.ok {
         return no_entry();
     }
@@ -95,7 +94,7 @@ fn instruction_entry(image: &[u8], edition: u64, at: usize) -> Entry
     requires { ⌜ (at ≤ length (now image)) × (length (now image) < imageBound) ⌝ }
     ensures { λ r. ⌜ EntryAt edition Instructions (now (image .entry)) at r ⌝ }
 {
-    let i = items::instruction_at(image, edition, at);
+    let i = image_items::instruction_at(image, edition, at);
     if !i.ok {
         return no_entry();
     }

@@ -5,7 +5,7 @@ use mathlib.Core.List.{List}
 use mathlib.Core.Option.{some}
 use Prim.Native.Nat.{ℕ}
 use lib.ListN.{length, drop}
-use Rattle.image_index.specs.Header.{Follows, SectionsIn, HeaderAt}
+use Rattle.image_items.specs.Header.{Follows, SectionsIn, HeaderAt}
 use Rattle.image_format.specs.Image.{Image}
 use Rattle.image_format.specs.Reading.{fromBytes, readImage}
 use Rattle.semantics.specs.Moves.{Section, begin, main, end, sectionOf}
@@ -15,8 +15,8 @@ use Rattle.image_index.specs.Lists.{ItemOf, takerOf, Fits, ListAt}
 use Rattle.image_index.specs.declared.indexes.Kind.{Kind}
 use Rattle.image_index.specs.declared.indexes.Kind.the-variants.{Constants, Eres, Instructions}
 use Rattle.image_index.specs.declared.indexes.Listed.{Listed}
-use Rattle.image_index.proofs.Standing.{never}
-use Rattle.image_index.specs.declared.header.Header.{Header}
+use Rattle.image_items.proofs.Standing.{never}
+use Rattle.image_items.specs.declared.header.Header.{Header}
 use Rattle.image_check.proofs.Fitting.{constants-fit, eres-fit, section-fits, list-refused, list-found}
 use Rattle.image_loader.specs.Loads.{rooms, LoadsList, SectionsLoaded, LoadsAccepted}
 use Rattle.image_loader.specs.declared.loading.Counts.{Counts}

@@ -6,7 +6,7 @@ use mathlib.Core.List.{List}
 use mathlib.Core.Option.{some}
 use Prim.Native.Nat.{ℕ}
 use lib.ListN.{length, drop}
-use Rattle.image_index.specs.Header.{SectionsIn}
+use Rattle.image_items.specs.Header.{SectionsIn}
 use Rattle.image_format.specs.Image.{Image}
 use Rattle.image_format.specs.Reading.{readImage, fromBytes}
 use Rattle.semantics.specs.Check.{check}

@@ -89,7 +89,7 @@ pub fn load(
     if image_index::IMAGE_BYTES <= image.len() {
         return nothing();
     }
-    let h = image_index::header_of(image);
+    let h = image_items::header_of(image);
     if !h.ok {
         return nothing();
     }

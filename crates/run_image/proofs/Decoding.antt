@@ -23,8 +23,8 @@ use Rattle.image_format.specs.Reading.{fromBytes, constant, constantOf}
 use Rattle.image_format.proofs.Numbers.{number-only}
 use Rattle.semantics.specs.Checked.{Short}
 use Rattle.semantics.proofs.Tables.{nth-some}
-use Rattle.image_index.specs.Stands.{Stands, aText, ConstantAt, constantOf as constantIn}
-use Rattle.image_index.specs.declared.items.Found.{Found}
+use Rattle.image_items.specs.Stands.{Stands, aText, ConstantAt, constantOf as constantIn}
+use Rattle.image_items.specs.declared.items.Found.{Found}
 use Rattle.run_image.specs.Constants.{textBase, placeIn, sizeIn, Decoded, Listed, Words}
 
 -- ---- a word

@@ -1,7 +1,7 @@
 -- `load` meets its contract: each list starts where the one before it ends, and what is refused is no accepted image.
 use mathlib.Core.Path.{sym}
 use Rattle.image_check.proofs.Deciding.{long-refused}
-use Rattle.image_index.proofs.Standing.{never}
+use Rattle.image_items.proofs.Standing.{never}
 use Rattle.image_loader.proofs.Walking.{header-there, constants-walked, eres-walked, image-loaded}
 use borrow.Author.Tests.{not-true, not-false}
 use borrow.Author.Needs.{needs}

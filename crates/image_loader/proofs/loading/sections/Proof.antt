@@ -1,6 +1,6 @@
 -- `sections` meets its contract: each section starts where the one before it ends.
 use native.Mathlib.Omega.{arith}
-use Rattle.image_index.proofs.Standing.{never}
+use Rattle.image_items.proofs.Standing.{never}
 use Rattle.image_loader.proofs.Walking.{begins-walked, records-walked, sections-loaded}
 use borrow.Author.Tests.{not-true, not-false}
 use borrow.Author.Needs.{needs}

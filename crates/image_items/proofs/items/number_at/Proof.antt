@@ -1,10 +1,10 @@
 -- `number_at` meets its contract, by what `take_number` answers.
 use mathlib.Core.Path.{subst}
 use Rattle.varint.specs.Take.{TakesAt}
-use Rattle.image_index.proofs.Standing.{number-none, number-there}
+use Rattle.image_items.proofs.Standing.{number-none, number-there}
 use borrow.Author.Needs.{needs}
-use Rattle.image_index.proofs.items.number_at.Statement.{statement}
-use Rattle.image_index.proofs.items.number_at.Tie as tie
+use Rattle.image_items.proofs.items.number_at.Statement.{statement}
+use Rattle.image_items.proofs.items.number_at.Tie as tie
 
 take-number-requires : tie.Need-take-number-requires
 take-number-requires c κs = search needs

@@ -1,11 +1,11 @@
 -- `header_of` meets its contract: the two numbers, one after the other.
-use Rattle.image_index.proofs.Following.{edition-missing, edition-unknown, users-missing, header-there}
+use Rattle.image_items.proofs.Following.{edition-missing, edition-unknown, users-missing, header-there}
 use Rattle.lists.proofs.Tests.{was-false, was-true}
 use Rattle.varint.specs.Take.{TakesAt}
 use mathlib.Core.Path.{sym, subst}
 use borrow.Author.Needs.{needs}
-use Rattle.image_index.proofs.header.header_of.Statement.{statement}
-use Rattle.image_index.proofs.header.header_of.Tie as tie
+use Rattle.image_items.proofs.header.header_of.Statement.{statement}
+use Rattle.image_items.proofs.header.header_of.Tie as tie
 
 take-number-requires : tie.Need-take-number-requires
 take-number-requires c κs = search needs

@@ -9,7 +9,7 @@ use Rattle.lists.specs.Parsing.{parsed, Parser}
 use Rattle.image_format.specs.Image.{Instruction, Image, known}
 use Rattle.image_format.specs.Numbers.{takeNumber}
 use Rattle.image_format.specs.Reading.{fromBytes, wordUpTo, counted, constant, instruction, readImage}
-use Rattle.image_index.specs.declared.header.Header.{Header}
+use Rattle.image_items.specs.declared.header.Header.{Header}
 
 -- ---- how the lists of an image follow each other
 

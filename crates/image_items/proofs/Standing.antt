@@ -16,9 +16,9 @@ use Rattle.image_format.specs.Reading.{fromBytes, wordUpTo, constant, constantO
 use Rattle.varint.specs.Take.{TakesAt}
 use Rattle.varint.specs.declared.numbers.Taken.the-variants.{Number}
 use Rattle.varint.proofs.Bytes.{take-bytes, miss-bytes}
-use Rattle.image_index.specs.Stands.{aText, TextAt, NumberAt, ConstantAt, constantOf as constantIn}
-use Rattle.image_index.specs.declared.items.Text.{Text}
-use Rattle.image_index.specs.declared.items.Found.{Found}
+use Rattle.image_items.specs.Stands.{aText, TextAt, NumberAt, ConstantAt, constantOf as constantIn}
+use Rattle.image_items.specs.declared.items.Text.{Text}
+use Rattle.image_items.specs.declared.items.Found.{Found}
 
 -- an answer is not both
 pub never : {A : Type 0} {b : Bool} → b ≡ false → b ≡ true → A

@@ -15,9 +15,9 @@ use Rattle.image_format.specs.Numbers.{takeNumber}
 use Rattle.image_format.specs.Reading.{fromBytes, wordUpTo, counted, constant, instruction, parts, ended, readImage}
 use Rattle.varint.specs.Take.{TakesAt}
 use Rattle.varint.specs.declared.numbers.Taken.the-variants.{Number}
-use Rattle.image_index.proofs.Standing.{never}
-use Rattle.image_index.specs.Header.{ListsIn, HeaderAt}
-use Rattle.image_index.specs.declared.header.Header.{Header}
+use Rattle.image_items.proofs.Standing.{never}
+use Rattle.image_items.specs.Header.{ListsIn, HeaderAt}
+use Rattle.image_items.specs.declared.header.Header.{Header}
 
 -- what was taken in two steps
 bind-some : {A B : Type 0} (f : A → Parser B) (g : Parsed B) (o : Option (Parsed A)) → bind o f ≡ some g

@@ -18,10 +18,10 @@ use Rattle.opcodes.specs.Rows.{isKnown, operandsIn}
 use Rattle.opcodes.proofs.Below.{known-below}
 use Rattle.varint.specs.Take.{TakesAt}
 use Rattle.varint.specs.declared.numbers.Taken.the-variants.{Number}
-use Rattle.image_index.specs.Stands.{takeNamed, OperandAt, NumbersAt, InstructionAt, instructionOf as instructionIn}
-use Rattle.image_index.specs.declared.items.Operand.{Operand}
-use Rattle.image_index.specs.declared.items.Fetched.{Fetched}
-use Rattle.image_index.proofs.Standing.{never}
+use Rattle.image_items.specs.Stands.{takeNamed, OperandAt, NumbersAt, InstructionAt, instructionOf as instructionIn}
+use Rattle.image_items.specs.declared.items.Operand.{Operand}
+use Rattle.image_items.specs.declared.items.Fetched.{Fetched}
+use Rattle.image_items.proofs.Standing.{never}
 
 -- ---- the numbers that a code names
 

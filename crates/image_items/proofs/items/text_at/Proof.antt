@@ -4,10 +4,10 @@ use Rattle.lists.proofs.Many.{on}
 use Rattle.lists.specs.Parsing.{many}
 use Rattle.image_format.specs.Reading.{wordUpTo}
 use Rattle.varint.specs.Take.{TakesAt}
-use Rattle.image_index.proofs.Standing.{text-none, text-short, text-there}
+use Rattle.image_items.proofs.Standing.{text-none, text-short, text-there}
 use borrow.Author.Needs.{needs}
-use Rattle.image_index.proofs.items.text_at.Statement.{statement}
-use Rattle.image_index.proofs.items.text_at.Tie as tie
+use Rattle.image_items.proofs.items.text_at.Statement.{statement}
+use Rattle.image_items.proofs.items.text_at.Tie as tie
 
 take-number-requires : tie.Need-take-number-requires
 take-number-requires c κs = search needs

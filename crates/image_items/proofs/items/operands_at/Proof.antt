@@ -2,11 +2,11 @@
 use mathlib.Core.Path.{sym, subst}
 use Prim.Native.Nat.{ℕ, _≤_}
 use Rattle.opcodes.proofs.Naming.{names-few}
-use Rattle.image_index.proofs.Fetching.{numbers-missing, numbers-there}
+use Rattle.image_items.proofs.Fetching.{numbers-missing, numbers-there}
 use borrow.Author.Tests.{not-true, not-false}
 use borrow.Author.Needs.{needs}
-use Rattle.image_index.proofs.items.operands_at.Statement.{statement}
-use Rattle.image_index.proofs.items.operands_at.Tie as tie
+use Rattle.image_items.proofs.items.operands_at.Statement.{statement}
+use Rattle.image_items.proofs.items.operands_at.Tie as tie
 
 operands-requires : tie.Need-operands-requires
 operands-requires c κs = search needs

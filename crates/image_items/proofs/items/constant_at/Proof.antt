@@ -3,10 +3,10 @@ use mathlib.Core.Path.{subst}
 use Rattle.lists.proofs.Many.{on}
 use Rattle.image_format.specs.Reading.{fromBytes, constantOf}
 use Rattle.varint.specs.Take.{TakesAt}
-use Rattle.image_index.proofs.Standing.{constant-none, kind-unknown, kind-number, kind-text}
+use Rattle.image_items.proofs.Standing.{constant-none, kind-unknown, kind-number, kind-text}
 use borrow.Author.Needs.{needs}
-use Rattle.image_index.proofs.items.constant_at.Statement.{statement}
-use Rattle.image_index.proofs.items.constant_at.Tie as tie
+use Rattle.image_items.proofs.items.constant_at.Statement.{statement}
+use Rattle.image_items.proofs.items.constant_at.Tie as tie
 
 take-number-requires : tie.Need-take-number-requires
 take-number-requires c κs = search needs

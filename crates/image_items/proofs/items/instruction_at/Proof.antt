@@ -2,10 +2,10 @@
 use mathlib.Core.Path.{sym, subst, _∙_}
 use borrow.Author.Tests.{not-true, not-false}
 use Rattle.varint.specs.Take.{TakesAt}
-use Rattle.image_index.proofs.Fetching.{instruction-none, code-missing, code-unknown, depth-missing, depth-there}
+use Rattle.image_items.proofs.Fetching.{instruction-none, code-missing, code-unknown, depth-missing, depth-there}
 use borrow.Author.Needs.{needs}
-use Rattle.image_index.proofs.items.instruction_at.Statement.{statement}
-use Rattle.image_index.proofs.items.instruction_at.Tie as tie
+use Rattle.image_items.proofs.items.instruction_at.Statement.{statement}
+use Rattle.image_items.proofs.items.instruction_at.Tie as tie
 
 take-number-requires : tie.Need-take-number-requires
 take-number-requires c κs = search needs

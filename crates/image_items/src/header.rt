@@ -1,7 +1,7 @@
 // The numbers before the lists of an image.
 ghost use mathlib.Core.Path.{_≡_};
 ghost use mathlib.Core.Bool.{false};
-ghost use Rattle.image_index.specs.Header.{HeaderAt};
+ghost use Rattle.image_items.specs.Header.{HeaderAt};
 use varint::Taken;
 
 // The numbers before the lists, and where these start; unless `ok`, there are none.

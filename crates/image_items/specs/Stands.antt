@@ -13,10 +13,10 @@ use Rattle.image_format.specs.Image.{Constant, number, text, Instruction}
 use Rattle.image_format.specs.Numbers.{takeNumber}
 use Rattle.image_format.specs.Reading.{fromBytes, wordUpTo, counted, constant, instruction}
 use Rattle.opcodes.specs.Rows.{operandsIn}
-use Rattle.image_index.specs.declared.items.Text.{Text}
-use Rattle.image_index.specs.declared.items.Found.{Found}
-use Rattle.image_index.specs.declared.items.Operand.{Operand}
-use Rattle.image_index.specs.declared.items.Fetched.{Fetched}
+use Rattle.image_items.specs.declared.items.Text.{Text}
+use Rattle.image_items.specs.declared.items.Found.{Found}
+use Rattle.image_items.specs.declared.items.Operand.{Operand}
+use Rattle.image_items.specs.declared.items.Fetched.{Fetched}
 
 -- p takes a off the bytes from `at` on, and goes on at `end`
 pub record Stands {A : Type 0} (p : Parser A) (l : List ℕ) (at : ℕ) (a : A) (end : ℕ) : Type 0 where

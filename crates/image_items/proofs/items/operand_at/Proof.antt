@@ -1,11 +1,11 @@
 -- `operand_at` meets its contract: what is taken at the place, or nothing.
 use mathlib.Core.Path.{subst}
 use Rattle.varint.specs.Take.{TakesAt}
-use Rattle.image_index.proofs.Fetching.{operand-none, operand-missing, operand-there}
+use Rattle.image_items.proofs.Fetching.{operand-none, operand-missing, operand-there}
 use borrow.Author.Tests.{not-true, not-false}
 use borrow.Author.Needs.{needs}
-use Rattle.image_index.proofs.items.operand_at.Statement.{statement}
-use Rattle.image_index.proofs.items.operand_at.Tie as tie
+use Rattle.image_items.proofs.items.operand_at.Statement.{statement}
+use Rattle.image_items.proofs.items.operand_at.Tie as tie
 
 returns : tie.Need-returns
 returns c =

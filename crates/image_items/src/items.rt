@@ -5,7 +5,7 @@ ghost use Prim.Native.Nat.{_≤_};
 ghost use lib.ListN.{length};
 ghost use Rattle.image_format.specs.Codes.{codeOf};
 ghost use Rattle.opcodes.specs.Rows.{operandsIn};
-ghost use Rattle.image_index.specs.Stands.{TextAt, NumberAt, ConstantAt, OperandAt, NumbersAt, InstructionAt};
+ghost use Rattle.image_items.specs.Stands.{TextAt, NumberAt, ConstantAt, OperandAt, NumbersAt, InstructionAt};
 use varint::Taken;
 
 // The bytes of a text, from `start` to `end`; unless `ok`, there is none.
