@@ -16,8 +16,8 @@ use Rattle.image_format.specs.Image.{text}
 use Rattle.program_tokens.specs.Kinds.{ERE, slash, text-end, among, rank}
 use Rattle.program_tokens.specs.Tokens.{Token, token, isOneOf, ereLength, ereRead, ereToken, asOperand, ereIn}
 use Rattle.program_lexer.specs.Coded.{coded, decoded, kindCount}
-use Rattle.program_lexer.specs.Closings.{ereClose}
-use Rattle.program_lexer.specs.declared.closings.Close.the-variants.{At, Nothing}
+use Rattle.program_scanner.specs.Closings.{ereClose}
+use Rattle.program_scanner.specs.declared.closings.Close.the-variants.{At, Nothing}
 use Rattle.program_lexer.specs.declared.tokens.Token.{Token as Coded}
 use Rattle.program_lexer.proofs.Coding.{made, kind-test, rank-of}
 use Rattle.program_parser.specs.Meaning.{tokenFrom, ereAt}

@@ -14,8 +14,8 @@ use Rattle.lists.specs.Parsing.{Parsed, parsed}
 use Rattle.ere_grammar.specs.Bytes.{lookup, stringEscapes}
 use Rattle.image_format.specs.Image.{text}
 use Rattle.program_tokens.specs.Tokens.{readString, withByte, withEscape, valueOf as valueRead}
-use Rattle.program_lexer.specs.Closings.{stringClose}
-use Rattle.program_lexer.specs.declared.closings.Close.the-variants.{At, Nothing}
+use Rattle.program_scanner.specs.Closings.{stringClose}
+use Rattle.program_scanner.specs.declared.closings.Close.the-variants.{At, Nothing}
 use Rattle.program_tables.specs.Texts.{byteOr, unescape, between, valueOf, valueIn}
 use Rattle.program_tables.specs.Tables.{meant}
 use Rattle.program_tables.proofs.Values.{value-end}

@@ -22,7 +22,7 @@ ghost use Rattle.program_entries.specs.Named.{
   WordToken,
 };
 use edition::Edition;
-use program_lexer::Close;
+use program_scanner::Close;
 use program_lexer::Token;
 use program_parser::kinds;
 use program_tables::Entry;
@@ -53,7 +53,7 @@ fn string_entry(s: &[u8], at: usize) -> Entry
     requires { ⌜ (0 < at) × (at ≤ filterText) ⌝ }
     ensures { λ r. ⌜ Stands (now (s .entry)) true (text (stringFrom (now (s .entry)) at)) r ⌝ }
 {
-    let Close::At(end) = program_lexer::string_close(s, at) else {
+    let Close::At(end) = program_scanner::string_close(s, at) else {
         return Entry {
             value: at,
             stop: at,
@@ -156,7 +156,7 @@ pub fn as_ere(s: &[u8], t: Token) -> Token
     if (t.kind != kinds::SLASH) & (t.kind != DIV_ASSIGN) {
         return t;
     }
-    let Close::At(end) = program_lexer::ere_close(s, t.start + 1) else {
+    let Close::At(end) = program_scanner::ere_close(s, t.start + 1) else {
         return t;
     };
     Token {

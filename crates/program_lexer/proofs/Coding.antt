@@ -30,11 +30,11 @@ use Rattle.program_tokens.specs.Kinds.{Kind, kinds, newline, bad, NUMBER, slash
 use Rattle.program_tokens.specs.Words.{Word, operators, sameBytes, kindIn, wordKind, operatorKind}
 use Rattle.program_tokens.specs.Tokens.{token, is, isOneOf, isLetter, isWordByte, beginsWith, skipped, numberToken, wordToken, readString, withByte, withEscape, stringToken, operatorToken, tokenOf, tokenAt, tokenAfter, ereLength, oneMore, ereRead, ereToken, asOperand}
 use Rattle.program_lexer.specs.Coded.{kindCount, coded, kindOf, decoded}
-use Rattle.program_lexer.specs.Spellings.{twoBytes}
-use Rattle.program_lexer.specs.Closings.{stringClose, ereClose}
+use Rattle.program_scanner.specs.Spellings.{twoBytes}
+use Rattle.program_scanner.specs.Closings.{stringClose, ereClose}
 use Rattle.program_lexer.specs.declared.tokens.Token.{Token as Coded}
-use Rattle.program_lexer.specs.declared.closings.Close.the-variants.{At, Nothing}
-use Rattle.program_lexer.proofs.Packing.{spelledByte, spelled, wellSpelled}
+use Rattle.program_scanner.specs.declared.closings.Close.the-variants.{At, Nothing}
+use Rattle.program_scanner.proofs.Packing.{spelledByte, spelled, wellSpelled}
 
 -- a token of the code
 abbrev pub made : ℕ → ℕ → ℕ → Coded

@@ -1,5 +1,2 @@
 -- Laws on the lexer's runs of bytes, its searches for closing bytes, and its table of spellings.
-pub mod Runs
-pub mod Closing
-pub mod Packing
 pub mod Coding

@@ -1,4 +1,2 @@
 -- How the lexer's answers stand for tokens.
 pub mod Coded
-pub mod Spellings
-pub mod Closings

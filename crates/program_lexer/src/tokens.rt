@@ -17,11 +17,7 @@ ghost use Rattle.program_tokens.specs.Tokens.{
   asOperand,
 };
 ghost use Rattle.program_lexer.specs.Coded.{coded, decoded, kindCount};
-use crate::bytes;
-use crate::closings;
-use crate::closings::Close;
-use crate::kinds;
-use crate::spellings;
+use program_scanner::Close;
 use edition::Edition;
 
 // A token: where it starts, the number of its kind, and the place after it.
@@ -38,17 +34,17 @@ fn number(s: &[u8], a: usize) -> Token
 {
     let digits = numeral::read_digits(&s[a..]);
     let stop = a + digits.count;
-    let after = bytes::byte_at(s, stop);
-    if (Edition::NUMBER < digits.value) | (bytes::is_letter(after) | (after == b'.')) {
+    let after = program_scanner::byte_at(s, stop);
+    if (Edition::NUMBER < digits.value) | (program_scanner::is_letter(after) | (after == b'.')) {
         return Token {
             start: a,
-            kind: kinds::BAD,
+            kind: program_scanner::BAD,
             stop,
         };
     }
     Token {
         start: a,
-        kind: kinds::NUMBER,
+        kind: program_scanner::NUMBER,
         stop,
     }
 }
@@ -58,10 +54,10 @@ fn word(s: &[u8], a: usize, edition: Edition) -> Token
     requires { ⌜ a ≤ length (now s) ⌝ }
     ensures { λ r. ⌜ r ≡ coded (wordToken (edition .number) a (drop a (now (s .entry)))) ⌝ }
 {
-    let n = bytes::word_length(s, a);
+    let n = program_scanner::word_length(s, a);
     Token {
         start: a,
-        kind: spellings::word_kind(s, a, n, edition),
+        kind: program_scanner::word_kind(s, a, n, edition),
         stop: a + n,
     }
 }
@@ -71,16 +67,16 @@ fn string(s: &[u8], a: usize) -> Token
     requires { ⌜ a < length (now s) ⌝ }
     ensures { λ r. ⌜ r ≡ coded (stringToken a (drop (suc a) (now (s .entry))) (readString false (drop (suc a) (now (s .entry))))) ⌝ }
 {
-    let Close::At(stop) = closings::string_close(s, a + 1) else {
+    let Close::At(stop) = program_scanner::string_close(s, a + 1) else {
         return Token {
             start: a,
-            kind: kinds::BAD,
+            kind: program_scanner::BAD,
             stop: a + 1,
         };
     };
     Token {
         start: a,
-        kind: kinds::STRING,
+        kind: program_scanner::STRING,
         stop,
     }
 }
@@ -91,9 +87,9 @@ fn operator(s: &[u8], a: usize, edition: Edition) -> Token
     ensures { λ r. ⌜ r ≡ coded (operatorToken (edition .number) a (drop a (now (s .entry)))) ⌝ }
 {
     let first = s[a];
-    let second = bytes::byte_at(s, a + 1);
-    let two = spellings::operator_kind(first, second, edition);
-    if (second != 0) & (two != kinds::BAD) {
+    let second = program_scanner::byte_at(s, a + 1);
+    let two = program_scanner::operator_kind(first, second, edition);
+    if (second != 0) & (two != program_scanner::BAD) {
         return Token {
             start: a,
             kind: two,
@@ -102,7 +98,7 @@ fn operator(s: &[u8], a: usize, edition: Edition) -> Token
     }
     Token {
         start: a,
-        kind: spellings::operator_kind(first, 0, edition),
+        kind: program_scanner::operator_kind(first, 0, edition),
         stop: a + 1,
     }
 }
@@ -114,7 +110,7 @@ pub fn token_of(s: &[u8], a: usize, edition: Edition) -> Token
     if s.len() <= a {
         return Token {
             start: a,
-            kind: kinds::TEXT_END,
+            kind: program_scanner::TEXT_END,
             stop: a,
         };
     }
@@ -122,11 +118,11 @@ pub fn token_of(s: &[u8], a: usize, edition: Edition) -> Token
     if b == b'\n' {
         return Token {
             start: a,
-            kind: kinds::NEWLINE,
+            kind: program_scanner::NEWLINE,
             stop: a + 1,
         };
     }
-    if bytes::is_letter(b) {
+    if program_scanner::is_letter(b) {
         return word(s, a, edition);
     }
     if numeral::is_digit(b) {
@@ -142,7 +138,7 @@ pub fn token_of(s: &[u8], a: usize, edition: Edition) -> Token
 pub fn token_at(s: &[u8], p: usize, edition: Edition) -> Token
     ensures { λ r. ⌜ r ≡ coded (tokenAt (edition .number) (now (s .entry)) p) ⌝ }
 {
-    token_of(s, bytes::skip(s, p), edition)
+    token_of(s, program_scanner::skip(s, p), edition)
 }
 
 // Returns the token after a token.
@@ -150,10 +146,10 @@ pub fn token_after(s: &[u8], t: Token, edition: Edition) -> Token
     ensures { λ r. ⌜ r ≡ coded (tokenAfter (edition .number) (now (s .entry)) (decoded t)) ⌝ }
 {
     let stop = t.stop;
-    if (t.kind == kinds::USER_NAME) & (bytes::byte_at(s, stop) == b'(') {
+    if (t.kind == program_scanner::USER_NAME) & (program_scanner::byte_at(s, stop) == b'(') {
         return Token {
             start: stop,
-            kind: kinds::CALL_PAREN,
+            kind: program_scanner::CALL_PAREN,
             stop: stop + 1,
         };
     }
@@ -165,10 +161,10 @@ fn ere_at(s: &[u8], a: usize, edition: Edition) -> Token
     requires { ⌜ a ≤ length (now s) ⌝ }
     ensures { λ r. ⌜ r ≡ coded (ereToken (edition .number) a (drop (suc a) (now (s .entry))) (ereLength false (drop (suc a) (now (s .entry))))) ⌝ }
 {
-    let Close::At(end) = closings::ere_close(s, a + 1) else {
+    let Close::At(end) = program_scanner::ere_close(s, a + 1) else {
         return Token {
             start: a,
-            kind: kinds::BAD,
+            kind: program_scanner::BAD,
             stop: a + 1,
         };
     };
@@ -176,13 +172,13 @@ fn ere_at(s: &[u8], a: usize, edition: Edition) -> Token
     if ere::compile(&s[a + 1..end], edition, &mut table) {
         return Token {
             start: a,
-            kind: kinds::ERE,
+            kind: program_scanner::ERE,
             stop: end + 1,
         };
     }
     Token {
         start: a,
-        kind: kinds::BAD_ERE,
+        kind: program_scanner::BAD_ERE,
         stop: end + 1,
     }
 }
@@ -192,7 +188,7 @@ pub fn as_operand(s: &[u8], t: Token, edition: Edition) -> Token
     requires { ⌜ (t .kind < kindCount) × (t .start ≤ length (now s)) ⌝ }
     ensures { λ r. ⌜ r ≡ coded (asOperand (edition .number) (now (s .entry)) (decoded t)) ⌝ }
 {
-    if (t.kind != kinds::SLASH) & (t.kind != kinds::DIV_ASSIGN) {
+    if (t.kind != program_scanner::SLASH) & (t.kind != program_scanner::DIV_ASSIGN) {
         return t;
     }
     ere_at(s, t.start, edition)
