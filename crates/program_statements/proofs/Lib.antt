@@ -1,4 +1,4 @@
--- Laws on statements, items and programs.
+-- Laws. The reader of statements, which writes code as it goes.
 pub mod Answers
 pub mod Jumps
 pub mod Choosing
@@ -7,6 +7,3 @@ pub mod Cases
 pub mod Blocks
 pub mod Bodies
 pub mod Forms
-pub mod Patterns
-pub mod Items
-pub mod Whole

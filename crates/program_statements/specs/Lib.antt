@@ -1,4 +1,2 @@
--- What the readers of statements, of items and of programs answer.
+-- The reader of statements, which writes code as it goes.
 pub mod Statements
-pub mod Programs
-pub mod Items

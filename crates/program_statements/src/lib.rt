@@ -1,9 +1,6 @@
-// The reader of statements, items and whole programs: it reads a text once, by its tokens, and writes the code of each
-// section.
+// The reader of statements, which writes code as it goes.
 mod conditions;
-mod programs;
 mod simple;
 mod statements;
 
-pub use programs::Program;
-pub use programs::read_program;
+pub use statements::block;

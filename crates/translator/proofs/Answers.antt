@@ -25,8 +25,8 @@ use Rattle.program_code.specs.Emitted.{Emitted}
 use Rattle.program_code.specs.Sections.{sectionCode}
 use Rattle.program_parser.specs.Meaning.{Spell, Wrote}
 use Rattle.program_parser.proofs.Spelling.{spell-length}
-use Rattle.program_statements.specs.declared.programs.Program.{Program}
-use Rattle.program_statements.specs.Programs.{each, Translated, ReadingProgram}
+use Rattle.program_items.specs.declared.programs.Program.{Program}
+use Rattle.program_items.specs.Programs.{each, Translated, ReadingProgram}
 use Rattle.program_numbering.specs.Numbering.{Tables, tablesOf, instructions, imageBy, imageOf}
 use Rattle.program_numbering.specs.Sizes.{fits}
 use Rattle.program_image.specs.Pictured.{Sectioned}

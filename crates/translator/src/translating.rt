@@ -77,7 +77,7 @@ fn translate_text(s: &[u8], edition: Edition, image: &mut [u8]) -> Translation
     let mut begin = [0u64; Edition::INSTRUCTIONS];
     let mut main = [0u64; Edition::INSTRUCTIONS];
     let mut end = [0u64; Edition::INSTRUCTIONS];
-    let p = program_statements::read_program(s, &mut begin, &mut main, &mut end, edition);
+    let p = program_items::read_program(s, &mut begin, &mut main, &mut end, edition);
     if p.outcome != 0 {
         let t = p.token;
         return Translation {

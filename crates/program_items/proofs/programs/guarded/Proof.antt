@@ -2,7 +2,7 @@ use mathlib.Core.Path.{sym, ap, _∙_}
 use mathlib.Core.Bool.{Bool, _||_}
 use native.Mathlib.Omega.{arith}
 use lib.Dec.{eqb}
-use Rattle.program_statements.proofs.Patterns.{
+use Rattle.program_items.proofs.Patterns.{
   pattern-failed,
   pattern-ready,
   pattern-small,
@@ -12,8 +12,8 @@ use Rattle.program_statements.proofs.Patterns.{
   pattern-read,
 }
 use borrow.Author.Needs.{needs}
-use Rattle.program_statements.proofs.programs.guarded.Statement.{statement}
-use Rattle.program_statements.proofs.programs.guarded.Tie as tie
+use Rattle.program_items.proofs.programs.guarded.Statement.{statement}
+use Rattle.program_items.proofs.programs.guarded.Tie as tie
 
 tier-requires : tie.Need-tier-requires
 tier-requires c κs = search needs

@@ -6,10 +6,10 @@ use borrow.Author.Needs.{needs}
 use Rattle.semantics.specs.Moves.{begin as begin-section, main as main-section, end as end-section}
 use Rattle.program_tokens.specs.Tokens.{tokenAt}
 use Rattle.program_parser.proofs.Tokens.{good-at}
-use Rattle.program_statements.specs.Programs.{each}
+use Rattle.program_items.specs.Programs.{each}
 use Rattle.program_statements.proofs.Answers.{token-ready}
-use Rattle.program_statements.proofs.Items.{each-section}
-use Rattle.program_statements.proofs.Whole.{
+use Rattle.program_items.proofs.Items.{each-section}
+use Rattle.program_items.proofs.Whole.{
   ProgramTurn,
   program-start,
   counts-small,
@@ -21,8 +21,8 @@ use Rattle.program_statements.proofs.Whole.{
   program-nearer,
   program-more,
 }
-use Rattle.program_statements.proofs.programs.read_program.Statement.{statement}
-use Rattle.program_statements.proofs.programs.read_program.Tie as tie
+use Rattle.program_items.proofs.programs.read_program.Statement.{statement}
+use Rattle.program_items.proofs.programs.read_program.Tie as tie
 
 abbrev Inv-loop : tie.InvT-loop
 Inv-loop s begin₀ main₀ end₀ edition p₀ begin main end p =

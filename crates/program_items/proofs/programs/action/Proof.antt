@@ -1,7 +1,7 @@
-use Rattle.program_statements.proofs.Patterns.{action-refused, action-read}
+use Rattle.program_items.proofs.Patterns.{action-refused, action-read}
 use borrow.Author.Needs.{needs}
-use Rattle.program_statements.proofs.programs.action.Statement.{statement}
-use Rattle.program_statements.proofs.programs.action.Tie as tie
+use Rattle.program_items.proofs.programs.action.Statement.{statement}
+use Rattle.program_items.proofs.programs.action.Tie as tie
 
 refuse-requires : tie.Need-refuse-requires
 refuse-requires c κs = search needs

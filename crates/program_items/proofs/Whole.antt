@@ -30,11 +30,11 @@ use Rattle.program_parser.proofs.Codes.{kind-below, decoded-back}
 use Rattle.program_parser.proofs.Tokens.{good-at, good-after, good-operand, good-past}
 use Rattle.program_parser.proofs.Passing.{still}
 use Rattle.program_parser.proofs.Spelling.{wrote-after}
-use Rattle.program_statements.specs.declared.programs.Program.{Program}
-use Rattle.program_statements.specs.Programs.{countIn, ReadingProgram}
-use Rattle.program_statements.specs.Items.{ReadItem, ReadingItem, Onward}
+use Rattle.program_items.specs.declared.programs.Program.{Program}
+use Rattle.program_items.specs.Programs.{countIn, ReadingProgram}
+use Rattle.program_items.specs.Items.{ReadItem, ReadingItem, Onward}
 use Rattle.program_statements.proofs.Answers.{lower, here, token-ready, good-newlines}
 use Rattle.program_statements.proofs.Jumps.{none-wrote, end-wrote}
 
 -- ---- past the ends that follow an item
 

@@ -30,8 +30,8 @@ use Rattle.program_parser.specs.declared.read.Read.{Read}
 use Rattle.program_parser.specs.Meaning.{Wrote}
 use Rattle.program_parser.specs.Reading.{answered, refusal, refusedBy, Ready, Reading, ReadingStatement}
 use Rattle.program_parser.proofs.Codes.{decoded-back}
-use Rattle.program_statements.specs.Items.{ReadMain, ReadingMain}
+use Rattle.program_items.specs.Items.{ReadMain, ReadingMain}
 use Rattle.program_statements.proofs.Answers.{
   Fails,
   fails-up,
   fails-by,

@@ -8,9 +8,8 @@ ghost use Rattle.program_reader.specs.Expressions.{expressionAt};
 ghost use Rattle.program_reader.specs.Programs.{actionAt, afterPattern, itemAt, readProgram};
 ghost use Rattle.program_lexer.specs.Coded.{decoded};
 ghost use Rattle.program_parser.specs.Reading.{Ready, ReadingStatement};
-ghost use Rattle.program_statements.specs.Programs.{each, ReadingProgram};
-ghost use Rattle.program_statements.specs.Items.{ReadingMain, ReadingItem, Onward};
-use crate::statements;
+ghost use Rattle.program_items.specs.Programs.{each, ReadingProgram};
+ghost use Rattle.program_items.specs.Items.{ReadingMain, ReadingItem, Onward};
 use edition::Edition;
 use program_lexer::Token;
 use program_parser::Read;
@@ -45,7 +44,7 @@ fn action(
     if t.kind != kinds::OPEN_BRACE {
         return read::refuse(t);
     }
-    statements::block(s, section, edition, t, n, Edition::NESTING - 1, in_main)
+    program_statements::block(s, section, edition, t, n, Edition::NESTING - 1, in_main)
 }
 
 // Reads a pattern, from its first token on, and its action; without one the action prints.

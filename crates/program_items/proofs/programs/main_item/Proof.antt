@@ -1,7 +1,7 @@
-use Rattle.program_statements.proofs.Patterns.{main-action, main-guarded}
+use Rattle.program_items.proofs.Patterns.{main-action, main-guarded}
 use borrow.Author.Needs.{needs}
-use Rattle.program_statements.proofs.programs.main_item.Statement.{statement}
-use Rattle.program_statements.proofs.programs.main_item.Tie as tie
+use Rattle.program_items.proofs.programs.main_item.Statement.{statement}
+use Rattle.program_items.proofs.programs.main_item.Tie as tie
 
 action-requires : tie.Need-action-requires
 action-requires c κs = search needs

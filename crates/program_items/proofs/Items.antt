@@ -19,10 +19,10 @@ use Rattle.program_parser.specs.declared.read.Read.{Read}
 use Rattle.program_parser.specs.Reading.{Good, Ready, ReadingStatement}
 use Rattle.program_parser.proofs.Codes.{decoded-back}
 use Rattle.program_parser.proofs.Tokens.{good-after}
-use Rattle.program_statements.specs.declared.programs.Program.{Program}
-use Rattle.program_statements.specs.Programs.{each, countIn}
-use Rattle.program_statements.specs.Items.{Put, ReadingMain, ReadingItem, Onward}
+use Rattle.program_items.specs.declared.programs.Program.{Program}
+use Rattle.program_items.specs.Programs.{each, countIn}
+use Rattle.program_items.specs.Items.{Put, ReadingMain, ReadingItem, Onward}
 use Rattle.program_statements.proofs.Answers.{
   Fails,
   fails-up,
   begun,
@@ -31,8 +31,8 @@ use Rattle.program_statements.proofs.Answers.{
   lower,
   ready-of,
 }
 use Rattle.program_statements.proofs.Jumps.{none-wrote}
-use Rattle.program_statements.proofs.Patterns.{item-begin, item-end}
+use Rattle.program_items.proofs.Patterns.{item-begin, item-end}
 
 -- what holds of each section
 pub each-section : (P : Section → Type 0) → P begin-section → P main-section → P end-section → (x : Section) → P x

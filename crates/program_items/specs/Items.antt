@@ -16,8 +16,8 @@ use Rattle.program_lexer.specs.Coded.{coded, decoded, kindCount}
 use Rattle.program_parser.specs.declared.read.Read.{Read}
 use Rattle.program_parser.specs.Meaning.{Wrote}
 use Rattle.program_parser.specs.Reading.{refusal, Good}
-use Rattle.program_statements.specs.declared.programs.Program.{Program}
-use Rattle.program_statements.specs.Programs.{countIn, Refused}
+use Rattle.program_items.specs.declared.programs.Program.{Program}
+use Rattle.program_items.specs.Programs.{countIn, Refused}
 
 module _ (edition : ℕ) (s : List ℕ) where
   -- what an item that is read from the token t on, up to the token u, puts into a section, which was xs and is ys: the

@@ -1,9 +1,9 @@
 use native.Mathlib.Omega.{arith}
 use Rattle.semantics.specs.Moves.{begin as begin-section, main as main-section, end as end-section}
-use Rattle.program_statements.proofs.Items.{action-ready, item-begun, item-ended, item-main}
+use Rattle.program_items.proofs.Items.{action-ready, item-begun, item-ended, item-main}
 use borrow.Author.Needs.{needs}
-use Rattle.program_statements.proofs.programs.item.Statement.{statement}
-use Rattle.program_statements.proofs.programs.item.Tie as tie
+use Rattle.program_items.proofs.programs.item.Statement.{statement}
+use Rattle.program_items.proofs.programs.item.Tie as tie
 
 token-after-requires : tie.Need-token-after-requires
 token-after-requires c κs = search needs

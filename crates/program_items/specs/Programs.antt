@@ -9,7 +9,7 @@ use Rattle.program_tree.specs.Tree.{Program as Tree}
 use Rattle.program_reader.specs.Read.{Read as Result, ok, no}
 use Rattle.program_code.specs.Sections.{sectionCode}
 use Rattle.program_parser.specs.Meaning.{Wrote}
-use Rattle.program_statements.specs.declared.programs.Program.{Program}
+use Rattle.program_items.specs.declared.programs.Program.{Program}
 
 -- something for each section
 abbrev pub each : {A : Type 0} → A → A → A → Section → A

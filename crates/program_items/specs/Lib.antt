@@ -1,0 +1,3 @@
+-- What the readers of statements, of items and of programs answer.
+pub mod Programs
+pub mod Items
