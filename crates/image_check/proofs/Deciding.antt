@@ -26,10 +26,10 @@ use Rattle.image_index.specs.Lists.{Fits, ListAt}
 use Rattle.image_index.specs.declared.indexes.Kind.the-variants.{Constants, Eres, Instructions}
 use Rattle.image_index.specs.declared.indexes.Listed.{Listed}
 use Rattle.image_items.proofs.Standing.{never}
-use Rattle.image_check.specs.Judge.{ContextOf, Judges}
+use Rattle.image_instructions.specs.Judge.{ContextOf, Judges}
 use Rattle.image_check.specs.Sections.{Decides, SectionJudged, ImageJudged, SectionsJudged}
 use Rattle.image_check.specs.Verdict.{judged, checkOf}
-use Rattle.image_check.specs.declared.context.Context.{Context}
+use Rattle.image_instructions.specs.declared.context.Context.{Context}
 use Rattle.image_items.specs.declared.header.Header.{Header}
 use Rattle.image_check.proofs.Fitting.{and-both, unchecked, section-refuses, constants-fit, eres-fit, section-fits, check-all, list-refused, list-found}
 

@@ -12,8 +12,8 @@ use Rattle.image_format.specs.Reading.{fromBytes, wordUpTo, counted, constant, 
 use Rattle.semantics.specs.Moves.{Section, begin, main, end, sectionOf}
 use Rattle.semantics.specs.Check.{sectionChecks, check}
 use Rattle.image_index.specs.declared.indexes.Listed.{Listed}
-use Rattle.image_check.specs.Judge.{ContextOf}
-use Rattle.image_check.specs.declared.context.Context.{Context}
+use Rattle.image_instructions.specs.Judge.{ContextOf}
+use Rattle.image_instructions.specs.declared.context.Context.{Context}
 use Rattle.image_items.specs.Header.{SectionsOf, SectionsIn}
 
 -- An answer on a part of the check. A section's answer can be false for what only another part refuses, as a number of

@@ -6,8 +6,7 @@ ghost use Rattle.edition.specs.Limits.{userNames, instructionCount};
 ghost use Rattle.image_format.specs.Image.{imageBound};
 ghost use Rattle.image_check.specs.Sections.{SectionJudged, SectionsJudged, ImageJudged};
 ghost use Rattle.image_check.specs.Verdict.{outcomeOf, checkOf};
-use crate::context::Context;
-use crate::instructions;
+use image_instructions::Context;
 use edition::Edition;
 use image_index::Kind;
 use image_index::Listed;
@@ -29,7 +28,7 @@ fn section(image: &[u8], context: Context, at: usize, index: &mut [u32]) -> List
         return s;
     }
     Listed {
-        ok: instructions::check_instructions(index, context, s.count),
+        ok: image_instructions::check_instructions(index, context, s.count),
         count: s.count,
         end: s.end,
     }

@@ -14,8 +14,8 @@ use Rattle.image_format.specs.Codes.{codeOf}
 use Rattle.opcodes.specs.Rows.{rowIn, isKnown}
 use Rattle.image_index.specs.Lists.{numbersOf}
 use Rattle.image_index.specs.declared.access.Numbers.{Numbers}
-use Rattle.image_check.specs.Judge.{terminatesOf, popsOf, existsOf, allowedOf, placedOf, leadsOf, hasDepth, judgedAt}
-use Rattle.image_check.specs.declared.context.Context.{Context}
+use Rattle.image_instructions.specs.Judge.{terminatesOf, popsOf, existsOf, allowedOf, placedOf, leadsOf, hasDepth, judgedAt}
+use Rattle.image_instructions.specs.declared.context.Context.{Context}
 
 -- four tests, and then another one
 and-last : (a b c d x : Bool) → (a && (b && (c && (d && true))) && x) ≡ (a && (b && (c && (d && x))))

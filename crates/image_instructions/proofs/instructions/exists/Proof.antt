@@ -2,8 +2,8 @@
 use mathlib.Core.Path.{sym}
 use borrow.Author.Tests.{eq-eqb, ne-eqb, lt-ltb, le-ltb}
 use borrow.Author.Needs.{needs}
-use Rattle.image_check.proofs.instructions.exists.Statement.{statement}
-use Rattle.image_check.proofs.instructions.exists.Tie as tie
+use Rattle.image_instructions.proofs.instructions.exists.Statement.{statement}
+use Rattle.image_instructions.proofs.instructions.exists.Tie as tie
 
 returns : tie.Need-returns
 returns c =

@@ -22,8 +22,8 @@ use Rattle.semantics.proofs.Tables.{nth-some}
 use Rattle.image_items.specs.Stands.{instructionOf}
 use Rattle.image_index.specs.Lists.{Indexes}
 use Rattle.image_index.specs.declared.indexes.Kind.the-variants.{Instructions}
-use Rattle.image_check.specs.Judge.{judgedRow, judgedBy, hasDepth, judgedAt, ContextOf, Judges}
-use Rattle.image_check.specs.declared.context.Context.{Context}
+use Rattle.image_instructions.specs.Judge.{judgedRow, judgedBy, hasDepth, judgedAt, ContextOf, Judges}
+use Rattle.image_instructions.specs.declared.context.Context.{Context}
 
 -- each element with its number, the first of which is n
 abbrev AllFrom : {A : Type 0} → (ℕ → A → Type 0) → ℕ → List A → Type 0

@@ -2,8 +2,8 @@
 use native.Mathlib.Omega.{arith}
 use borrow.Author.Tests.{lt-ltb, le-ltb}
 use borrow.Author.Needs.{needs}
-use Rattle.image_check.proofs.instructions.has_depth.Statement.{statement}
-use Rattle.image_check.proofs.instructions.has_depth.Tie as tie
+use Rattle.image_instructions.proofs.instructions.has_depth.Statement.{statement}
+use Rattle.image_instructions.proofs.instructions.has_depth.Tie as tie
 
 returns : tie.Need-returns
 returns c = rw (le-ltb (c .before .before .args .m) (c .before .before .args .count) (omega (arith, c .if1 .taken)))

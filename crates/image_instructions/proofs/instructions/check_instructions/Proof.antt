@@ -1,10 +1,10 @@
 -- `judge_all` meets its contract: what the instructions so far leave to be checked is what the section leaves.
 use Rattle.lists.proofs.Tests.{was-false, was-true}
-use Rattle.image_check.proofs.Judging.{Reached, reached-start, reached-more, reached-fail, reached-end}
+use Rattle.image_instructions.proofs.Judging.{Reached, reached-start, reached-more, reached-fail, reached-end}
 use Prim.Native.Nat.{_≤_, _-_}
 use native.Mathlib.Omega.{arith}
-use Rattle.image_check.proofs.instructions.check_instructions.Statement.{statement}
-use Rattle.image_check.proofs.instructions.check_instructions.Tie as tie
+use Rattle.image_instructions.proofs.instructions.check_instructions.Statement.{statement}
+use Rattle.image_instructions.proofs.instructions.check_instructions.Tie as tie
 
 abbrev Inv-loop : tie.InvT-loop
 Inv-loop index context count n₀ n = (n ≤ count) × (Reached context index count n)

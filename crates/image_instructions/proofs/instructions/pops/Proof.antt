@@ -1,8 +1,8 @@
 -- `pops` meets its contract, by its test.
 use borrow.Author.Tests.{eq-eqb, ne-eqb}
 use Prim.Native.Nat.{_/_, _%_}
-use Rattle.image_check.proofs.instructions.pops.Statement.{statement}
-use Rattle.image_check.proofs.instructions.pops.Tie as tie
+use Rattle.image_instructions.proofs.instructions.pops.Statement.{statement}
+use Rattle.image_instructions.proofs.instructions.pops.Tie as tie
 
 returns : tie.Need-returns
 returns c = rw (eq-eqb (c .before .args .row / 8 % 8) 5 (c .if1 .taken))

@@ -2,8 +2,8 @@
 use native.Mathlib.Omega.{arith}
 use Rattle.semantics.proofs.Specials.{specials-all, specials-few}
 use borrow.Author.Needs.{needs}
-use Rattle.image_check.proofs.instructions.variables.Statement.{statement}
-use Rattle.image_check.proofs.instructions.variables.Tie as tie
+use Rattle.image_instructions.proofs.instructions.variables.Statement.{statement}
+use Rattle.image_instructions.proofs.instructions.variables.Tie as tie
 
 specials-requires : tie.Need-specials-requires
 specials-requires c κs = search needs

@@ -1,7 +1,7 @@
 -- `allowed` meets its contract, by its test.
 use borrow.Author.Tests.{eq-eqb, ne-eqb}
-use Rattle.image_check.proofs.instructions.allowed.Statement.{statement}
-use Rattle.image_check.proofs.instructions.allowed.Tie as tie
+use Rattle.image_instructions.proofs.instructions.allowed.Statement.{statement}
+use Rattle.image_instructions.proofs.instructions.allowed.Tie as tie
 
 returns : tie.Need-returns
 returns c = rw (ne-eqb (c .before .args .code) 30 (c .if1 .taken))

@@ -5,7 +5,7 @@ ghost use Prim.Native.Nat.{_≤_, _<_};
 ghost use lib.ListN.{length};
 ghost use lib.Dec.{eqb};
 ghost use Rattle.edition.specs.Limits.{userNames};
-ghost use Rattle.image_check.specs.Judge.{terminatesOf, popsOf, variablesOf, existsOf, allowedOf, placedOf, leadsOf, hasDepth, judgedAt, Judges};
+ghost use Rattle.image_instructions.specs.Judge.{terminatesOf, popsOf, variablesOf, existsOf, allowedOf, placedOf, leadsOf, hasDepth, judgedAt, Judges};
 use crate::context::Context;
 use edition::Edition;
 

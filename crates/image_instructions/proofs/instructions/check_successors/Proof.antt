@@ -1,13 +1,13 @@
 -- `leads` meets its contract, by its tests.
 use Rattle.lists.proofs.Tests.{was-false, was-true}
-use Rattle.image_check.specs.Judge.{hasDepth}
+use Rattle.image_instructions.specs.Judge.{hasDepth}
 use mathlib.Core.Bool.{true, false, and-true}
-use Rattle.image_check.proofs.Clauses.{leads-as}
+use Rattle.image_instructions.proofs.Clauses.{leads-as}
 use borrow.Author.Tests.{eq-eqb, ne-eqb}
 use mathlib.Core.Path.{refl, sym, _∙_}
 use borrow.Author.Needs.{needs}
-use Rattle.image_check.proofs.instructions.check_successors.Statement.{statement}
-use Rattle.image_check.proofs.instructions.check_successors.Tie as tie
+use Rattle.image_instructions.proofs.instructions.check_successors.Statement.{statement}
+use Rattle.image_instructions.proofs.instructions.check_successors.Tie as tie
 
 terminates-requires : tie.Need-terminates-requires
 terminates-requires c κs = search needs

@@ -1,7 +1,7 @@
 -- `free` meets its contract, by its test.
 use borrow.Author.Needs.{needs}
-use Rattle.image_check.proofs.instructions.zero_if.Statement.{statement}
-use Rattle.image_check.proofs.instructions.zero_if.Tie as tie
+use Rattle.image_instructions.proofs.instructions.zero_if.Statement.{statement}
+use Rattle.image_instructions.proofs.instructions.zero_if.Tie as tie
 
 returns : tie.Need-returns
 returns c = search needs

@@ -1,13 +1,13 @@
 -- `check_instruction` meets its contract: each test answers a clause.
 use lib.ListN.{getD}
 use Rattle.lists.proofs.Tests.{was-false, was-true}
-use Rattle.image_check.proofs.Clauses.{depth-small, judged-as}
+use Rattle.image_instructions.proofs.Clauses.{depth-small, judged-as}
 use native.Mathlib.Omega.{arith}
 use borrow.Author.Tests.{le-leb, lt-leb}
 use mathlib.Core.Path.{refl, sym, _∙_}
 use borrow.Author.Needs.{needs}
-use Rattle.image_check.proofs.instructions.check_instruction.Statement.{statement}
-use Rattle.image_check.proofs.instructions.check_instruction.Tie as tie
+use Rattle.image_instructions.proofs.instructions.check_instruction.Statement.{statement}
+use Rattle.image_instructions.proofs.instructions.check_instruction.Tie as tie
 
 instruction-requires : tie.Need-instruction-requires
 instruction-requires c κs = search needs

@@ -16,7 +16,7 @@ use Rattle.semantics.specs.Moves.{Section, sectionOf, inMain}
 use Rattle.semantics.specs.Check.{instructionChecks}
 use Rattle.image_index.specs.Lists.{numbersOf, Indexes}
 use Rattle.image_index.specs.declared.indexes.Kind.the-variants.{Instructions}
-use Rattle.image_check.specs.declared.context.Context.{Context}
+use Rattle.image_instructions.specs.declared.context.Context.{Context}
 
 -- ---- by numbers
 

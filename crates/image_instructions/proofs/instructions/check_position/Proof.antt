@@ -1,10 +1,10 @@
 -- `placed` meets its contract, by its tests.
 use Rattle.lists.proofs.Tests.{was-false, was-true}
-use Rattle.image_check.proofs.Clauses.{placed-as}
+use Rattle.image_instructions.proofs.Clauses.{placed-as}
 use mathlib.Core.Path.{refl}
 use borrow.Author.Needs.{needs}
-use Rattle.image_check.proofs.instructions.check_position.Statement.{statement}
-use Rattle.image_check.proofs.instructions.check_position.Tie as tie
+use Rattle.image_instructions.proofs.instructions.check_position.Statement.{statement}
+use Rattle.image_instructions.proofs.instructions.check_position.Tie as tie
 
 add-if1 : tie.Need-add-if1
 add-if1 c = search needs

@@ -3,8 +3,8 @@ use mathlib.Core.Path.{sym, _∙_}
 use mathlib.Core.Bool.{true≢false}
 use borrow.Author.Tests.{eq-eqb, ne-eqb}
 use mathlib.Core.Logic.{⊎-elim}
-use Rattle.image_check.proofs.instructions.terminates.Statement.{statement}
-use Rattle.image_check.proofs.instructions.terminates.Tie as tie
+use Rattle.image_instructions.proofs.instructions.terminates.Statement.{statement}
+use Rattle.image_instructions.proofs.instructions.terminates.Tie as tie
 
 returns : tie.Need-returns
 returns c = ⊎-elim (λ w. let zero = eq-eqb (c .before .before .args .code) 0 (w .0 .taken) in rw zero (w .1 ∙ zero)) (λ w. rw (ne-eqb (c .before .before .args .code) 0 (w .0 .left), sym (w .1) ∙ c .if2 .taken) (c .if2 .taken)) (c .before .if1 .came)
