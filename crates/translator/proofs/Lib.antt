@@ -2,6 +2,5 @@
 pub mod Agreeing
 pub mod Texts
 pub mod Spelled
-pub mod Storing
 pub mod Whole
 pub mod Answers

@@ -1,4 +1,3 @@
 -- What the translator answers, and what it has once a text is read.
-pub mod Answer
 pub mod ReadAs
 pub mod Tabulated

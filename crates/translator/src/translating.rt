@@ -6,11 +6,10 @@ ghost use Rattle.edition.specs.Limits.{firstEdition, filterText, numberBound};
 ghost use Rattle.program_reader.specs.Programs.{readProgram};
 ghost use Rattle.translation.specs.Translation.{ofProgram, translateOf};
 ghost use Rattle.program_image.specs.Pictured.{Sectioned};
-ghost use Rattle.translator.specs.Answer.{translationOf};
+ghost use Rattle.program_writer.specs.Answer.{translationOf};
 ghost use Rattle.translator.specs.ReadAs.{ReadAs};
 use crate::numbering;
-use crate::writing;
-use crate::writing::Translation;
+use program_writer::Translation;
 use edition::Edition;
 use edition::Outcome;
 use program_image::Sections;
@@ -53,7 +52,7 @@ fn translate_words(
         &mut eres,
         edition,
     );
-    writing::write_fitting(
+    program_writer::write_fitting(
         s,
         begin,
         main,

@@ -1,5 +1,5 @@
 -- `translate_by`: the refusals of a text as a whole come first.
-use Rattle.translator.proofs.Storing.{too-long, nul-there, no-nul}
+use Rattle.program_writer.proofs.Storing.{too-long, nul-there, no-nul}
 use native.Mathlib.Omega.{arith}
 use borrow.Author.Needs.{needs}
 use Rattle.translator.proofs.translating.translate_by.Statement.{statement}

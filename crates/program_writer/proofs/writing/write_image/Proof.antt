@@ -1,8 +1,8 @@
 -- `write_image`: a first pass that only measures, and a second one that writes.
-use Rattle.translator.proofs.Storing.{nothing-lent, stored-small, stored-done}
+use Rattle.program_writer.proofs.Storing.{nothing-lent, stored-small, stored-done}
 use borrow.Author.Needs.{needs}
-use Rattle.translator.proofs.writing.write_image.Statement.{statement}
-use Rattle.translator.proofs.writing.write_image.Tie as tie
+use Rattle.program_writer.proofs.writing.write_image.Statement.{statement}
+use Rattle.program_writer.proofs.writing.write_image.Tie as tie
 
 sub-put-image : tie.Need-sub-put-image
 sub-put-image c = search needs

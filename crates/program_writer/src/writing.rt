@@ -11,7 +11,7 @@ ghost use Rattle.translation.specs.Translation.{refused, stored, sized};
 ghost use Rattle.program_image.specs.Written.{AllSmall};
 ghost use Rattle.program_image.specs.Pictured.{imageIn, Tabled, Sectioned};
 ghost use Rattle.program_image.specs.Fitting.{countsFit};
-ghost use Rattle.translator.specs.Answer.{translationOf};
+ghost use Rattle.program_writer.specs.Answer.{translationOf};
 use edition::Edition;
 use edition::Outcome;
 use program_image::Counts;

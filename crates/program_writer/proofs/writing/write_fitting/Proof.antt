@@ -2,10 +2,10 @@
 use mathlib.Core.Path.{sym, _∙_}
 use native.Mathlib.Omega.{arith}
 use borrow.Author.Tests.{not-true, not-false}
-use Rattle.translator.proofs.Storing.{judged-counts, judged-depths, judged-constants, judged-fits}
+use Rattle.program_writer.proofs.Storing.{judged-counts, judged-depths, judged-constants, judged-fits}
 use borrow.Author.Needs.{needs}
-use Rattle.translator.proofs.writing.write_fitting.Statement.{statement}
-use Rattle.translator.proofs.writing.write_fitting.Tie as tie
+use Rattle.program_writer.proofs.writing.write_fitting.Statement.{statement}
+use Rattle.program_writer.proofs.writing.write_fitting.Tie as tie
 
 counts-fit-requires : tie.Need-counts-fit-requires
 counts-fit-requires c κs = search needs

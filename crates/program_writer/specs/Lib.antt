@@ -1,0 +1,2 @@
+-- The image of a program whose words are numbered, written if it fits.
+pub mod Answer
