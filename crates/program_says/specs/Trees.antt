@@ -42,10 +42,11 @@ module _ (edition : ℕ) (s : List ℕ) where
         | print-list d ↦ whole (λ ts. print (saidList d (tail ts)))
         | if-rule {c = c} {n = n} d h (a → a′) ↦
             whole (λ ts. if (said edition s d (condition c ts)) (a′ .0 (afterCondition c n ts)))
-        -- the then-part is before the `else`, the else-part after it
         | if-else-rule {c = c} {n = n} {a = l} {b = b} {m = m} d h (a → a′) k j (f → f′) ↦
-            whole (λ ts. if-else (said edition s d (condition c ts)) (a′ .0 (first l (afterCondition c n ts)))
-            (f′ .0 (rest m (tail (rest b (rest l (afterCondition c n ts)))))))
+            whole (λ ts.
+            let then-part = a′ .0 (first l (afterCondition c n ts)) in
+            let else-part = f′ .0 (rest m (tail (rest b (rest l (afterCondition c n ts))))) in
+            if-else (said edition s d (condition c ts)) then-part else-part)
         | while-rule {c = c} {n = n} d h (a → a′) ↦
             whole (λ ts. while (said edition s d (condition c ts)) (a′ .0 (afterCondition c n ts)))
         | block-rule (d → d′) ↦ d′
