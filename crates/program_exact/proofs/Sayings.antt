@@ -196,11 +196,18 @@ module _ (edition : ℕ) (s : List ℕ) where
 
   -- ---- answers
 
-  abbrev pub Deep6 : Read Expression → Type 0
-  Deep6 r = (place : ℕ) × (r ≡ no sizePassed place)
+  -- the answer is 6, and a number is less than the text's length
+  abbrev pub Deep6 : ℕ → Read Expression → Type 0
+  Deep6 n r = (place : ℕ) × (r ≡ no sizePassed place) × (n < length s)
 
-  abbrev pub Exact : Read Expression → Expression → Token → Type 0
-  Exact r e u = (Deep6 r) ⊎ (r ≡ ok e u)
+  -- or what was read, and the token after it; the number is that of the levels that are left, and of the bytes before what
+  -- is read: where it is great enough, the answer isn't 6
+  abbrev pub Exact : ℕ → Read Expression → Expression → Token → Type 0
+  Exact n r e u = (Deep6 n r) ⊎ (r ≡ ok e u)
+
+  pub weaker : (m n : ℕ) (r : Read Expression) (e : Expression) (u : Token) → m ≤ n → Exact n r e u → Exact m r e u
+  weaker m n r e u h (inl d) = inl (d .0, d .1, omega (arith, h, d .2))
+  weaker m n r e u h (inr q) = inr q
 
   abbrev pub Tier : ℕ → Bool → ℕ → Token → Read Expression
   Tier levels p n t = tier edition s (inside edition s levels) p n t
@@ -209,7 +216,7 @@ module _ (edition : ℕ) (s : List ℕ) where
   Loop levels p n i r = more edition s p (suc n) (tier edition s (inside edition s levels) p n) i r
 
   abbrev pub Looped : ℕ → Bool → ℕ → Token → Expression → Token → Type 0
-  Looped levels p n t e u = (Deep6 (Loop levels p n (length s) (Tier levels p n t)))
+  Looped levels p n t e u = (Deep6 (levels + t .start) (Loop levels p n (length s) (Tier levels p n t)))
       ⊎ ((j : ℕ) × (length s ≤ j + u .start) × (Loop levels p n (length s) (Tier levels p n t) ≡ Loop levels p n j (ok e u)))
 
   abbrev pub Halt : Bool → ℕ → Kind → Type 0
@@ -238,27 +245,27 @@ module _ (edition : ℕ) (s : List ℕ) where
   unfolding more
   loop-turn levels p n i e u q = rw q
 
-  loop-start : (levels : ℕ) (p : Bool) (n : ℕ) (t : Token) (e : Expression) (u : Token) → Exact (Tier levels p n t) e u → Looped levels p n t e u
-  loop-start levels p n t e u (inl d) = inl (d .0, ap (Loop levels p n (length s)) (d .1) ∙ loop-deep levels p n (length s) (d .0))
+  loop-start : (levels : ℕ) (p : Bool) (n : ℕ) (t : Token) (e : Expression) (u : Token) → Exact (levels + t .start) (Tier levels p n t) e u → Looped levels p n t e u
+  loop-start levels p n t e u (inl d) = inl (d .0, ap (Loop levels p n (length s)) (d .1) ∙ loop-deep levels p n (length s) (d .0), d .2)
   loop-start levels p n t e u (inr q) = inr (length s, omega arith, ap (Loop levels p n (length s)) q)
 
   loop-exact : (levels : ℕ) (p : Bool) (n : ℕ) (t : Token) (e : Expression) (u : Token) → Halt p (suc n) (u .kind) → Looped levels p n t e u
-      → Exact (Loop levels p n (length s) (Tier levels p n t)) e u
+      → Exact (levels + t .start) (Loop levels p n (length s) (Tier levels p n t)) e u
   loop-exact levels p n t e u h (inl d) = inl d
   loop-exact levels p n t e u h (inr z) = inr (z .2 ∙ loop-stop levels p n (z .0) e u (halt-not p n (u .kind) h))
 
-  loop-more : (levels : ℕ) (p : Bool) (n : ℕ) (t : Token) (e : Expression) (w : Token) (a : Expression) (u : Token) → InText edition s 0 w → same (w .kind) text-end ≡ false
-      → w .start < u .start → tierOf edition p (w .kind) ≡ suc n → Looped levels p n t e w → Exact (Tier levels p n (rightOf edition s (suc n) w)) a u
+  loop-more : (levels : ℕ) (p : Bool) (n : ℕ) (t : Token) (e : Expression) (w : Token) (a : Expression) (u : Token) (q : ℕ) → InText edition s 0 w → same (w .kind) text-end ≡ false
+      → w .start < u .start → levels + t .start ≤ q → tierOf edition p (w .kind) ≡ suc n → Looped levels p n t e w → Exact q (Tier levels p n (rightOf edition s (suc n) w)) a u
       → Looped levels p n t (treeOf (w .kind) e a) u
-  loop-more levels p n t e w a u g z on q (inl d) x = inl d
-  loop-more levels p n t e w a u g z on q (inr l) x =
+  loop-more levels p n t e w a u m g z on le q (inl d) x = inl d
+  loop-more levels p n t e w a u m g z on le q (inr l) x =
       let f = fuelled edition s w (l .0) g z (l .1) in
       let counted : l .0 ≡ suc (f .0) = f .1 in
       let r : Read Expression = Tier levels p n (rightOf edition s (suc n) w) in
       let to : Loop levels p n (length s) (Tier levels p n t) ≡ Loop levels p n (f .0) (map (treeOf (w .kind) e) r) =
       l .2 ∙ (ap (λ (j : ℕ). Loop levels p n j (ok e w)) counted ∙ loop-turn levels p n (f .0) e w (eq-eqb (tierOf edition p (w .kind)) (suc n) q)) in
       ⊎-elim
-      (λ d. inl (d .0, to ∙ (ap (λ (y : Read Expression). Loop levels p n (f .0) (map (treeOf (w .kind) e) y)) (d .1) ∙ loop-deep levels p n (f .0) (d .0))))
+      (λ d. inl (d .0, to ∙ (ap (λ (y : Read Expression). Loop levels p n (f .0) (map (treeOf (w .kind) e) y)) (d .1) ∙ loop-deep levels p n (f .0) (d .0)), omega (arith, le, d .2)))
       (λ y. inr (f .0, omega (arith, l .1, counted, on), to ∙ ap (λ (y : Read Expression). Loop levels p n (f .0) (map (treeOf (w .kind) e) y)) y)) x
 
   -- ---- a form's tokens
@@ -331,26 +338,26 @@ module _ (edition : ℕ) (s : List ℕ) where
   -- what is shown of each form
   abbrev pub Spoken : (part : Part) (l : List Kind) → Form edition part l → Type 0
   Spoken (expression p) l d = (levels : ℕ) (b : Bool) (t : Token) (ts : List Token) (u : Token) → IsAt p b → Span l t ts u → among quiet (u .kind) ≡ true
-      → Exact (Tier levels b 10 t) (said edition s d ts) u
+      → Exact (levels + t .start) (Tier levels b 10 t) (said edition s d ts) u
   Spoken (disjunction p) l d = (levels : ℕ) (b : Bool) (t : Token) (ts : List Token) (u : Token) → IsAt p b → Span l t ts u → Halt b 8 (u .kind)
       → among (tilde ∷ no-match-kind ∷ []) (u .kind) ≡ false → Looped levels b 8 t (said edition s d ts) u
   Spoken (conjunction p) l d = (levels : ℕ) (b : Bool) (t : Token) (ts : List Token) (u : Token) → IsAt p b → Span l t ts u → Halt b 7 (u .kind)
       → among (tilde ∷ no-match-kind ∷ []) (u .kind) ≡ false → Looped levels b 7 t (said edition s d ts) u
   Spoken (matching p) l d = (levels : ℕ) (b : Bool) (t : Token) (ts : List Token) (u : Token) → IsAt p b → Span l t ts u → Halt b 7 (u .kind)
-      → among (tilde ∷ no-match-kind ∷ []) (u .kind) ≡ false → Exact (Tier levels b 7 t) (said edition s d ts) u
-  Spoken (comparison p) l d = (levels : ℕ) (b : Bool) (t : Token) (ts : List Token) (u : Token) → IsAt p b → Span l t ts u → Halt b 5 (u .kind) → Exact (Tier levels b 5 t) (said edition s d ts) u
+      → among (tilde ∷ no-match-kind ∷ []) (u .kind) ≡ false → Exact (levels + t .start) (Tier levels b 7 t) (said edition s d ts) u
+  Spoken (comparison p) l d = (levels : ℕ) (b : Bool) (t : Token) (ts : List Token) (u : Token) → IsAt p b → Span l t ts u → Halt b 5 (u .kind) → Exact (levels + t .start) (Tier levels b 5 t) (said edition s d ts) u
   Spoken concatenation l d = (levels : ℕ) (b : Bool) (t : Token) (ts : List Token) (u : Token) → Span l t ts u → Halt b 3 (u .kind) → Looped levels b 3 t (said edition s d ts) u
   Spoken sum l d = (levels : ℕ) (b : Bool) (t : Token) (ts : List Token) (u : Token) → Span l t ts u → Halt b 2 (u .kind) → Looped levels b 2 t (said edition s d ts) u
   Spoken product l d = (levels : ℕ) (b : Bool) (t : Token) (ts : List Token) (u : Token) → Span l t ts u → Looped levels b 1 t (said edition s d ts) u
-  Spoken prefixed l d = (levels : ℕ) (b : Bool) (t : Token) (ts : List Token) (u : Token) → Span l t ts u → Exact (Tier levels b 1 t) (said edition s d ts) u
-  Spoken field-part l d = (levels : ℕ) (b : Bool) (t : Token) (ts : List Token) (u : Token) → Span l t ts u → Exact (Tier levels b 0 t) (said edition s d ts) u
-  Spoken primary l d = (levels : ℕ) (t : Token) (ts : List Token) (u : Token) → Span l t ts u → Exact (primary-of edition s (inside edition s levels) t) (said edition s d ts) u
-  Spoken (argument an-expression) l d = (levels : ℕ) (o t : Token) (ts : List Token) (u : Token) → Span l t ts u → among quiet (u .kind) ≡ true
-      → Exact (inside edition s levels false 10 o t) (said edition s d ts) u
+  Spoken prefixed l d = (levels : ℕ) (b : Bool) (t : Token) (ts : List Token) (u : Token) → Span l t ts u → Exact (levels + t .start) (Tier levels b 1 t) (said edition s d ts) u
+  Spoken field-part l d = (levels : ℕ) (b : Bool) (t : Token) (ts : List Token) (u : Token) → Span l t ts u → Exact (levels + t .start) (Tier levels b 0 t) (said edition s d ts) u
+  Spoken primary l d = (levels : ℕ) (t : Token) (ts : List Token) (u : Token) → Span l t ts u → Exact (levels + t .start) (primary-of edition s (inside edition s levels) t) (said edition s d ts) u
+  Spoken (argument an-expression) l d = (levels : ℕ) (o t : Token) (ts : List Token) (u : Token) → Span l t ts u → among quiet (u .kind) ≡ true → o .start < t .start
+      → Exact (levels + o .start) (inside edition s levels false 10 o t) (said edition s d ts) u
   Spoken (argument an-ere) l d = (t : Token) (ts : List Token) (u : Token) → Span l t ts u → (t .kind ≡ ERE) × (u ≡ tokenAfter edition s t) × (said edition s d ts ≡ ereIn s t)
   Spoken (arguments []) l d = Unit
-  Spoken (arguments (x ∷ xs)) l d = (levels : ℕ) (o : Token) (f : Call (x ∷ xs)) (t : Token) (ts : List Token) (u : Token) → Span l t ts u → u .kind ≡ close-paren
-      → Exact (argument-of edition s (inside edition s levels) o x xs f t (arguments-of edition s (inside edition s levels) o false xs)) (said edition s d ts f) u
+  Spoken (arguments (x ∷ xs)) l d = (levels : ℕ) (o : Token) (f : Call (x ∷ xs)) (t : Token) (ts : List Token) (u : Token) → Span l t ts u → u .kind ≡ close-paren → o .start < t .start
+      → Exact (levels + o .start) (argument-of edition s (inside edition s levels) o x xs f t (arguments-of edition s (inside edition s levels) o false xs)) (said edition s d ts f) u
 
   -- ---- two forms and a kind between them
 
@@ -363,6 +370,8 @@ module _ (edition : ℕ) (s : List ℕ) where
     follow : Follow middle next
     right : Span r next (tail (rest l ts)) u
     onward : middle .start < u .start
+    begin : t .start ≤ middle .start
+    over : middle .start < next .start
     whole : Span (k ∷ r) middle (rest l ts) u
     here : head (rest l ts) ≡ middle
 
@@ -384,6 +393,8 @@ module _ (edition : ℕ) (s : List ℕ) where
         follow = o .follow;
         right = record { good = gv; kinds = o .kinds; trail = o .trail; raw = p .raw };
         onward = omega (arith, on, far);
+        begin = trail-on t (first l ts) w (p .good) (c .left);
+        over = on;
         whole = record { good = g; kinds = c .right-kinds; trail = c .right; raw = p .raw };
         here = o .here;
       }
@@ -395,7 +406,7 @@ module _ (edition : ℕ) (s : List ℕ) where
   turn-case : (levels : ℕ) (b : Bool) (n : ℕ) (l : List Kind) (k : Kind) (r : List Kind) (t : Token) (ts : List Token) (u : Token) (x y : Expression) → Raw k → same k text-end ≡ false
       → tierOf edition b k ≡ suc n → ((w : Token) → rightOf edition s (suc n) w ≡ operandAfter edition s w) → StartsAll r → Span (l ++ (k ∷ r)) t ts u
       → ((w : Token) → Span l t (first l ts) w → Halt b n (w .kind) → Looped levels b n t x w)
-      → ((v : Token) → Span r v (tail (rest l ts)) u → Exact (Tier levels b n v) y u) → Looped levels b n t (treeOf k x y) u
+      → ((v : Token) → Span r v (tail (rest l ts)) u → Exact (levels + v .start) (Tier levels b n v) y u) → Looped levels b n t (treeOf k x y) u
   turn-case levels b n l k r t ts u x y a z q at st p left right =
       let i = pieces l k r t ts u a z p in
       let w : Token = i .middle in
@@ -403,25 +414,25 @@ module _ (edition : ℕ) (s : List ℕ) where
       let begins = st (i .next) (tail (rest l ts)) u (i .right .kinds) (i .right .trail) in
       let own : i .next ≡ rightOf edition s (suc n) w = operand-next w (i .next) (i .follow) (begins .0) ∙ sym (at w) in
       subst (λ (j : Kind). Looped levels b n t (treeOf j x y) u) (i .kind)
-      (loop-more levels b n t x w y u (i .good) (ap (λ (j : Kind). same j text-end) (i .kind) ∙ z) (i .onward) tier-w (left w (i .left) (inr (omega (arith, tier-w))))
-      (subst (λ (v : Token). Exact (Tier levels b n v) y u) own (right (i .next) (i .right))))
+      (loop-more levels b n t x w y u (levels + i .next .start) (i .good) (ap (λ (j : Kind). same j text-end) (i .kind) ∙ z) (i .onward) (omega (arith, i .begin, i .over)) tier-w (left w (i .left) (inr (omega (arith, tier-w))))
+      (subst (λ (v : Token). Exact (levels + i .next .start) (Tier levels b n v) y u) own (right (i .next) (i .right))))
 
   join-case : (levels : ℕ) (b : Bool) (l : List Kind) (k : Kind) (r : List Kind) (t : Token) (ts : List Token) (u : Token) (x y : Expression) → Raw k → same k text-end ≡ false
       → tierOf edition b k ≡ 4 → Span (l ++ (k ∷ r)) t ts u → ((w : Token) → Span l t (first l ts) w → Halt b 3 (w .kind) → Looped levels b 3 t x w)
-      → ((v : Token) → Span (k ∷ r) v (rest l ts) u → Exact (Tier levels b 3 v) y u) → Looped levels b 3 t (treeOf k x y) u
+      → ((v : Token) → Span (k ∷ r) v (rest l ts) u → Exact (levels + v .start) (Tier levels b 3 v) y u) → Looped levels b 3 t (treeOf k x y) u
   unfolding rightOf
   join-case levels b l k r t ts u x y a z q p left right =
       let i = pieces l k r t ts u a z p in
       let w : Token = i .middle in
       let tier-w : tierOf edition b (w .kind) ≡ 4 = ap (tierOf edition b) (i .kind) ∙ q in
       subst (λ (j : Kind). Looped levels b 3 t (treeOf j x y) u) (i .kind)
-      (loop-more levels b 3 t x w y u (i .good) (ap (λ (j : Kind). same j text-end) (i .kind) ∙ z) (i .onward) tier-w (left w (i .left) (inr (omega (arith, tier-w)))) (right w (i .whole)))
+      (loop-more levels b 3 t x w y u (levels + w .start) (i .good) (ap (λ (j : Kind). same j text-end) (i .kind) ∙ z) (i .onward) (omega (arith, i .begin)) tier-w (left w (i .left) (inr (omega (arith, tier-w)))) (right w (i .whole)))
 
   -- a turn whose right operand newlines may come before
   line-case : (levels : ℕ) (b : Bool) (n : ℕ) (l : List Kind) (k : Kind) (m r : List Kind) (t : Token) (ts : List Token) (u : Token) (x y : Expression) → Raw k → same k text-end ≡ false
       → tierOf edition b k ≡ suc n → ((w : Token) → rightOf edition s (suc n) w ≡ pastNewlines edition s (tokenAfter edition s w)) → Newlines m → StartsAll r → Span (l ++ (k ∷ (m ++ r))) t ts u
       → ((w : Token) → Span l t (first l ts) w → w .kind ≡ k → Halt b n (w .kind) → Looped levels b n t x w)
-      → ((v : Token) → Span r v (rest m (tail (rest l ts))) u → Exact (Tier levels b n v) y u) → Looped levels b n t (treeOf (head (rest l ts) .kind) x y) u
+      → ((v : Token) → Span r v (rest m (tail (rest l ts))) u → Exact (levels + v .start) (Tier levels b n v) y u) → Looped levels b n t (treeOf (head (rest l ts) .kind) x y) u
   line-case levels b n l k m r t ts u x y a z q at nl st p left right =
       let i = pieces l k (m ++ r) t ts u a z p in
       let w : Token = i .middle in
@@ -431,37 +442,38 @@ module _ (edition : ℕ) (s : List ℕ) where
       let gv : InText edition s 0 v = trail-in (i .next) (first m (tail (rest l ts))) v (i .right .good) (c .left) in
       let begins = st v (rest m (tail (rest l ts))) u (c .right-kinds) (c .right) in
       let no-end : same (w .kind) text-end ≡ false = ap (λ (j : Kind). same j text-end) (i .kind) ∙ z in
+      let far : i .next .start ≤ v .start = trail-on (i .next) (first m (tail (rest l ts))) v (i .right .good) (c .left) in
       let own : rightOf edition s (suc n) w ≡ v =
       at w ∙ lines-trail m nl (length s) w (i .next) (first m (tail (rest l ts))) v (i .good) no-end (omega arith) (i .follow) (c .left-kinds) (c .left) (begins .1) (begins .0) in
       subst (λ (j : Token). Looped levels b n t (treeOf (j .kind) x y) u) (sym (i .here))
-      (loop-more levels b n t x w y u (i .good) no-end (i .onward) tier-w (left w (i .left) (i .kind) (inr (omega (arith, tier-w))))
-      (subst (λ (j : Token). Exact (Tier levels b n j) y u) (sym own) (right v (record { good = gv; kinds = c .right-kinds; trail = c .right; raw = p .raw }))))
+      (loop-more levels b n t x w y u (levels + v .start) (i .good) no-end (i .onward) (omega (arith, i .begin, i .over, far)) tier-w (left w (i .left) (i .kind) (inr (omega (arith, tier-w))))
+      (subst (λ (j : Token). Exact (levels + v .start) (Tier levels b n j) y u) (sym own) (right v (record { good = gv; kinds = c .right-kinds; trail = c .right; raw = p .raw }))))
 
   -- ---- from tier to tier
 
-  exact-map : (f : Expression → Expression) (r : Read Expression) (e : Expression) (u : Token) → Exact r e u → Exact (map f r) (f e) u
-  exact-map f r e u (inl d) = inl (d .0, ap (map f) (d .1))
-  exact-map f r e u (inr q) = inr (ap (map f) q)
+  exact-map : (f : Expression → Expression) (n : ℕ) (r : Read Expression) (e : Expression) (u : Token) → Exact n r e u → Exact n (map f r) (f e) u
+  exact-map f n r e u (inl d) = inl (d .0, ap (map f) (d .1), d .2)
+  exact-map f n r e u (inr q) = inr (ap (map f) q)
 
-  one-up : (levels : ℕ) (b : Bool) (t : Token) (e : Expression) (u : Token) → isOneOf prefixes t ≡ false → Exact (Tier levels b 0 t) e u → Exact (Tier levels b 1 t) e u
+  one-up : (levels : ℕ) (b : Bool) (t : Token) (e : Expression) (u : Token) → isOneOf prefixes t ≡ false → Exact (levels + t .start) (Tier levels b 0 t) e u → Exact (levels + t .start) (Tier levels b 1 t) e u
   unfolding tier stepTier prefixForm
-  one-up levels b t e u q h = subst (λ (r : Read Expression). Exact r e u) (sym (rw q)) h
+  one-up levels b t e u q h = subst (λ (r : Read Expression). Exact (levels + t .start) r e u) (sym (rw q)) h
 
-  two-up : (levels : ℕ) (b : Bool) (t : Token) (e : Expression) (u : Token) → Halt b 2 (u .kind) → Looped levels b 1 t e u → Exact (Tier levels b 2 t) e u
+  two-up : (levels : ℕ) (b : Bool) (t : Token) (e : Expression) (u : Token) → Halt b 2 (u .kind) → Looped levels b 1 t e u → Exact (levels + t .start) (Tier levels b 2 t) e u
   unfolding tier stepTier
   two-up levels b t e u h l = loop-exact levels b 1 t e u h l
 
-  three-up : (levels : ℕ) (b : Bool) (t : Token) (e : Expression) (u : Token) → Halt b 3 (u .kind) → Looped levels b 2 t e u → Exact (Tier levels b 3 t) e u
+  three-up : (levels : ℕ) (b : Bool) (t : Token) (e : Expression) (u : Token) → Halt b 3 (u .kind) → Looped levels b 2 t e u → Exact (levels + t .start) (Tier levels b 3 t) e u
   unfolding tier stepTier
   three-up levels b t e u h l = loop-exact levels b 2 t e u h l
 
-  four-up : (levels : ℕ) (b : Bool) (t : Token) (e : Expression) (u : Token) → Halt b 4 (u .kind) → Looped levels b 3 t e u → Exact (Tier levels b 4 t) e u
+  four-up : (levels : ℕ) (b : Bool) (t : Token) (e : Expression) (u : Token) → Halt b 4 (u .kind) → Looped levels b 3 t e u → Exact (levels + t .start) (Tier levels b 4 t) e u
   unfolding tier stepTier
   four-up levels b t e u h l = loop-exact levels b 3 t e u h l
 
-  five-up : (levels : ℕ) (b : Bool) (t : Token) (e : Expression) (u : Token) → Halt b 5 (u .kind) → Exact (Tier levels b 4 t) e u → Exact (Tier levels b 5 t) e u
+  five-up : (levels : ℕ) (b : Bool) (t : Token) (e : Expression) (u : Token) → Halt b 5 (u .kind) → Exact (levels + t .start) (Tier levels b 4 t) e u → Exact (levels + t .start) (Tier levels b 5 t) e u
   unfolding tier stepTier
-  five-up levels b t e u h (inl d) = inl (d .0, ap (Loop levels b 4 1) (d .1) ∙ loop-deep levels b 4 1 (d .0))
+  five-up levels b t e u h (inl d) = inl (d .0, ap (Loop levels b 4 1) (d .1) ∙ loop-deep levels b 4 1 (d .0), d .2)
   five-up levels b t e u h (inr q) = inr (ap (Loop levels b 4 1) q ∙ loop-stop levels b 4 1 e u (halt-not b 4 (u .kind) h))
 
   unmatched : (e : Expression) (u : Token) → isOneOf (tilde ∷ no-match-kind ∷ []) u ≡ false → matching-of edition s (ok e u) ≡ ok e u
@@ -472,26 +484,26 @@ module _ (edition : ℕ) (s : List ℕ) where
   unfolding matching-of
   matched-deep place = refl
 
-  six-up : (levels : ℕ) (b : Bool) (t : Token) (e : Expression) (u : Token) → isOneOf (tilde ∷ no-match-kind ∷ []) u ≡ false → Exact (Tier levels b 5 t) e u → Exact (Tier levels b 6 t) e u
+  six-up : (levels : ℕ) (b : Bool) (t : Token) (e : Expression) (u : Token) → isOneOf (tilde ∷ no-match-kind ∷ []) u ≡ false → Exact (levels + t .start) (Tier levels b 5 t) e u → Exact (levels + t .start) (Tier levels b 6 t) e u
   unfolding tier stepTier
-  six-up levels b t e u h (inl d) = inl (d .0, ap (matching-of edition s) (d .1) ∙ matched-deep (d .0))
+  six-up levels b t e u h (inl d) = inl (d .0, ap (matching-of edition s) (d .1) ∙ matched-deep (d .0), d .2)
   six-up levels b t e u h (inr q) = inr (ap (matching-of edition s) q ∙ unmatched e u h)
 
-  seven-up : (levels : ℕ) (b : Bool) (t : Token) (e : Expression) (u : Token) → Halt b 7 (u .kind) → Exact (Tier levels b 6 t) e u → Exact (Tier levels b 7 t) e u
+  seven-up : (levels : ℕ) (b : Bool) (t : Token) (e : Expression) (u : Token) → Halt b 7 (u .kind) → Exact (levels + t .start) (Tier levels b 6 t) e u → Exact (levels + t .start) (Tier levels b 7 t) e u
   unfolding tier stepTier
   seven-up levels b t e u h x = loop-exact levels b 6 t e u h (loop-start levels b 6 t e u x)
 
-  eight-up : (levels : ℕ) (b : Bool) (t : Token) (e : Expression) (u : Token) → Halt b 8 (u .kind) → Looped levels b 7 t e u → Exact (Tier levels b 8 t) e u
+  eight-up : (levels : ℕ) (b : Bool) (t : Token) (e : Expression) (u : Token) → Halt b 8 (u .kind) → Looped levels b 7 t e u → Exact (levels + t .start) (Tier levels b 8 t) e u
   unfolding tier stepTier
   eight-up levels b t e u h l = loop-exact levels b 7 t e u h l
 
-  nine-up : (levels : ℕ) (b : Bool) (t : Token) (e : Expression) (u : Token) → Halt b 9 (u .kind) → Looped levels b 8 t e u → Exact (Tier levels b 9 t) e u
+  nine-up : (levels : ℕ) (b : Bool) (t : Token) (e : Expression) (u : Token) → Halt b 9 (u .kind) → Looped levels b 8 t e u → Exact (levels + t .start) (Tier levels b 9 t) e u
   unfolding tier stepTier
   nine-up levels b t e u h l = loop-exact levels b 8 t e u h l
 
   -- a field form before what is no operator but `=`
   nine-of : (levels : ℕ) (b : Bool) (t : Token) (e : Expression) (u : Token) → tierOf edition b (u .kind) ≡ 0 → isOneOf (tilde ∷ no-match-kind ∷ []) u ≡ false → isOneOf prefixes t ≡ false
-      → Exact (Tier levels b 0 t) e u → Exact (Tier levels b 9 t) e u
+      → Exact (levels + t .start) (Tier levels b 0 t) e u → Exact (levels + t .start) (Tier levels b 9 t) e u
   nine-of levels b t e u z n q h =
       let a2 = two-up levels b t e u (inl z) (loop-start levels b 1 t e u (one-up levels b t e u q h)) in
       let a3 = three-up levels b t e u (inl z) (loop-start levels b 2 t e u a2) in
@@ -508,8 +520,8 @@ module _ (edition : ℕ) (s : List ℕ) where
   compared-run levels b x w q = rw (eq-eqb (tierOf edition b (w .kind)) 5 q)
 
   compare-case : (levels : ℕ) (b : Bool) (l : List Kind) (k : Kind) (r : List Kind) (t : Token) (ts : List Token) (u : Token) (x y : Expression) → Raw k → same k text-end ≡ false
-      → tierOf edition b k ≡ 5 → StartsAll r → Span (l ++ (k ∷ r)) t ts u → ((w : Token) → Span l t (first l ts) w → Halt b 4 (w .kind) → Exact (Tier levels b 4 t) x w)
-      → ((v : Token) → Span r v (tail (rest l ts)) u → Exact (Tier levels b 4 v) y u) → Exact (Tier levels b 5 t) (treeOf k x y) u
+      → tierOf edition b k ≡ 5 → StartsAll r → Span (l ++ (k ∷ r)) t ts u → ((w : Token) → Span l t (first l ts) w → Halt b 4 (w .kind) → Exact (levels + t .start) (Tier levels b 4 t) x w)
+      → ((v : Token) → Span r v (tail (rest l ts)) u → Exact (levels + v .start) (Tier levels b 4 v) y u) → Exact (levels + t .start) (Tier levels b 5 t) (treeOf k x y) u
   unfolding tier stepTier
   compare-case levels b l k r t ts u x y a z q st p left right =
       let i = pieces l k r t ts u a z p in
@@ -517,11 +529,13 @@ module _ (edition : ℕ) (s : List ℕ) where
       let tier-w : tierOf edition b (w .kind) ≡ 5 = ap (tierOf edition b) (i .kind) ∙ q in
       let begins = st (i .next) (tail (rest l ts)) u (i .right .kinds) (i .right .trail) in
       let own : i .next ≡ operandAfter edition s w = operand-next w (i .next) (i .follow) (begins .0) in
-      let r2 = exact-map (treeOf (w .kind) x) (Tier levels b 4 (operandAfter edition s w)) y u (subst (λ (v : Token). Exact (Tier levels b 4 v) y u) own (right (i .next) (i .right))) in
+      let r2 = weaker (levels + t .start) (levels + i .next .start) (map (treeOf (w .kind) x) (Tier levels b 4 (operandAfter edition s w))) (treeOf (w .kind) x y) u (omega (arith, i .begin, i .over))
+      (exact-map (treeOf (w .kind) x) (levels + i .next .start) (Tier levels b 4 (operandAfter edition s w)) y u
+      (subst (λ (v : Token). Exact (levels + i .next .start) (Tier levels b 4 v) y u) own (right (i .next) (i .right)))) in
       ⊎-elim
-      (λ d. inl (d .0, ap (Loop levels b 4 1) (d .1) ∙ loop-deep levels b 4 1 (d .0)))
-      (λ e. subst (λ (j : Kind). Exact (Tier levels b 5 t) (treeOf j x y) u) (i .kind)
-      (subst (λ (m : Read Expression). Exact m (treeOf (w .kind) x y) u) (sym (ap (Loop levels b 4 1) e ∙ compared-run levels b x w tier-w)) r2))
+      (λ d. inl (d .0, ap (Loop levels b 4 1) (d .1) ∙ loop-deep levels b 4 1 (d .0), d .2))
+      (λ e. subst (λ (j : Kind). Exact (levels + t .start) (Tier levels b 5 t) (treeOf j x y) u) (i .kind)
+      (subst (λ (m : Read Expression). Exact (levels + t .start) m (treeOf (w .kind) x y) u) (sym (ap (Loop levels b 4 1) e ∙ compared-run levels b x w tier-w)) r2))
       (left w (i .left) (inr (omega (arith, tier-w))))
 
   matched-run : (x : Expression) (k : Kind) (w v : Token) → w .kind ≡ k → among (tilde ∷ no-match-kind ∷ []) k ≡ true → operandAfter edition s w ≡ v → v .kind ≡ ERE
@@ -538,8 +552,8 @@ module _ (edition : ℕ) (s : List ℕ) where
 
   match-case : (levels : ℕ) (b : Bool) (l : List Kind) (k : Kind) (t : Token) (ts : List Token) (u : Token) (x : Expression) → Raw k → same k text-end ≡ false
       → tierOf edition b k ≡ 0 → among (tilde ∷ no-match-kind ∷ []) k ≡ true → Span (l ++ (k ∷ ERE ∷ [])) t ts u
-      → ((w : Token) → Span l t (first l ts) w → Halt b 5 (w .kind) → Exact (Tier levels b 5 t) x w)
-      → Exact (Tier levels b 6 t) (cond (same k tilde) (matches x (ereIn s (head (tail (rest l ts))))) (no-match x (ereIn s (head (tail (rest l ts)))))) u
+      → ((w : Token) → Span l t (first l ts) w → Halt b 5 (w .kind) → Exact (levels + t .start) (Tier levels b 5 t) x w)
+      → Exact (levels + t .start) (Tier levels b 6 t) (cond (same k tilde) (matches x (ereIn s (head (tail (rest l ts))))) (no-match x (ereIn s (head (tail (rest l ts)))))) u
   unfolding tier stepTier among rank
   match-case levels b l k t ts u x a z q m p left =
       let i = pieces l k (ERE ∷ []) t ts u a z p in
@@ -551,7 +565,7 @@ module _ (edition : ℕ) (s : List ℕ) where
       let after-v : u ≡ tokenAfter edition s v = raw-next v u last (p .raw) in
       let said-tree : Expression = cond (same k tilde) (matches x (ereIn s (head (tail (rest l ts))))) (no-match x (ereIn s (head (tail (rest l ts))))) in
       ⊎-elim
-      (λ d. inl (d .0, ap (matching-of edition s) (d .1) ∙ matched-deep (d .0)))
+      (λ d. inl (d .0, ap (matching-of edition s) (d .1) ∙ matched-deep (d .0), d .2))
       (λ e. inr (ap (matching-of edition s) e ∙ (matched-run x k w v (i .kind) m (sym own) (o .kind)
       ∙ (ap (λ (j : Token). ok (cond (same k tilde) (matches x (ereIn s j)) (no-match x (ereIn s j))) (tokenAfter edition s v)) (sym (o .here)) ∙ ap (λ (j : Token). ok said-tree j) (sym after-v)))))
       (left w (i .left) (inl (ap (tierOf edition b) (i .kind) ∙ q)))
@@ -559,10 +573,11 @@ module _ (edition : ℕ) (s : List ℕ) where
   -- ---- levels
 
   -- a form one level further in
-  pub inner-exact : (levels : ℕ) (b : Bool) (n : ℕ) (o t : Token) (e : Expression) (u : Token) → ((l : ℕ) → Exact (Tier l b n t) e u) → Exact (inside edition s levels b n o t) e u
+  pub inner-exact : (levels : ℕ) (b : Bool) (n : ℕ) (o t : Token) (e : Expression) (u : Token) → o .start < t .start → InText edition s 0 t → ((l : ℕ) → Exact (l + t .start) (Tier l b n t) e u)
+      → Exact (levels + o .start) (inside edition s levels b n o t) e u
   unfolding inside
-  inner-exact zero b n o t e u h = inl (o .start, refl)
-  inner-exact (suc l) b n o t e u h = h l
+  inner-exact zero b n o t e u on g h = inl (o .start, refl, omega (arith, on, g .ordered, g .within))
+  inner-exact (suc l) b n o t e u on g h = weaker (suc l + o .start) (l + t .start) (Tier l b n t) e u (omega (arith, on)) (h l)
 
   -- ---- prefixes and `$`
 
@@ -571,38 +586,44 @@ module _ (edition : ℕ) (s : List ℕ) where
   unfolding tier stepTier prefixForm
   prefix-run levels b t q = rw q
 
+  prefix-goes : (k : Kind) → among prefixes k ≡ true → same k text-end ≡ false
+  unfolding among rank
+  prefix-goes k q = each (λ k. same k text-end ≡ false) prefixes (refl, (refl, (refl, tt))) k q
+
   prefix-case : (levels : ℕ) (b : Bool) (k : Kind) (l : List Kind) (t : Token) (ts : List Token) (u : Token) (x : Expression) → among prefixes k ≡ true → StartsAll l → Span (k ∷ l) t ts u
-      → ((m : ℕ) (v : Token) → Span l v (tail ts) u → Exact (Tier m false 1 v) x u) → Exact (Tier levels b 1 t) (prefix-tree (prefixOf k) x) u
+      → ((m : ℕ) (v : Token) → Span l v (tail ts) u → Exact (m + v .start) (Tier m false 1 v) x u) → Exact (levels + t .start) (Tier levels b 1 t) (prefix-tree (prefixOf k) x) u
   prefix-case levels b k l t ts u x q st p h =
       let o = one-step k l t ts u (p .kinds) (p .trail) in
       let v : Token = o .next in
       let begins = st v (tail ts) u (o .kinds) (o .trail) in
       let own : v ≡ operandAfter edition s t = operand-next t v (o .follow) (begins .0) in
       let pv : Span l v (tail ts) u = record { good = next-in t v (o .follow) (p .good); kinds = o .kinds; trail = o .trail; raw = p .raw } in
-      let i : Exact (inside edition s levels false 1 t (operandAfter edition s t)) x u =
-      subst (λ (j : Token). Exact (inside edition s levels false 1 t j) x u) own (inner-exact levels false 1 t v x u (λ m. h m v pv)) in
-      subst (λ (j : Kind). Exact (Tier levels b 1 t) (prefix-tree (prefixOf j) x) u) (o .kind)
-      (subst (λ (r : Read Expression). Exact r (prefix-tree (prefixOf (t .kind)) x) u) (sym (prefix-run levels b t (ap (among prefixes) (o .kind) ∙ q)))
-      (exact-map (prefix-tree (prefixOf (t .kind))) (inside edition s levels false 1 t (operandAfter edition s t)) x u i))
+      let no-end : same (t .kind) text-end ≡ false = ap (λ (j : Kind). same j text-end) (o .kind) ∙ prefix-goes k q in
+      let i : Exact (levels + t .start) (inside edition s levels false 1 t (operandAfter edition s t)) x u =
+      subst (λ (j : Token). Exact (levels + t .start) (inside edition s levels false 1 t j) x u) own
+      (inner-exact levels false 1 t v x u (next-on t v (o .follow) (p .good) no-end) (pv .good) (λ m. h m v pv)) in
+      subst (λ (j : Kind). Exact (levels + t .start) (Tier levels b 1 t) (prefix-tree (prefixOf j) x) u) (o .kind)
+      (subst (λ (r : Read Expression). Exact (levels + t .start) r (prefix-tree (prefixOf (t .kind)) x) u) (sym (prefix-run levels b t (ap (among prefixes) (o .kind) ∙ q)))
+      (exact-map (prefix-tree (prefixOf (t .kind))) (levels + t .start) (inside edition s levels false 1 t (operandAfter edition s t)) x u i))
 
   field-run : (levels : ℕ) (b : Bool) (t : Token) → is dollar t ≡ true → Tier levels b 0 t ≡ map field (inside edition s levels false 0 t (operandAfter edition s t))
   unfolding tier fieldForm
   field-run levels b t q = rw q
 
-  dollar-case : (levels : ℕ) (b : Bool) (l : List Kind) (t v : Token) (ts : List Token) (u : Token) (x : Expression) → t .kind ≡ dollar → Follow t v → StartsAll l → Span l v ts u
-      → ((m : ℕ) → Exact (Tier m false 0 v) x u) → Exact (Tier levels b 0 t) (field x) u
+  dollar-case : (levels : ℕ) (b : Bool) (l : List Kind) (t v : Token) (ts : List Token) (u : Token) (x : Expression) → t .kind ≡ dollar → Follow t v → t .start < v .start → StartsAll l → Span l v ts u
+      → ((m : ℕ) → Exact (m + v .start) (Tier m false 0 v) x u) → Exact (levels + t .start) (Tier levels b 0 t) (field x) u
   unfolding rank
-  dollar-case levels b l t v ts u x k f st p h =
+  dollar-case levels b l t v ts u x k f on st p h =
       let begins = st v ts u (p .kinds) (p .trail) in
       let own : v ≡ operandAfter edition s t = operand-next t v f (begins .0) in
-      let i : Exact (inside edition s levels false 0 t (operandAfter edition s t)) x u =
-      subst (λ (j : Token). Exact (inside edition s levels false 0 t j) x u) own (inner-exact levels false 0 t v x u h) in
-      subst (λ (r : Read Expression). Exact r (field x) u) (sym (field-run levels b t (ap (λ (j : Kind). same j dollar) k)))
-      (exact-map field (inside edition s levels false 0 t (operandAfter edition s t)) x u i)
+      let i : Exact (levels + t .start) (inside edition s levels false 0 t (operandAfter edition s t)) x u =
+      subst (λ (j : Token). Exact (levels + t .start) (inside edition s levels false 0 t j) x u) own (inner-exact levels false 0 t v x u on (p .good) h) in
+      subst (λ (r : Read Expression). Exact (levels + t .start) r (field x) u) (sym (field-run levels b t (ap (λ (j : Kind). same j dollar) k)))
+      (exact-map field (levels + t .start) (inside edition s levels false 0 t (operandAfter edition s t)) x u i)
 
-  no-dollar : (levels : ℕ) (b : Bool) (t : Token) (e : Expression) (u : Token) → is dollar t ≡ false → Exact (primary-of edition s (inside edition s levels) t) e u → Exact (Tier levels b 0 t) e u
+  no-dollar : (levels : ℕ) (b : Bool) (t : Token) (e : Expression) (u : Token) → is dollar t ≡ false → Exact (levels + t .start) (primary-of edition s (inside edition s levels) t) e u → Exact (levels + t .start) (Tier levels b 0 t) e u
   unfolding tier fieldForm
-  no-dollar levels b t e u q h = subst (λ (r : Read Expression). Exact r e u) (sym (rw q)) h
+  no-dollar levels b t e u q h = subst (λ (r : Read Expression). Exact (levels + t .start) r e u) (sym (rw q)) h
 
   -- ---- primaries
 
@@ -616,20 +637,20 @@ module _ (edition : ℕ) (s : List ℕ) where
       (λ d. by-test (λ (r : Read Expression). r ≡ ok (leaf edition s (t .kind) t) (tokenAfter edition s t)) (isOneOf names t) _ _ (λ f. rw (a, c, d)) (λ f. absurd (clash (sym q ∙ rw (a, c, d, f)))))))
 
   -- a whole expression in parentheses, at its `(`
-  closed-case : (levels : ℕ) (l : List Kind) (o v : Token) (ts : List Token) (u : Token) (x : Expression) → Follow o v → StartsAll l → Span (l ++ (close-paren ∷ [])) v ts u
-      → ((m : ℕ) (w : Token) → Span l v (first l ts) w → among quiet (w .kind) ≡ true → Exact (Tier m false 10 v) x w)
-      → Exact (closed edition s (inside edition s levels false 10 o (operandAfter edition s o))) x u
+  closed-case : (levels : ℕ) (l : List Kind) (o v : Token) (ts : List Token) (u : Token) (x : Expression) → Follow o v → o .start < v .start → StartsAll l → Span (l ++ (close-paren ∷ [])) v ts u
+      → ((m : ℕ) (w : Token) → Span l v (first l ts) w → among quiet (w .kind) ≡ true → Exact (m + v .start) (Tier m false 10 v) x w)
+      → Exact (levels + o .start) (closed edition s (inside edition s levels false 10 o (operandAfter edition s o))) x u
   unfolding closed among rank
-  closed-case levels l o v ts u x f st p h =
+  closed-case levels l o v ts u x f on st p h =
       let i = pieces l close-paren [] v ts u refl refl p in
       let w : Token = i .middle in
       let begins = st v (first l ts) w (i .left .kinds) (i .left .trail) in
       let own : v ≡ operandAfter edition s o = operand-next o v f (begins .0) in
       let last : Follow w u = subst (Follow w) (ended (tail (rest l ts)) (i .next) u (i .right .kinds) (i .right .trail)) (i .follow) in
       let after-w : u ≡ tokenAfter edition s w = raw-next w u last (p .raw) in
-      let a : Exact (inside edition s levels false 10 o (operandAfter edition s o)) x w =
-      subst (λ (j : Token). Exact (inside edition s levels false 10 o j) x w) own (inner-exact levels false 10 o v x w (λ m. h m w (i .left) (ap (among quiet) (i .kind)))) in
-      ⊎-elim (λ d. inl (d .0, ap (closed edition s) (d .1)))
+      let a : Exact (levels + o .start) (inside edition s levels false 10 o (operandAfter edition s o)) x w =
+      subst (λ (j : Token). Exact (levels + o .start) (inside edition s levels false 10 o j) x w) own (inner-exact levels false 10 o v x w on (p .good) (λ m. h m w (i .left) (ap (among quiet) (i .kind)))) in
+      ⊎-elim (λ d. inl (d .0, ap (closed edition s) (d .1), d .2))
       (λ e. inr (ap (closed edition s) e ∙ (close-run x w (ap (λ (j : Kind). same j close-paren) (i .kind)) ∙ ap (λ (j : Token). ok x j) (sym after-w)))) a
     where
       close-run : (x : Expression) (w : Token) → is close-paren w ≡ true → closed edition s (ok x w) ≡ ok x (tokenAfter edition s w)
@@ -711,30 +732,30 @@ module _ (edition : ℕ) (s : List ℕ) where
 
   abbrev ArgumentsSay : ℕ → Token → (l : List Shape) → Call l → Token → List Kind → List Token → Expression → Type 0
   ArgumentsSay levels o [] f t l ts e = Unit
-  ArgumentsSay levels o (x ∷ xs) f t l ts e = (w : Token) → Span l t (first l ts) w → w .kind ≡ close-paren
-      → Exact (argument-of edition s (inside edition s levels) o x xs f t (arguments-of edition s (inside edition s levels) o false xs)) e w
+  ArgumentsSay levels o (x ∷ xs) f t l ts e = (w : Token) → Span l t (first l ts) w → w .kind ≡ close-paren → o .start < t .start
+      → Exact (levels + o .start) (argument-of edition s (inside edition s levels) o x xs f t (arguments-of edition s (inside edition s levels) o false xs)) e w
 
-  called-exact : (levels : ℕ) (xs : List Shape) (f : Call xs) (o v : Token) (l : List Kind) (ts : List Token) (u : Token) (e : Expression) → NonEmpty xs → Follow o v
+  called-exact : (levels : ℕ) (xs : List Shape) (f : Call xs) (o v : Token) (l : List Kind) (ts : List Token) (u : Token) (e : Expression) → NonEmpty xs → Follow o v → o .start < v .start
       → StartsAll l → Span (l ++ (close-paren ∷ [])) v ts u → ArgumentsSay levels o xs f v l ts e
-      → Exact (closed edition s (arguments-of edition s (inside edition s levels) o true xs f o)) e u
+      → Exact (levels + o .start) (closed edition s (arguments-of edition s (inside edition s levels) o true xs f o)) e u
   unfolding among rank
-  called-exact levels [] f o v l ts u e z fo st p h = absurd z
-  called-exact levels (x ∷ xs) f o v l ts u e z fo st p h =
+  called-exact levels [] f o v l ts u e z fo on st p h = absurd z
+  called-exact levels (x ∷ xs) f o v l ts u e z fo on st p h =
       let i = pieces l close-paren [] v ts u refl refl p in
       let w : Token = i .middle in
       let begins = st v (first l ts) w (i .left .kinds) (i .left .trail) in
       let own : v ≡ operandAfter edition s o = operand-next o v fo (begins .0) in
       let last : Follow w u = subst (Follow w) (ended (tail (rest l ts)) (i .next) u (i .right .kinds) (i .right .trail)) (i .follow) in
       let after-w : u ≡ tokenAfter edition s w = raw-next w u last (p .raw) in
-      let a : Exact (arguments-of edition s (inside edition s levels) o true (x ∷ xs) f o) e w =
-      subst (λ (r : Read Expression). Exact r e w) (sym (opened-run levels x xs f o))
-      (subst (λ (j : Token). Exact (argument-of edition s (inside edition s levels) o x xs f j (arguments-of edition s (inside edition s levels) o false xs)) e w) own (h w (i .left) (i .kind))) in
-      ⊎-elim (λ d. inl (d .0, ap (closed edition s) (d .1) ∙ close-deep (d .0)))
+      let a : Exact (levels + o .start) (arguments-of edition s (inside edition s levels) o true (x ∷ xs) f o) e w =
+      subst (λ (r : Read Expression). Exact (levels + o .start) r e w) (sym (opened-run levels x xs f o))
+      (subst (λ (j : Token). Exact (levels + o .start) (argument-of edition s (inside edition s levels) o x xs f j (arguments-of edition s (inside edition s levels) o false xs)) e w) own (h w (i .left) (i .kind) on)) in
+      ⊎-elim (λ d. inl (d .0, ap (closed edition s) (d .1) ∙ close-deep (d .0), d .2))
       (λ q. inr (ap (closed edition s) q ∙ (close-run e w (ap (λ (j : Kind). same j close-paren) (i .kind)) ∙ ap (λ (j : Token). ok e j) (sym after-w)))) a
 
   call-case : (levels : ℕ) (k : Kind) (f : Function) (l : List Kind) (t : Token) (ts : List Token) (u : Token) (e : Expression) → functionOf edition k ≡ some f → StartsAll l
       → Span (k ∷ open-paren ∷ (l ++ (close-paren ∷ []))) t ts u
-      → ((o v : Token) → ArgumentsSay levels o (f .shapes) (f .tree) v l (tail (tail ts)) e) → Exact (primary-of edition s (inside edition s levels) t) e u
+      → ((o v : Token) → ArgumentsSay levels o (f .shapes) (f .tree) v l (tail (tail ts)) e) → Exact (levels + t .start) (primary-of edition s (inside edition s levels) t) e u
   unfolding among rank
   call-case levels k f l t ts u e h st p say =
       let a = one-step k (open-paren ∷ (l ++ (close-paren ∷ []))) t ts u (p .kinds) (p .trail) in
@@ -743,26 +764,27 @@ module _ (edition : ℕ) (s : List ℕ) where
       let go : InText edition s 0 o = next-in t o (a .follow) (p .good) in
       let own : o ≡ tokenAfter edition s t = raw-next t o (a .follow) (ap (among (ERE ∷ bad ∷ bad-ere ∷ [])) (b .kind)) in
       let found : functionOf edition (t .kind) ≡ some f = ap (functionOf edition) (a .kind) ∙ h in
-      let r = called-exact levels (f .shapes) (f .tree) o (b .next) l (tail (tail ts)) u e (has-shapes edition k f h) (b .follow) st
+      let r = called-exact levels (f .shapes) (f .tree) o (b .next) l (tail (tail ts)) u e (has-shapes edition k f h) (b .follow) (next-on o (b .next) (b .follow) go (ap (λ (j : Kind). same j text-end) (b .kind))) st
       (record { good = next-in o (b .next) (b .follow) go; kinds = b .kinds; trail = b .trail; raw = p .raw }) (say o (b .next)) in
-      subst (λ (m : Read Expression). Exact m e u)
-      (sym (call-run levels t f found ∙ (ap (call-of edition s (inside edition s levels) f) (sym own) ∙ paren-run levels f o (ap (λ (j : Kind). same j open-paren) (b .kind))))) r
+      subst (λ (m : Read Expression). Exact (levels + t .start) m e u)
+      (sym (call-run levels t f found ∙ (ap (call-of edition s (inside edition s levels) f) (sym own) ∙ paren-run levels f o (ap (λ (j : Kind). same j open-paren) (b .kind)))))
+      (weaker (levels + t .start) (levels + o .start) (closed edition s (arguments-of edition s (inside edition s levels) o true (f .shapes) (f .tree) o)) e u (omega (arith, next-le t o (a .follow) (p .good))) r)
 
   -- ---- arguments
 
   abbrev ArgumentSays : ℕ → Token → (x : Shape) → Said (argument x) → Token → Token → Type 0
-  ArgumentSays levels o an-expression a t w = Exact (inside edition s levels false 10 o t) a w
+  ArgumentSays levels o an-expression a t w = Exact (levels + o .start) (inside edition s levels false 10 o t) a w
   ArgumentSays levels o an-ere a t w = (t .kind ≡ ERE) × (w ≡ tokenAfter edition s t) × (a ≡ ereIn s t)
 
   -- an argument, and what is read after it
   argument-run : (levels : ℕ) (o : Token) (x : Shape) (xs : List Shape) (f : Call (x ∷ xs)) (t w : Token) (a : Said (argument x)) (rest-of : Call xs → Token → Read Expression) (e : Expression) (u : Token)
-      → ArgumentSays levels o x a t w → Exact (rest-of (applied x xs a f) w) e u → Exact (argument-of edition s (inside edition s levels) o x xs f t rest-of) e u
+      → ArgumentSays levels o x a t w → Exact (levels + o .start) (rest-of (applied x xs a f) w) e u → Exact (levels + o .start) (argument-of edition s (inside edition s levels) o x xs f t rest-of) e u
   unfolding argument-of rank
-  argument-run levels o an-expression xs f t w a rest-of e u (inl d) h = inl (d .0, ap (λ (r : Read Expression). bind r (λ e v. rest-of (f e) v)) (d .1))
+  argument-run levels o an-expression xs f t w a rest-of e u (inl d) h = inl (d .0, ap (λ (r : Read Expression). bind r (λ e v. rest-of (f e) v)) (d .1), d .2)
   argument-run levels o an-expression xs f t w a rest-of e u (inr q) h =
-      subst (λ (r : Read Expression). Exact r e u) (sym (ap (λ (r : Read Expression). bind r (λ e v. rest-of (f e) v)) q)) h
+      subst (λ (r : Read Expression). Exact (levels + o .start) r e u) (sym (ap (λ (r : Read Expression). bind r (λ e v. rest-of (f e) v)) q)) h
   argument-run levels o an-ere xs f t w a rest-of e u z h =
-      subst (λ (r : Read Expression). Exact r e u)
+      subst (λ (r : Read Expression). Exact (levels + o .start) r e u)
       (ap (λ (r : List ℕ). rest-of (f r) w) (z .2) ∙ (ap (rest-of (f (ereIn s t))) (z .1) ∙ sym (ere-run (ap (λ (j : Kind). same j ERE) (z .0))))) h
     where
       ere-run : is ERE t ≡ true → argument-of edition s (inside edition s levels) o an-ere xs f t rest-of ≡ rest-of (f (ereIn s t)) (tokenAfter edition s t)
@@ -779,12 +801,12 @@ module _ (edition : ℕ) (s : List ℕ) where
   comma-run levels o x xs f w q = rw q
 
   next-case : (levels : ℕ) (o : Token) (x y : Shape) (xs : List Shape) (f : Call (x ∷ y ∷ xs)) (l n r : List Kind) (t : Token) (ts : List Token) (u : Token) (a : Said (argument x)) (e : Expression)
-      → Newlines n → StartsAll r → Span (l ++ (comma ∷ (n ++ r))) t ts u → ((w : Token) → Span l t (first l ts) w → among quiet (w .kind) ≡ true → ArgumentSays levels o x a t w)
-      → ((v : Token) → Span r v (rest n (tail (rest l ts))) u
-      → Exact (argument-of edition s (inside edition s levels) o y xs (applied x (y ∷ xs) a f) v (arguments-of edition s (inside edition s levels) o false xs)) e u)
-      → Exact (argument-of edition s (inside edition s levels) o x (y ∷ xs) f t (arguments-of edition s (inside edition s levels) o false (y ∷ xs))) e u
+      → Newlines n → StartsAll r → Span (l ++ (comma ∷ (n ++ r))) t ts u → o .start < t .start → ((w : Token) → Span l t (first l ts) w → among quiet (w .kind) ≡ true → ArgumentSays levels o x a t w)
+      → ((v : Token) → Span r v (rest n (tail (rest l ts))) u → o .start < v .start
+      → Exact (levels + o .start) (argument-of edition s (inside edition s levels) o y xs (applied x (y ∷ xs) a f) v (arguments-of edition s (inside edition s levels) o false xs)) e u)
+      → Exact (levels + o .start) (argument-of edition s (inside edition s levels) o x (y ∷ xs) f t (arguments-of edition s (inside edition s levels) o false (y ∷ xs))) e u
   unfolding among rank
-  next-case levels o x y xs f l n r t ts u a e nl st p left right =
+  next-case levels o x y xs f l n r t ts u a e nl st p on left right =
       let i = pieces l comma (n ++ r) t ts u refl refl p in
       let w : Token = i .middle in
       let c = cut n r (i .next) (tail (rest l ts)) u (i .right .kinds) (i .right .trail) in
@@ -794,11 +816,12 @@ module _ (edition : ℕ) (s : List ℕ) where
       let no-end : same (w .kind) text-end ≡ false = ap (λ (j : Kind). same j text-end) (i .kind) in
       let own : pastNewlines edition s (tokenAfter edition s w) ≡ v =
       lines-trail n nl (length s) w (i .next) (first n (tail (rest l ts))) v (i .good) no-end (omega arith) (i .follow) (c .left-kinds) (c .left) (begins .1) (begins .0) in
+      let far : i .next .start ≤ v .start = trail-on (i .next) (first n (tail (rest l ts))) v (i .right .good) (c .left) in
       let g : Call (y ∷ xs) = applied x (y ∷ xs) a f in
       argument-run levels o x (y ∷ xs) f t w a (arguments-of edition s (inside edition s levels) o false (y ∷ xs)) e u (left w (i .left) (ap (among quiet) (i .kind)))
-      (subst (λ (m : Read Expression). Exact m e u)
+      (subst (λ (m : Read Expression). Exact (levels + o .start) m e u)
       (sym (comma-run levels o y xs g w (ap (λ (j : Kind). same j comma) (i .kind)) ∙ ap (λ (j : Token). argument-of edition s (inside edition s levels) o y xs g j (arguments-of edition s (inside edition s levels) o false xs)) own))
-      (right v (record { good = gv; kinds = c .right-kinds; trail = c .right; raw = p .raw })))
+      (right v (record { good = gv; kinds = c .right-kinds; trail = c .right; raw = p .raw }) (omega (arith, on, i .begin, i .over, far))))
 
   -- ---- assignments
 
@@ -815,27 +838,28 @@ module _ (edition : ℕ) (s : List ℕ) where
   unfolding assignment
   unassigned-run levels b e u q = rw q
 
-  ten-up : (levels : ℕ) (b : Bool) (t : Token) (e : Expression) (u : Token) → is assign-kind u ≡ false → Exact (Tier levels b 9 t) e u → Exact (Tier levels b 10 t) e u
+  ten-up : (levels : ℕ) (b : Bool) (t : Token) (e : Expression) (u : Token) → is assign-kind u ≡ false → Exact (levels + t .start) (Tier levels b 9 t) e u → Exact (levels + t .start) (Tier levels b 10 t) e u
   unfolding tier stepTier
-  ten-up levels b t e u h (inl d) = inl (d .0, ap (assignment edition s (inside edition s levels) b) (d .1) ∙ assigned-deep levels b (d .0))
+  ten-up levels b t e u h (inl d) = inl (d .0, ap (assignment edition s (inside edition s levels) b) (d .1) ∙ assigned-deep levels b (d .0), d .2)
   ten-up levels b t e u h (inr q) = inr (ap (assignment edition s (inside edition s levels) b) q ∙ unassigned-run levels b e u h)
 
   -- a left side, `=`, and the right side
   assign-case : (levels : ℕ) (b : Bool) (e : Expression) (f : Expression → Expression) (t w v : Token) (r : List Kind) (ts : List Token) (u : Token) (y : Expression) → assignTo edition e ≡ some f
-      → isOneOf prefixes t ≡ false → w .kind ≡ assign-kind → Follow w v → StartsAll r → Span r v ts u → Exact (Tier levels b 0 t) e w → ((m : ℕ) → Exact (Tier m b 10 v) y u)
-      → Exact (Tier levels b 10 t) (f y) u
+      → isOneOf prefixes t ≡ false → w .kind ≡ assign-kind → Follow w v → t .start ≤ w .start → w .start < v .start → StartsAll r → Span r v ts u → Exact (levels + t .start) (Tier levels b 0 t) e w → ((m : ℕ) → Exact (m + v .start) (Tier m b 10 v) y u)
+      → Exact (levels + t .start) (Tier levels b 10 t) (f y) u
   unfolding tier stepTier among rank
-  assign-case levels b e f t w v r ts u y a np k fo st p left right =
+  assign-case levels b e f t w v r ts u y a np k fo le on st p left right =
       let begins = st v ts u (p .kinds) (p .trail) in
       let own : v ≡ operandAfter edition s w = operand-next w v fo (begins .0) in
       let zero-tier : tierOf edition b (w .kind) ≡ 0 = ap (tierOf edition b) k ∙ tier-other edition b assign-kind refl in
       let nine = nine-of levels b t e w zero-tier (ap (among (tilde ∷ no-match-kind ∷ [])) k) np left in
-      let i : Exact (inside edition s levels b 10 w (operandAfter edition s w)) y u =
-      subst (λ (j : Token). Exact (inside edition s levels b 10 w j) y u) own (inner-exact levels b 10 w v y u right) in
-      ⊎-elim (λ d. inl (d .0, ap (assignment edition s (inside edition s levels) b) (d .1) ∙ assigned-deep levels b (d .0)))
-      (λ q. subst (λ (m : Read Expression). Exact m (f y) u)
+      let i : Exact (levels + w .start) (inside edition s levels b 10 w (operandAfter edition s w)) y u =
+      subst (λ (j : Token). Exact (levels + w .start) (inside edition s levels b 10 w j) y u) own (inner-exact levels b 10 w v y u on (p .good) right) in
+      ⊎-elim (λ d. inl (d .0, ap (assignment edition s (inside edition s levels) b) (d .1) ∙ assigned-deep levels b (d .0), d .2))
+      (λ q. subst (λ (m : Read Expression). Exact (levels + t .start) m (f y) u)
       (sym (ap (assignment edition s (inside edition s levels) b) q ∙ assigned-run levels b e w f (ap (λ (j : Kind). same j assign-kind) k) a))
-      (exact-map f (inside edition s levels b 10 w (operandAfter edition s w)) y u i)) nine
+      (weaker (levels + t .start) (levels + w .start) (map f (inside edition s levels b 10 w (operandAfter edition s w))) (f y) u (omega (arith, le))
+      (exact-map f (levels + w .start) (inside edition s levels b 10 w (operandAfter edition s w)) y u i))) nine
 
   name-target : (k : Kind) (v : List ℕ) → wordKind edition v ≡ k → among targets k ≡ true → assignTo edition (variable v) ≡ some (assign v)
   unfolding assignTo among rank
@@ -926,14 +950,14 @@ module _ (edition : ℕ) (s : List ℕ) where
           no-operand edition plain pattern k (z .0) (no-function edition k (z .1))
 
   say-argument : (x : Shape) (l : List Kind) (d : Form edition (argument x) l) → Spoken (argument x) l d → (levels : ℕ) (o t : Token) (ts : List Token) (w : Token) → Span l t ts w
-      → among quiet (w .kind) ≡ true → ArgumentSays levels o x (said edition s d ts) t w
-  say-argument an-expression l d h levels o t ts w p q = h levels o t ts w p q
-  say-argument an-ere l d h levels o t ts w p q = h t ts w p
+      → among quiet (w .kind) ≡ true → o .start < t .start → ArgumentSays levels o x (said edition s d ts) t w
+  say-argument an-expression l d h levels o t ts w p q on = h levels o t ts w p q on
+  say-argument an-ere l d h levels o t ts w p q on = h t ts w p
 
   say-arguments : (xs : List Shape) (f : Call xs) (l : List Kind) (d : Form edition (arguments xs) l) → Spoken (arguments xs) l d → (levels : ℕ) (o v : Token) (ts : List Token)
       → ArgumentsSay levels o xs f v l ts (said edition s d (first l ts) f)
   say-arguments [] f l d h levels o v ts = tt
-  say-arguments (x ∷ xs) f l d h levels o v ts = λ w p k. h levels o f v (first l ts) w p k
+  say-arguments (x ∷ xs) f l d h levels o v ts = λ w p k on. h levels o f v (first l ts) w p k on
 
   pub spoken : {part : Part} {l : List Kind} (d : Form edition part l) → Spoken part l d
   unfolding said assignTo rightOf leaf among rank
@@ -946,27 +970,28 @@ module _ (edition : ℕ) (s : List ℕ) where
       let target : among targets (t .kind) ≡ true = ap (among targets) (a .kind) ∙ one-of o in
       let name : isOneOf names t ≡ true = each (λ k. among names k ≡ true) targets (refl, (refl, tt)) (t .kind) target in
       let is-leaf : leaf edition s (t .kind) t ≡ variable (spelling s t) = each (λ k. leaf edition s k t ≡ variable (spelling s t)) targets (refl, (refl, tt)) (t .kind) target in
-      let left : Exact (Tier levels b 0 t) (variable (spelling s t)) w =
+      let left : Exact (levels + t .start) (Tier levels b 0 t) (variable (spelling s t)) w =
       no-dollar levels b t (variable (spelling s t)) w (each (λ k. same k dollar ≡ false) targets (refl, (refl, tt)) (t .kind) target)
       (inr (token-run levels t (each (λ k. among (NUMBER ∷ STRING ∷ ERE ∷ names) k ≡ true) targets (refl, (refl, tt)) (t .kind) target)
       ∙ (ap (λ (x : Expression). ok x (tokenAfter edition s t)) is-leaf ∙ ap (λ (j : Token). ok (variable (spelling s t)) j) (sym after-t)))) in
       let y : Expression = said edition s e (tail (tail ts)) in
       let right : Span r (c .next) (tail (tail ts)) u = record { good = next-in w (c .next) (c .follow) gw; kinds = c .kinds; trail = c .trail; raw = sp .raw } in
-      subst (λ (j : Token). Exact (Tier levels b 10 t) (assign (spelling s j) y) u) (sym (a .here))
+      subst (λ (j : Token). Exact (levels + t .start) (Tier levels b 10 t) (assign (spelling s j) y) u) (sym (a .here))
       (assign-case levels b (variable (spelling s t)) (assign (spelling s t)) t w (c .next) r (tail (tail ts)) u y
       (name-target (t .kind) (spelling s t) (named edition s t (sp .good) name) target) (each (λ k. among prefixes k ≡ false) targets (refl, (refl, tt)) (t .kind) target)
-      (c .kind) (c .follow) (all-start r (starts-expression p r e)) right left (λ m. spoken e m b (c .next) (tail (tail ts)) u at right q))
+      (c .kind) (c .follow) (next-le t w (a .follow) (sp .good)) (next-on w (c .next) (c .follow) gw (ap (λ (j : Kind). same j text-end) (c .kind))) (all-start r (starts-expression p r e)) right left (λ m. spoken e m b (c .next) (tail (tail ts)) u at right q))
   spoken (to-field {p = p} {l = l} {r = r} f e) = λ levels b t ts u at sp q.
       let a = one-step dollar (l ++ (assign-kind ∷ r)) t ts u (sp .kinds) (sp .trail) in
       let v : Token = a .next in
       let gv : InText edition s 0 v = next-in t v (a .follow) (sp .good) in
       let i = pieces l assign-kind r v (tail ts) u refl refl (record { good = gv; kinds = a .kinds; trail = a .trail; raw = sp .raw }) in
       let w : Token = i .middle in
+      let on : t .start < v .start = next-on t v (a .follow) (sp .good) (ap (λ (j : Kind). same j text-end) (a .kind)) in
       let x : Expression = said edition s f (first l (tail ts)) in
-      let left : Exact (Tier levels b 0 t) (field x) w =
-      dollar-case levels b l t v (first l (tail ts)) w x (a .kind) (a .follow) (all-start l (starts-prefixed l (no-prefix f))) (i .left) (λ m. spoken f m false v (first l (tail ts)) w (i .left)) in
+      let left : Exact (levels + t .start) (Tier levels b 0 t) (field x) w =
+      dollar-case levels b l t v (first l (tail ts)) w x (a .kind) (a .follow) on (all-start l (starts-prefixed l (no-prefix f))) (i .left) (λ m. spoken f m false v (first l (tail ts)) w (i .left)) in
       assign-case levels b (field x) (assign-field x) t w (i .next) r (tail (rest l (tail ts))) u (said edition s e (tail (rest l (tail ts)))) refl
-      (ap (among prefixes) (a .kind)) (i .kind) (i .follow) (all-start r (starts-expression p r e)) (i .right) left (λ m. spoken e m b (i .next) (tail (rest l (tail ts))) u at (i .right) q)
+      (ap (among prefixes) (a .kind)) (i .kind) (i .follow) (omega (arith, on, i .begin)) (i .over) (all-start r (starts-expression p r e)) (i .right) left (λ m. spoken e m b (i .next) (tail (rest l (tail ts))) u at (i .right) q)
   spoken (value-form d) = λ levels b t ts u at sp q.
       let z = quiet-plain (u .kind) q in
       ten-up levels b t (said edition s d ts) u (z .1) (nine-up levels b t (said edition s d ts) u (quiet-halt b 9 (u .kind) q)
@@ -1024,7 +1049,8 @@ module _ (edition : ℕ) (s : List ℕ) where
   spoken (of-field {l = l} d) = λ levels b t ts u sp.
       let a = one-step dollar l t ts u (sp .kinds) (sp .trail) in
       let pv : Span l (a .next) (tail ts) u = record { good = next-in t (a .next) (a .follow) (sp .good); kinds = a .kinds; trail = a .trail; raw = sp .raw } in
-      dollar-case levels b l t (a .next) (tail ts) u (said edition s d (tail ts)) (a .kind) (a .follow) (all-start l (starts-prefixed l (no-prefix d))) pv (λ m. spoken d m false (a .next) (tail ts) u pv)
+      dollar-case levels b l t (a .next) (tail ts) u (said edition s d (tail ts)) (a .kind) (a .follow)
+      (next-on t (a .next) (a .follow) (sp .good) (ap (λ (j : Kind). same j text-end) (a .kind))) (all-start l (starts-prefixed l (no-prefix d))) pv (λ m. spoken d m false (a .next) (tail ts) u pv)
   spoken (no-field {l = l} d) = λ levels b t ts u sp.
       let z = primary-first l d in
       no-dollar levels b t (said edition s d ts) u (ap (λ (j : Kind). same j dollar) (first-of l t ts u (sp .kinds) (sp .trail) (z .0)) ∙ z .1) (spoken d levels t ts u sp)
@@ -1039,20 +1065,21 @@ module _ (edition : ℕ) (s : List ℕ) where
       let pv : Span (l ++ (close-paren ∷ [])) (a .next) (tail ts) u = record { good = next-in t (a .next) (a .follow) (sp .good); kinds = a .kinds; trail = a .trail; raw = sp .raw } in
       let x : Expression = said edition s d (first l (tail ts)) in
       let r : Read Expression = closed edition s (inside edition s levels false 10 t (operandAfter edition s t)) in
-      subst (λ (m : Read Expression). Exact m (parentheses-tree x) u) (sym (group-run levels t (a .kind)))
-      (exact-map parentheses-tree r x u (closed-case levels l t (a .next) (tail ts) u x (a .follow) (all-start l (starts-expression elsewhere l d)) pv
+      subst (λ (m : Read Expression). Exact (levels + t .start) m (parentheses-tree x) u) (sym (group-run levels t (a .kind)))
+      (exact-map parentheses-tree (levels + t .start) r x u (closed-case levels l t (a .next) (tail ts) u x (a .follow)
+      (next-on t (a .next) (a .follow) (sp .good) (ap (λ (j : Kind). same j text-end) (a .kind))) (all-start l (starts-expression elsewhere l d)) pv
       (λ m w i q. spoken d m false (a .next) (first l (tail ts)) w refl i q)))
   spoken (call-form {k = k} {f = f} {l = l} h d) = λ levels t ts u sp.
       call-case levels k f l t ts u (said edition s d (first l (tail (tail ts))) (f .tree)) h (all-start l (starts-arguments (f .shapes) l d)) sp
       (λ o v. say-arguments (f .shapes) (f .tree) l d (spoken d) levels o v (tail (tail ts)))
-  spoken (last-argument {x = x} {l = l} d) = λ levels o f t ts u sp k.
+  spoken (last-argument {x = x} {l = l} d) = λ levels o f t ts u sp k on.
       argument-run levels o x [] f t u (said edition s d ts) (arguments-of edition s (inside edition s levels) o false []) (applied x [] (said edition s d ts) f) u
-      (say-argument x l d (spoken d) levels o t ts u sp (ap (among quiet) k)) (inr (ended-run levels o (applied x [] (said edition s d ts) f) u))
-  spoken (next-argument {x = x} {y = y} {xs = xs} {l = l} {n = n} {r = r} d h e) = λ levels o f t ts u sp k.
-      next-case levels o x y xs f l n r t ts u (said edition s d (first l ts)) _ h (all-start r (starts-arguments (y ∷ xs) r e)) sp
-      (λ w i q. say-argument x l d (spoken d) levels o t (first l ts) w i q)
-      (λ v i. spoken e levels o (applied x (y ∷ xs) (said edition s d (first l ts)) f) v (rest n (tail (rest l ts))) u i k)
-  spoken (expression-argument d) = λ levels o t ts u sp q. inner-exact levels false 10 o t (said edition s d ts) u (λ m. spoken d m false t ts u refl sp q)
+      (say-argument x l d (spoken d) levels o t ts u sp (ap (among quiet) k) on) (inr (ended-run levels o (applied x [] (said edition s d ts) f) u))
+  spoken (next-argument {x = x} {y = y} {xs = xs} {l = l} {n = n} {r = r} d h e) = λ levels o f t ts u sp k on.
+      next-case levels o x y xs f l n r t ts u (said edition s d (first l ts)) _ h (all-start r (starts-arguments (y ∷ xs) r e)) sp on
+      (λ w i q. say-argument x l d (spoken d) levels o t (first l ts) w i q on)
+      (λ v i z. spoken e levels o (applied x (y ∷ xs) (said edition s d (first l ts)) f) v (rest n (tail (rest l ts))) u i k z)
+  spoken (expression-argument d) = λ levels o t ts u sp q on. inner-exact levels false 10 o t (said edition s d ts) u on (sp .good) (λ m. spoken d m false t ts u refl sp q)
   spoken ere-form = λ t ts u sp.
       let a = one-step ERE [] t ts u (sp .kinds) (sp .trail) in
       let last : Follow t u = subst (Follow t) (ended (tail ts) (a .next) u (a .kinds) (a .trail)) (a .follow) in

@@ -27,9 +27,9 @@ use Rattle.program_exact.proofs.Walks.{after-in, operand-test}
 use Rattle.program_exact.proofs.Bodies.{fuelled}
 use Rattle.program_exact.proofs.Sayings.{firstKind, Follow, Reread, raw-again, operand-again, raw-next, operand-next, spoken}
 use Rattle.program_says.specs.Trees.{saidList, Saying, saidParts, saidStatement, saidBlock, saidStatements}
-use Rattle.program_says.proofs.Stretches.{Says, says-map, Stretch, reread-on, spans, split, step, no-more, last-in, first-is, longer, else-stops, else-leads, isEnded}
+use Rattle.program_says.proofs.Stretches.{Says, says-map, says-less, Stretch, reread-on, spans, split, step, no-more, last-in, first-is, longer, else-stops, else-leads, isEnded}
 use Rattle.program_says.proofs.Openings.{closers, open-facts, opening, never-first, list-starts, ended-said, else-ended, list-none}
-use Rattle.program_says.proofs.Parts.{stop-facts, After, Answers, answered, answers-map, sooner, bound, list-first, list-says, condition-says, bodyOf, chosen, statement-run, body-at, then-alone, then-else}
+use Rattle.program_says.proofs.Parts.{stop-facts, After, Answers, answered, answers-map, bound, list-first, list-says, condition-says, bodyOf, chosen, statement-run, body-at, then-alone, then-else}
 
 module _ (edition : ℕ) (s : List ℕ) where
   -- ---- what is shown
@@ -50,20 +50,20 @@ module _ (edition : ℕ) (s : List ℕ) where
 
   abbrev StatementSays : Bool → End → Else → List Kind → Saying edition s → Type 0
   StatementSays inMain e o l x = (levels : ℕ) (t : Token) (ts : List Token) (u : Token) → Stretch edition s l t ts u → Ends e u → Alone o e u
-      → Answers edition s e (statementAt edition s inMain levels t) (x ts) (t .start) u
+      → Answers edition s e (levels + t .start) (statementAt edition s inMain levels t) (x ts) (t .start) u
 
   abbrev BlockSays : Bool → List Kind → Saying edition s → Type 0
   BlockSays inMain l x = (levels : ℕ) (t : Token) (ts : List Token) (u : Token) → Stretch edition s l t ts u
-      → (t .kind ≡ open-brace) × (Answers edition s ended (blockOf edition s (statementAt edition s inMain levels) t) (x ts) (t .start) u)
+      → (t .kind ≡ open-brace) × (Answers edition s ended (suc levels + t .start) (blockOf edition s (statementAt edition s inMain levels) t) (x ts) (t .start) u)
 
   abbrev ListSays : Bool → List Kind → Saying edition s → Type 0
   ListSays inMain l x = (levels i : ℕ) (z t : Token) (ts : List Token) (u : Token) → InText edition s 0 z → Reread edition s z t → Stretch edition s l t ts u → u .kind ≡ close-brace
-      → suc (length s) ≤ i + z .start → Says (statements edition s (statementAt edition s inMain levels) i z) (x ts) (tokenAfter edition s u)
+      → suc (length s) ≤ i + z .start → Says s (levels + z .start) (statements edition s (statementAt edition s inMain levels) i z) (x ts) (tokenAfter edition s u)
 
   -- ---- statements that need an end
 
   one-says : (inMain : Bool) (levels : ℕ) (k : Kind) (a : StatementTree) (t : Token) (ts : List Token) (u : Token) → same k text-end ≡ false → chosen edition s inMain levels t k ≡ ok a (tokenAfter edition s t)
-      → Stretch edition s (k ∷ []) t ts u → among stops (u .kind) ≡ true → Answers edition s needs-end (statementAt edition s inMain levels t) a (t .start) u
+      → Stretch edition s (k ∷ []) t ts u → among stops (u .kind) ≡ true → Answers edition s needs-end (levels + t .start) (statementAt edition s inMain levels t) a (t .start) u
   one-says inMain levels k a t ts u n q w st =
       let b = step edition s k [] t ts u n w in
       let own : u ≡ tokenAfter edition s t = raw-next edition s t u (subst (Follow edition s t) (no-more edition s (b .next) (tail ts) u (b .others)) (b .follow)) (stop-facts (u .kind) st .0) in
@@ -92,23 +92,23 @@ module _ (edition : ℕ) (s : List ℕ) where
       rw (a1 .0, a2 .0, a3 .0, a4 .0, a5 .0, a6 .0, a7 .0)
 
   value-says : (inMain : Bool) (levels : ℕ) (l : List Kind) (d : Form edition (expression elsewhere) l) (t : Token) (ts : List Token) (u : Token) → Stretch edition s l t ts u → among stops (u .kind) ≡ true
-      → Answers edition s needs-end (statementAt edition s inMain levels t) (expression-tree (said edition s d ts)) (t .start) u
+      → Answers edition s needs-end (levels + t .start) (statementAt edition s inMain levels t) (expression-tree (said edition s d ts)) (t .start) u
   value-says inMain levels l d t ts u w st =
       let z = stop-facts (u .kind) st in
       let o = opening edition s {inMain = inMain} (value d) in
       let k : t .kind ≡ firstKind l = first-is edition s l t ts u w (o .begun .0) in
       let run = statement-run edition s inMain levels t (firstKind l) k ∙ value-chosen inMain levels t (firstKind l) (never-first edition s keywords keyword-pair l d) in
       let r : Read Expression = expressionAt edition s levels false t in
-      answered edition s (statementAt edition s inMain levels t) (expression-tree (said edition s d ts)) (t .start) u (last-in edition s l t ts u w) (longer edition s l t ts u w (o .begun .0) (open-facts (firstKind l) (o .begun .1) .2))
-      (subst (λ (m : Read StatementTree). Says m (expression-tree (said edition s d ts)) u) (sym run)
-      (says-map expression-tree r (said edition s d ts) u (spoken edition s d levels false t ts u refl (spans edition s l t ts u w (z .0)) (z .1))))
+      answered edition s (levels + t .start) (statementAt edition s inMain levels t) (expression-tree (said edition s d ts)) (t .start) u (last-in edition s l t ts u w) (longer edition s l t ts u w (o .begun .0) (open-facts (firstKind l) (o .begun .1) .2))
+      (subst (λ (m : Read StatementTree). Says s (levels + t .start) m (expression-tree (said edition s d ts)) u) (sym run)
+      (says-map s expression-tree (levels + t .start) r (said edition s d ts) u (spoken edition s d levels false t ts u refl (spans edition s l t ts u w (z .0)) (z .1))))
 
   next-chosen : (inMain : Bool) (levels : ℕ) (t : Token) → inMain ≡ true → chosen edition s inMain levels t NEXT ≡ ok next-tree (tokenAfter edition s t)
   unfolding rank
   next-chosen inMain levels t h = rw h
 
   empty-says : (inMain : Bool) (levels : ℕ) (t : Token) (ts : List Token) (u : Token) → Stretch edition s (semicolon ∷ []) t ts u
-      → Answers edition s ended (statementAt edition s inMain levels t) empty-tree (t .start) u
+      → Answers edition s ended (levels + t .start) (statementAt edition s inMain levels t) empty-tree (t .start) u
   unfolding rank
   empty-says inMain levels t ts u w =
       let b = step edition s semicolon [] t ts u refl w in
@@ -122,12 +122,14 @@ module _ (edition : ℕ) (s : List ℕ) where
 
   -- a block that is a statement
   nested-says : (inMain : Bool) (levels : ℕ) {l : List Kind} (d : Block edition inMain l) → BlockSays inMain l (saidBlock edition s d) → (t : Token) (ts : List Token) (u : Token) → Stretch edition s l t ts u
-      → Answers edition s ended (statementAt edition s inMain levels t) (saidBlock edition s d ts) (t .start) u
+      → Answers edition s ended (levels + t .start) (statementAt edition s inMain levels t) (saidBlock edition s d ts) (t .start) u
   unfolding rank
-  nested-says inMain zero d h t ts u w = inl (t .start, statement-run edition s inMain zero t open-brace (h zero t ts u w .0))
+  nested-says inMain zero d h t ts u w =
+      let k : t .kind ≡ open-brace = h zero t ts u w .0 in
+      inl (t .start, statement-run edition s inMain zero t open-brace k, omega (arith, w .good .longer (ap (λ (j : Kind). same j text-end) k), w .good .within))
   nested-says inMain (suc levels) d h t ts u w =
       let i = h levels t ts u w in
-      subst (λ (r : Read StatementTree). Answers edition s ended r (saidBlock edition s d ts) (t .start) u) (sym (statement-run edition s inMain (suc levels) t open-brace (i .0))) (i .1)
+      subst (λ (r : Read StatementTree). Answers edition s ended (suc levels + t .start) r (saidBlock edition s d ts) (t .start) u) (sym (statement-run edition s inMain (suc levels) t open-brace (i .0))) (i .1)
 
   print-ends : (levels : ℕ) (u : Token) → startsExpression edition (u .kind) ≡ false → printAt edition s levels u ≡ ok (print-tree []) u
   unfolding printAt
@@ -139,7 +141,7 @@ module _ (edition : ℕ) (s : List ℕ) where
   print-starts levels u q = rw q
 
   print-alone : (inMain : Bool) (levels : ℕ) (t : Token) (ts : List Token) (u : Token) → Stretch edition s (PRINT ∷ []) t ts u → among stops (u .kind) ≡ true
-      → Answers edition s needs-end (statementAt edition s inMain levels t) (print-tree []) (t .start) u
+      → Answers edition s needs-end (levels + t .start) (statementAt edition s inMain levels t) (print-tree []) (t .start) u
   unfolding rank
   print-alone inMain levels t ts u w st =
       let z = stop-facts (u .kind) st in
@@ -154,7 +156,7 @@ module _ (edition : ℕ) (s : List ℕ) where
       )
 
   print-says : (inMain : Bool) (levels : ℕ) (l : List Kind) (d : PrintList edition l) (t : Token) (ts : List Token) (u : Token) → Stretch edition s (PRINT ∷ l) t ts u → among stops (u .kind) ≡ true
-      → Answers edition s needs-end (statementAt edition s inMain levels t) (print-tree (saidList edition s d (tail ts))) (t .start) u
+      → Answers edition s needs-end (levels + t .start) (statementAt edition s inMain levels t) (print-tree (saidList edition s d (tail ts))) (t .start) u
   unfolding rank
   print-says inMain levels l d t ts u w st =
       let b = step edition s PRINT l t ts u refl w in
@@ -165,10 +167,11 @@ module _ (edition : ℕ) (s : List ℕ) where
       let run = statement-run edition s inMain levels t PRINT (b .kind)
       ∙ (ap (printAt edition s levels) (sym own) ∙ print-starts levels v (ap (startsExpression edition) k ∙ list-starts edition s l d)) in
       let tree : List Expression = saidList edition s d (tail ts) in
-      answered edition s (statementAt edition s inMain levels t) (print-tree tree) (t .start) u (last-in edition s (PRINT ∷ l) t ts u w) (longer edition s (PRINT ∷ l) t ts u w (λ z. z) refl)
-      (subst (λ (m : Read StatementTree). Says m (print-tree tree) u) (sym run)
-      (says-map print-tree (listed edition s levels (length s) (map (λ e. e ∷ []) (expressionAt edition s levels true v))) tree u
-      (list-says edition s levels l d (length s) [] v (tail ts) u (b .others) st (omega arith))))
+      answered edition s (levels + t .start) (statementAt edition s inMain levels t) (print-tree tree) (t .start) u (last-in edition s (PRINT ∷ l) t ts u w) (longer edition s (PRINT ∷ l) t ts u w (λ z. z) refl)
+      (subst (λ (m : Read StatementTree). Says s (levels + t .start) m (print-tree tree) u) (sym run)
+      (says-map s print-tree (levels + t .start) (listed edition s levels (length s) (map (λ e. e ∷ []) (expressionAt edition s levels true v))) tree u
+      (says-less s (levels + t .start) (levels + v .start) (listed edition s levels (length s) (map (λ e. e ∷ []) (expressionAt edition s levels true v))) tree u (omega (arith, b .onward))
+      (list-says edition s levels l d (length s) [] v (tail ts) u (b .others) st (omega arith)))))
 
   -- ---- `if`, `while`
 
@@ -201,19 +204,19 @@ module _ (edition : ℕ) (s : List ℕ) where
 
   -- a statement after newlines, read as a body
   module _ (inMain : Bool) (levels : ℕ) where
-    body-says : {e : End} {o : Else} {a : List Kind} (d : Statement edition inMain e o a) → StatementSays inMain e o a (saidStatement edition s d) → (n : List Kind) → Newlines n → (x v : Token)
-        (ns : List Token) (y : Token) (ts : List Token) (u : Token) → InText edition s 0 x → Reread edition s x v → Stretch edition s n v ns y → v .start ≤ y .start → Stretch edition s a y ts u
-        → Ends e u → Alone o e u → Answers edition s e (bodyAt edition s (bodyOf edition s inMain levels) x) (saidStatement edition s d ts) (x .start) u
-    body-says {e} {o} {a} d h n nl x v ns y ts u g w p on q en al =
+    body-says : {e : End} {o : Else} {a : List Kind} (d : Statement edition inMain e o a) → StatementSays inMain e o a (saidStatement edition s d) → (n : List Kind) → Newlines n → (p : ℕ) (x v : Token)
+        (ns : List Token) (y : Token) (ts : List Token) (u : Token) → p < x .start → InText edition s 0 x → Reread edition s x v → Stretch edition s n v ns y → v .start ≤ y .start
+        → Stretch edition s a y ts u → Ends e u → Alone o e u → Answers edition s e (levels + p) (bodyAt edition s (bodyOf edition s inMain levels) x) (saidStatement edition s d ts) p u
+    body-says {e} {o} {a} d h n nl p x v ns y ts u lt g w sp on q en al =
         let z = opening edition s d in
         let k : y .kind ≡ firstKind a = first-is edition s a y ts u q (z .begun .0) in
-        body-at edition s inMain e levels n x v ns y (saidStatement edition s d ts) u nl g w p on (ap (startsStatement edition inMain) k ∙ z .starts) (ap (among closers) k ∙ z .begun .1)
+        body-at edition s inMain e levels p n x v ns y (saidStatement edition s d ts) u nl lt g w sp on (ap (startsStatement edition inMain) k ∙ z .starts) (ap (among closers) k ∙ z .begun .1)
         (λ m. h m y ts u q en al)
 
     if-says : {e : End} {o : Else} {c n a : List Kind} (d : Form edition (expression elsewhere) c) (nl : Newlines n) (b : Statement edition inMain e o a)
         → StatementSays inMain e o a (saidStatement edition s b) → (t : Token) (ts : List Token) (u : Token)
         → Stretch edition s (IF ∷ open-paren ∷ (c ++ (close-paren ∷ (n ++ a)))) t ts u → Ends e u → Alone takes-else e u
-        → Answers edition s e (statementAt edition s inMain levels t) (saidStatement edition s {o = takes-else} (if d nl b) ts) (t .start) u
+        → Answers edition s e (levels + t .start) (statementAt edition s inMain levels t) (saidStatement edition s {o = takes-else} (if d nl b) ts) (t .start) u
     unfolding saidStatement saidParts rank
     if-says {e} {o} {c} {n} {a} d nl b h t ts u w en al =
         let p = step edition s IF (open-paren ∷ (c ++ (close-paren ∷ (n ++ a)))) t ts u refl w in
@@ -221,19 +224,19 @@ module _ (edition : ℕ) (s : List ℕ) where
         let q = split edition s n a (g .next) (tail (rest c (tail (tail ts)))) u (g .others) in
         let x : Token = tokenAfter edition s (g .close) in
         let body : Token → Read StatementTree = bodyOf edition s inMain levels in
-        let bs : List Token = rest n (tail (rest c (tail (tail ts)))) in
         let tree : Expression = said edition s d (first c (tail (tail ts))) in
-        let r = body-says b h n nl x (g .next) (first n (tail (rest c (tail (tail ts))))) (q .middle) bs u (g .good) (g .follow) (q .left) (q .onward) (q .right) en (alone-of o e u al) in
-        subst (λ (m : Read StatementTree). Answers edition s e m (if-tree tree (saidStatement edition s b bs)) (t .start) u)
+        let condition = says-less s (levels + t .start) (levels + p .next .start) (conditionAt edition s levels (p .next)) tree (tokenAfter edition s (g .close)) (omega (arith, p .onward)) (g .says) in
+        let bs : List Token = rest n (tail (rest c (tail (tail ts)))) in
+        let r = body-says b h n nl (t .start) x (g .next) (first n (tail (rest c (tail (tail ts))))) (q .middle) bs u (omega (arith, p .onward, g .onward)) (g .good) (g .follow) (q .left) (q .onward) (q .right) en (alone-of o e u al) in
+        subst (λ (m : Read StatementTree). Answers edition s e (levels + t .start) m (if-tree tree (saidStatement edition s b bs)) (t .start) u)
         (sym (if-run inMain levels t (p .next) (p .kind) (paren-next t (p .next) (p .follow) (g .opener))))
-        (bound edition s (conditionAt edition s levels (p .next)) (thenAt edition s body) tree x e (if-tree tree (saidStatement edition s b bs)) (t .start) u (g .says)
-        (then-alone edition s body e tree x (saidStatement edition s b bs) (t .start) u (ended-said edition s b bs) al
-        (sooner edition s e (bodyAt edition s body x) (saidStatement edition s b bs) (t .start) (x .start) u (omega (arith, p .onward, g .onward)) r)))
+        (bound edition s (levels + t .start) (conditionAt edition s levels (p .next)) (thenAt edition s body) tree x e (if-tree tree (saidStatement edition s b bs)) (t .start) u condition
+        (then-alone edition s body e tree x (saidStatement edition s b bs) (levels + t .start) (t .start) u (ended-said edition s b bs) al r))
 
     while-says : {e : End} {o : Else} {c n a : List Kind} (d : Form edition (expression elsewhere) c) (nl : Newlines n) (b : Statement edition inMain e o a)
         → StatementSays inMain e o a (saidStatement edition s b) → (t : Token) (ts : List Token) (u : Token)
         → Stretch edition s (WHILE ∷ open-paren ∷ (c ++ (close-paren ∷ (n ++ a)))) t ts u → Ends e u → Alone o e u
-        → Answers edition s e (statementAt edition s inMain levels t) (saidStatement edition s (while d nl b) ts) (t .start) u
+        → Answers edition s e (levels + t .start) (statementAt edition s inMain levels t) (saidStatement edition s (while d nl b) ts) (t .start) u
     unfolding saidStatement saidParts rank
     while-says {e} {o} {c} {n} {a} d nl b h t ts u w en al =
         let p = step edition s WHILE (open-paren ∷ (c ++ (close-paren ∷ (n ++ a)))) t ts u refl w in
@@ -241,19 +244,19 @@ module _ (edition : ℕ) (s : List ℕ) where
         let q = split edition s n a (g .next) (tail (rest c (tail (tail ts)))) u (g .others) in
         let x : Token = tokenAfter edition s (g .close) in
         let body : Token → Read StatementTree = bodyOf edition s inMain levels in
-        let bs : List Token = rest n (tail (rest c (tail (tail ts)))) in
         let tree : Expression = said edition s d (first c (tail (tail ts))) in
-        let r = body-says b h n nl x (g .next) (first n (tail (rest c (tail (tail ts))))) (q .middle) bs u (g .good) (g .follow) (q .left) (q .onward) (q .right) en al in
-        subst (λ (m : Read StatementTree). Answers edition s e m (while-tree tree (saidStatement edition s b bs)) (t .start) u)
+        let condition = says-less s (levels + t .start) (levels + p .next .start) (conditionAt edition s levels (p .next)) tree (tokenAfter edition s (g .close)) (omega (arith, p .onward)) (g .says) in
+        let bs : List Token = rest n (tail (rest c (tail (tail ts)))) in
+        let r = body-says b h n nl (t .start) x (g .next) (first n (tail (rest c (tail (tail ts))))) (q .middle) bs u (omega (arith, p .onward, g .onward)) (g .good) (g .follow) (q .left) (q .onward) (q .right) en al in
+        subst (λ (m : Read StatementTree). Answers edition s e (levels + t .start) m (while-tree tree (saidStatement edition s b bs)) (t .start) u)
         (sym (while-run inMain levels t (p .next) (p .kind) (paren-next t (p .next) (p .follow) (g .opener))))
-        (bound edition s (conditionAt edition s levels (p .next)) (λ c x. map (while-tree c) (bodyAt edition s body x)) tree x e (while-tree tree (saidStatement edition s b bs)) (t .start) u (g .says)
-        (answers-map edition s (while-tree tree) e (bodyAt edition s body x) (saidStatement edition s b bs) (t .start) u
-        (sooner edition s e (bodyAt edition s body x) (saidStatement edition s b bs) (t .start) (x .start) u (omega (arith, p .onward, g .onward)) r)))
+        (bound edition s (levels + t .start) (conditionAt edition s levels (p .next)) (λ c x. map (while-tree c) (bodyAt edition s body x)) tree x e (while-tree tree (saidStatement edition s b bs)) (t .start) u condition
+        (answers-map edition s (while-tree tree) e (levels + t .start) (bodyAt edition s body x) (saidStatement edition s b bs) (t .start) u r))
 
     if-else-says : {e f : End} {o : Else} {c n a b m z : List Kind} (d : Form edition (expression elsewhere) c) (nl : Newlines n) (x : Statement edition inMain e whole a) (be : BeforeElse e b)
         (ml : Newlines m) (y : Statement edition inMain f o z) → StatementSays inMain e whole a (saidStatement edition s x) → StatementSays inMain f o z (saidStatement edition s y)
         → (t : Token) (ts : List Token) (u : Token) → Stretch edition s (IF ∷ open-paren ∷ (c ++ (close-paren ∷ (n ++ (a ++ (b ++ (ELSE ∷ (m ++ z)))))))) t ts u → Ends f u → Alone o f u
-        → Answers edition s f (statementAt edition s inMain levels t) (saidStatement edition s (if-else d nl x be ml y) ts) (t .start) u
+        → Answers edition s f (levels + t .start) (statementAt edition s inMain levels t) (saidStatement edition s (if-else d nl x be ml y) ts) (t .start) u
     unfolding saidStatement saidParts rank
     if-else-says {e} {f} {o} {c} {n} {a} {b} {m} {z} d nl x be ml y hx hy t ts u w en al =
         let last-part : List Kind = ELSE ∷ (m ++ z) in
@@ -272,18 +275,18 @@ module _ (edition : ℕ) (s : List ℕ) where
         let v2 : Token = tokenAfter edition s (j .middle) in
         let body : Token → Read StatementTree = bodyOf edition s inMain levels in
         let tree : Expression = said edition s d (first c (tail (tail ts))) in
+        let condition = says-less s (levels + t .start) (levels + p .next .start) (conditionAt edition s levels (p .next)) tree (tokenAfter edition s (g .close)) (omega (arith, p .onward)) (g .says) in
         let a-tree : StatementTree = saidStatement edition s x (first a bs) in
         let b-tree : StatementTree = saidStatement edition s y (rest m es) in
-        let r = body-says x hx n nl v (g .next) (first n ns) (q .middle) (first a bs) (i .middle) (g .good) (g .follow) (q .left) (q .onward) (i .left)
+        let r = body-says x hx n nl (t .start) v (g .next) (first n ns) (q .middle) (first a bs) (i .middle) (omega (arith, p .onward, g .onward)) (g .good) (g .follow) (q .left) (q .onward) (i .left)
         (before-ends e b be (i .middle) (first b (rest a bs)) (j .middle) (j .left)) tt in
-        let r2 = body-says y hy m ml v2 (k .next) (first m es) (l .middle) (rest m es) u (after-in edition s (j .middle) (j .right .good)) (k .follow) (l .left) (l .onward) (l .right) en al in
+        let r2 = body-says y hy m ml (t .start) v2 (k .next) (first m es) (l .middle) (rest m es) u
+        (omega (arith, p .onward, g .onward, reread-on edition s v (g .next) (g .good) (g .follow), q .onward, i .onward, j .onward, k .over)) (after-in edition s (j .middle) (j .right .good)) (k .follow) (l .left) (l .onward) (l .right) en al in
         let found = else-leads edition s e b be (length s) (i .middle) (first b (rest a bs)) (j .middle) (j .left) (k .kind) (omega arith) in
-        subst (λ (m : Read StatementTree). Answers edition s f m (if-else-tree tree a-tree b-tree) (t .start) u)
+        subst (λ (m : Read StatementTree). Answers edition s f (levels + t .start) m (if-else-tree tree a-tree b-tree) (t .start) u)
         (sym (if-run inMain levels t (p .next) (p .kind) (paren-next t (p .next) (p .follow) (g .opener))))
-        (bound edition s (conditionAt edition s levels (p .next)) (thenAt edition s body) tree v f (if-else-tree tree a-tree b-tree) (t .start) u (g .says)
-        (then-else edition s body e tree v a-tree (t .start) (i .middle) (ended-said edition s x (first a bs)) v2 f b-tree (v2 .start) u found
-        (omega (arith, p .onward, g .onward, reread-on edition s v (g .next) (g .good) (g .follow), q .onward, i .onward, j .onward, k .over))
-        (sooner edition s e (bodyAt edition s body v) a-tree (t .start) (v .start) (i .middle) (omega (arith, p .onward, g .onward)) r) r2))
+        (bound edition s (levels + t .start) (conditionAt edition s levels (p .next)) (thenAt edition s body) tree v f (if-else-tree tree a-tree b-tree) (t .start) u condition
+        (then-else edition s body e tree v a-tree (levels + t .start) (t .start) (i .middle) (ended-said edition s x (first a bs)) v2 f b-tree (levels + t .start) (t .start) u found (omega arith) (omega arith) r r2))
 
   -- ---- lists of statements
 
@@ -341,12 +344,12 @@ module _ (edition : ℕ) (s : List ℕ) where
     ListAt i z = statements edition s (statementAt edition s inMain levels) i z
 
     -- a statement and the list after it
-    then-list : (e : End) (i j : ℕ) (z t : Token) (a b : StatementTree) (u v : Token) → i ≡ suc j → Reread edition s z t → among closers (t .kind) ≡ false → Answers edition s e (statementAt edition s inMain levels t) a (t .start) u
-        → ((x : Token) → After edition s e x u → InText edition s 0 x → t .start < x .start → Says (followed edition s (ListAt j) (ok a x)) (sequence a b) v) → Says (ListAt i z) (sequence a b) v
-    then-list e i j z t a b u v c w h (inl q) k =
-        inl (q .0, ap (λ (m : ℕ). ListAt m z) c ∙ (more-run (statementAt edition s inMain levels) j z t w h ∙ (ap (followed edition s (ListAt j)) (q .1) ∙ followed-deep (ListAt j) (q .0))))
-    then-list e i j z t a b u v c w h (inr q) k =
-        subst (λ (r : Read StatementTree). Says r (sequence a b) v)
+    then-list : (e : End) (i j : ℕ) (z t : Token) (a b : StatementTree) (u v : Token) → i ≡ suc j → InText edition s 0 z → Reread edition s z t → among closers (t .kind) ≡ false → Answers edition s e (levels + t .start) (statementAt edition s inMain levels t) a (t .start) u
+        → ((x : Token) → After edition s e x u → InText edition s 0 x → t .start < x .start → Says s (levels + z .start) (followed edition s (ListAt j) (ok a x)) (sequence a b) v) → Says s (levels + z .start) (ListAt i z) (sequence a b) v
+    then-list e i j z t a b u v c g w h (inl q) k =
+        inl (q .0, ap (λ (m : ℕ). ListAt m z) c ∙ (more-run (statementAt edition s inMain levels) j z t w h ∙ (ap (followed edition s (ListAt j)) (q .1) ∙ followed-deep (ListAt j) (q .0))), omega (arith, reread-on edition s z t g w, q .2))
+    then-list e i j z t a b u v c g w h (inr q) k =
+        subst (λ (r : Read StatementTree). Says s (levels + z .start) r (sequence a b) v)
         (sym (ap (λ (m : ℕ). ListAt m z) c ∙ (more-run (statementAt edition s inMain levels) j z t w h ∙ ap (followed edition s (ListAt j)) (q .4)))) (k (q .0) (q .1) (q .2) (q .3))
 
   -- the first token of a statement in a list
@@ -375,9 +378,10 @@ module _ (edition : ℕ) (s : List ℕ) where
       let c = turns-left i z g f in
       let follow : Reread edition s (tokenAfter edition s z) (a .next) = subst (λ (y : Token). Follow edition s y (a .next)) own (a .follow) in
       let on : z .start < tokenAfter edition s z .start = subst (λ (y : Token). y .start < tokenAfter edition s y .start) own (a .over) in
-      subst (λ (r : Read StatementTree). Says r (b (tail ts)) (tokenAfter edition s u))
+      subst (λ (r : Read StatementTree). Says s (levels + z .start) r (b (tail ts)) (tokenAfter edition s u))
       (sym (ap (λ (m : ℕ). ListAt inMain levels m z) (c .1) ∙ line-run (statementAt edition s inMain levels) (c .0) z kind))
-      (h levels (c .0) (tokenAfter edition s z) (a .next) (tail ts) u (after-in edition s z g) follow (a .others) k (omega (arith, f, c .1, on)))
+      (says-less s (levels + z .start) (levels + tokenAfter edition s z .start) (ListAt inMain levels (c .0) (tokenAfter edition s z)) (b (tail ts)) (tokenAfter edition s u) (omega (arith, on))
+      (h levels (c .0) (tokenAfter edition s z) (a .next) (tail ts) u (after-in edition s z g) follow (a .others) k (omega (arith, f, c .1, on))))
 
   ended-says : (inMain : Bool) (o : Else) (a l : List Kind) (d : Statement edition inMain ended o a) (r : Statements edition inMain l) (b : Saying edition s) → StatementSays inMain ended o a (saidStatement edition s d)
       → ListSays inMain l b → ListSays inMain (a ++ l) (λ ts. sequence (saidStatement edition s d (first a ts)) (b (rest a ts)))
@@ -388,12 +392,13 @@ module _ (edition : ℕ) (s : List ℕ) where
       let tree : StatementTree = saidStatement edition s d (first a ts) in
       let lone = alone-of o ended (q .middle) (list-none edition s r (q .middle) (rest a ts) u (q .right) k (length s) true false) in
       let before : z .start ≤ t .start = reread-on edition s z t g w in
-      then-list inMain levels ended i (c .0) z t tree (b (rest a ts)) (q .middle) (tokenAfter edition s u) counted w (first-closer d t (first a ts) (q .middle) (q .left) .0)
+      then-list inMain levels ended i (c .0) z t tree (b (rest a ts)) (q .middle) (tokenAfter edition s u) counted g w (first-closer d t (first a ts) (q .middle) (q .left) .0)
       (hd levels t (first a ts) (q .middle) (q .left) tt lone)
-      (λ x af gx on. subst (λ (m : Read StatementTree). Says m (sequence tree (b (rest a ts))) (tokenAfter edition s u))
+      (λ x af gx on. subst (λ (m : Read StatementTree). Says s (levels + z .start) m (sequence tree (b (rest a ts))) (tokenAfter edition s u))
       (sym (followed-ended (ListAt inMain levels (c .0)) tree x (ended-said edition s d (first a ts))))
-      (says-map (sequence tree) (ListAt inMain levels (c .0) x) (b (rest a ts)) (tokenAfter edition s u)
-      (hr levels (c .0) x (q .middle) (rest a ts) u gx af (q .right) k (omega (arith, f, counted, on, before)))))
+      (says-map s (sequence tree) (levels + z .start) (ListAt inMain levels (c .0) x) (b (rest a ts)) (tokenAfter edition s u)
+      (says-less s (levels + z .start) (levels + x .start) (ListAt inMain levels (c .0) x) (b (rest a ts)) (tokenAfter edition s u) (omega (arith, on, before))
+      (hr levels (c .0) x (q .middle) (rest a ts) u gx af (q .right) k (omega (arith, f, counted, on, before))))))
 
   end-says : (inMain : Bool) (o : Else) (j : Kind) (a l : List Kind) (d : Statement edition inMain needs-end o a) → among enders j ≡ true → (r : Statements edition inMain l) (b : Saying edition s)
       → StatementSays inMain needs-end o a (saidStatement edition s d) → ListSays inMain l b
@@ -410,16 +415,17 @@ module _ (edition : ℕ) (s : List ℕ) where
       let lone = alone-of o needs-end m
       (else-ended edition s (length s) false j m (y .next) (y .kind) e (y .follow) (λ i p. list-none edition s r (y .next) (tail (rest a ts)) u (y .others) k i true p)) in
       let before : z .start ≤ t .start = reread-on edition s z t g w in
-      then-list inMain levels needs-end i (c .0) z t tree (b (tail (rest a ts))) m (tokenAfter edition s u) counted w (first-closer d t (first a ts) m (q .left) .0)
+      then-list inMain levels needs-end i (c .0) z t tree (b (tail (rest a ts))) m (tokenAfter edition s u) counted g w (first-closer d t (first a ts) m (q .left) .0)
       (hd levels t (first a ts) m (q .left) (ap (among stops) (y .kind) ∙ two .1) lone)
       (λ x af gx on.
       let ender : isOneOf enders x ≡ true = ap (λ (v : Token). isOneOf enders v) (sym af) ∙ (ap (among enders) (y .kind) ∙ e) in
       let follow : Reread edition s (tokenAfter edition s x) (y .next) = subst (λ (v : Token). Follow edition s v (y .next)) af (y .follow) in
       let over : x .start < tokenAfter edition s x .start = subst (λ (v : Token). v .start < tokenAfter edition s v .start) af (y .over) in
-      subst (λ (m : Read StatementTree). Says m (sequence tree (b (tail (rest a ts)))) (tokenAfter edition s u))
+      subst (λ (m : Read StatementTree). Says s (levels + z .start) m (sequence tree (b (tail (rest a ts)))) (tokenAfter edition s u))
       (sym (followed-end (ListAt inMain levels (c .0)) tree x (ended-said edition s d (first a ts)) ender))
-      (says-map (sequence tree) (ListAt inMain levels (c .0) (tokenAfter edition s x)) (b (tail (rest a ts))) (tokenAfter edition s u)
-      (hr levels (c .0) (tokenAfter edition s x) (y .next) (tail (rest a ts)) u (after-in edition s x gx) follow (y .others) k (omega (arith, f, counted, on, before, over)))))
+      (says-map s (sequence tree) (levels + z .start) (ListAt inMain levels (c .0) (tokenAfter edition s x)) (b (tail (rest a ts))) (tokenAfter edition s u)
+      (says-less s (levels + z .start) (levels + tokenAfter edition s x .start) (ListAt inMain levels (c .0) (tokenAfter edition s x)) (b (tail (rest a ts))) (tokenAfter edition s u) (omega (arith, on, before, over))
+      (hr levels (c .0) (tokenAfter edition s x) (y .next) (tail (rest a ts)) u (after-in edition s x gx) follow (y .others) k (omega (arith, f, counted, on, before, over))))))
 
   last-says : (inMain : Bool) (o : Else) (a : List Kind) (d : Statement edition inMain needs-end o a) → StatementSays inMain needs-end o a (saidStatement edition s d)
       → ListSays inMain a (λ ts. sequence (saidStatement edition s d ts) empty-tree)
@@ -430,7 +436,7 @@ module _ (edition : ℕ) (s : List ℕ) where
       let tree : StatementTree = saidStatement edition s d ts in
       let lone = alone-of o needs-end u (else-stops edition s (length s) false false u (ap (among (newline ∷ semicolon ∷ ELSE ∷ [])) k)) in
       let before : z .start ≤ t .start = reread-on edition s z t g w in
-      then-list inMain levels needs-end i (c .0) z t tree empty-tree u (tokenAfter edition s u) counted w (first-closer d t ts u p .0) (hd levels t ts u p (ap (among stops) k) lone)
+      then-list inMain levels needs-end i (c .0) z t tree empty-tree u (tokenAfter edition s u) counted g w (first-closer d t ts u p .0) (hd levels t ts u p (ap (among stops) k) lone)
       (λ x af gx on.
       let kind : x .kind ≡ close-brace = ap (λ (v : Token). v .kind) (sym af) ∙ k in
       let e = fuelled edition s x (c .0) gx (ap (λ (j : Kind). same j text-end) kind) (omega (arith, f, counted, on, before)) in
@@ -455,8 +461,8 @@ module _ (edition : ℕ) (s : List ℕ) where
       let last-one : Follow edition s m u = subst (Follow edition s m) (no-more edition s (y .next) (tail (rest l (tail ts))) u (y .others)) (y .follow) in
       let on : t .start < tokenAfter edition s m .start = omega (arith, a .onward, q .onward, y .over) in (
         a .kind,
-        subst (λ (v : Read StatementTree). Answers edition s ended v (block-tree tree) (t .start) u) (sym (block-run (statementAt edition s inMain levels) t))
-            (⊎-elim (λ e. inl (e .0, ap (map block-tree) (e .1))) (λ e. inr (tokenAfter edition s m, last-one, after-in edition s m (q .right .good), on, ap (map block-tree) e)) r),
+        subst (λ (v : Read StatementTree). Answers edition s ended (suc levels + t .start) v (block-tree tree) (t .start) u) (sym (block-run (statementAt edition s inMain levels) t))
+            (⊎-elim (λ e. inl (e .0, ap (map block-tree) (e .1), omega (arith, a .over, e .2))) (λ e. inr (tokenAfter edition s m, last-one, after-in edition s m (q .right .good), on, ap (map block-tree) e)) r),
       )
 
   pub block-says : {inMain : Bool} {l : List Kind} (d : Block edition inMain l) → BlockSays inMain l (saidBlock edition s d)

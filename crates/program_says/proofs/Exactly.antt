@@ -2,9 +2,11 @@
 use mathlib.Core.Path.{_≡_, refl, sym, ap, subst, _∙_}
 use mathlib.Core.List.{List, [], _∷_, _++_}
 use mathlib.Core.Logic.{_⊎_, inl, inr, ⊎-elim}
-use Prim.Native.Nat.{ℕ}
+use Prim.Native.Nat.{ℕ, suc, _-_}
 use native.Mathlib.Omega.{arith}
+use lib.ListN.{length}
 use Rattle.edition.specs.Outcomes.{sizePassed}
+use Rattle.edition.specs.Limits.{nestingDepth}
 use Rattle.program_tokens.specs.Kinds.{Kind, text-end}
 use Rattle.program_tokens.specs.Tokens.{Token, tokenAt, tokenAfter}
 use Rattle.program_tree.specs.Tree.{Program}
@@ -16,6 +18,8 @@ use Rattle.program_exact.proofs.Exactly.{reads-exactly}
 use Rattle.program_exact.proofs.Sayings.{kindsOf, Trail, Follow, Reread}
 use Rattle.program_says.specs.Trees.{tokensBefore, saidBy}
 use Rattle.program_says.specs.Claims.{TreesExactly}
+use Rattle.program_says.proofs.Stretches.{Says}
+use Rattle.program_says.proofs.AnyLevels.{programOf, same-program}
 use Rattle.program_says.proofs.Items.{sentence-says}
 
 kinds-append : (a b : List Token) → kindsOf (a ++ b) ≡ kindsOf a ++ kindsOf b
@@ -55,19 +59,31 @@ module _ (edition : ℕ) (s : List ℕ) where
 
   -- ---- the claims
 
-  all-said : (a : Accepted edition s) → ((t : Token) × (readProgram edition s ≡ ok (saidBy edition s a) t)) ⊎ (TooDeep edition s)
+  -- read with any number of levels
+  levels-say : (levels : ℕ) (a : Accepted edition s) → (t : Token) × (Says s (suc levels) (programOf edition s levels) (saidBy edition s a) t)
   unfolding saidBy
-  all-said a =
+  levels-say levels a =
       let i = from-start (a .reached) in
       let ts : List Token = tokensBefore edition s (a .reached) in
       let z : Token = a .last in
       let kinds : kindsOf (ts ++ (z ∷ [])) ≡ (a .before) ++ (text-end ∷ []) =
       kinds-append ts (z ∷ []) ∙ (ap (λ (x : List Kind). x ++ ((z .kind) ∷ [])) (i .3) ∙ ap (λ (k : Kind). (a .before) ++ (k ∷ [])) (a .at-end)) in
-      let q = sentence-says edition s (a .sentence) (i .0) (ts ++ (z ∷ [])) (tokenAfter edition s z) (i .1) kinds (trail-then (i .0) ts z (tokenAfter edition s z) (i .2) (inl refl)) in
-      ⊎-elim (λ d. inr d) (λ e. inl (q .0, e)) (q .1)
+      sentence-says edition s levels (a .sentence) (i .0) (ts ++ (z ∷ [])) (tokenAfter edition s z) (i .1) kinds (trail-then (i .0) ts z (tokenAfter edition s z) (i .2) (inl refl))
+
+  all-said : (a : Accepted edition s) → ((t : Token) × (readProgram edition s ≡ ok (saidBy edition s a) t)) ⊎ (TooDeep edition s)
+  all-said a =
+      let q = levels-say (nestingDepth - 1) a in
+      let back : readProgram edition s ≡ programOf edition s (nestingDepth - 1) = sym (same-program edition s) in
+      ⊎-elim (λ d. inr (d .0, back ∙ d .1)) (λ e. inl (q .0, back ∙ e)) (q .1)
 
   said-of : (a : Accepted edition s) (p : Program) (t : Token) → readProgram edition s ≡ ok p t → p ≡ saidBy edition s a
   said-of a p t e = ⊎-elim (λ z. read-same (sym e ∙ z .1)) (λ z. absurd (read-apart (sym e ∙ z .1))) (all-said a)
+
+  -- with more levels than the text has bytes
+  enough : (a : Accepted edition s) → (t : Token) × (programOf edition s (length s) ≡ ok (saidBy edition s a) t)
+  enough a =
+      let q = levels-say (length s) a in
+      (q .0, ⊎-elim (λ d. absurd (omega (arith, d .2))) (λ e. e) (q .1))
 
   -- "the tree is the one that the derivation says; a sentence has one tree"
   pub trees-exactly : TreesExactly edition s
@@ -75,5 +91,5 @@ module _ (edition : ℕ) (s : List ℕ) where
       record {
         all = all-said;
         only = λ p t e. let a = reads-exactly edition s .only p t e in (a, said-of a p t e);
-        one = λ a b n. ⊎-elim (λ z. said-of b (saidBy edition s a) (z .0) (z .1)) (λ z. absurd (n z)) (all-said a);
+        one = λ a b. read-same (sym (enough a .1) ∙ enough b .1);
       }

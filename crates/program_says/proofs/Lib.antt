@@ -3,5 +3,6 @@ pub mod Stretches
 pub mod Openings
 pub mod Parts
 pub mod Blocks
+pub mod AnyLevels
 pub mod Items
 pub mod Exactly

@@ -25,7 +25,7 @@ use Rattle.program_exact.proofs.Walks.{after-in}
 use Rattle.program_exact.proofs.Bodies.{fuelled}
 use Rattle.program_exact.proofs.Sayings.{firstKind, IsEmpty, Raw, Starts, Follow, Reread, operand-next, past-trail, all-lines, lines-passed, starts-expression, first-append, still-some, Exact, inner-exact, spoken}
 use Rattle.program_says.specs.Trees.{saidList}
-use Rattle.program_says.proofs.Stretches.{Deep, Says, Stretch, reread-on, spans, split, step, first-is, else-again, isEnded}
+use Rattle.program_says.proofs.Stretches.{Deep, Says, says-less, Stretch, reread-on, spans, split, step, last-in, first-is, else-again, isEnded}
 use Rattle.program_says.proofs.Openings.{closers, open-facts}
 
 -- what ends a statement is read as it is, and ends an expression
@@ -47,25 +47,27 @@ module _ (edition : ℕ) (s : List ℕ) where
   again needs-end x u h = inl h
   again ended x u h = h
 
-  -- the answer is 6, or what was read and the token after it, which is after a place
-  abbrev pub Answers : {A : Type 0} → End → Read A → A → ℕ → Token → Type 0
-  Answers e r a p u = (Deep r) ⊎ ((x : Token) × (After e x u) × (InText edition s 0 x) × (p < x .start) × (r ≡ ok a x))
+  -- the answer is 6, and a number is less than the text's length, or what was read and the token after it, which is after
+  -- a place
+  abbrev pub Answers : {A : Type 0} → End → ℕ → Read A → A → ℕ → Token → Type 0
+  Answers e n r a p u = (Deep s n r) ⊎ ((x : Token) × (After e x u) × (InText edition s 0 x) × (p < x .start) × (r ≡ ok a x))
 
-  pub answered : {A : Type 0} (r : Read A) (a : A) (p : ℕ) (u : Token) → InText edition s 0 u → p < u .start → Says r a u → Answers needs-end r a p u
-  answered r a p u g h (inl z) = inl z
-  answered r a p u g h (inr q) = inr (u, refl, g, h, q)
+  pub answered : {A : Type 0} (n : ℕ) (r : Read A) (a : A) (p : ℕ) (u : Token) → InText edition s 0 u → p < u .start → Says s n r a u → Answers needs-end n r a p u
+  answered n r a p u g h (inl z) = inl z
+  answered n r a p u g h (inr q) = inr (u, refl, g, h, q)
 
-  pub answers-map : {A B : Type 0} (f : A → B) (e : End) (r : Read A) (a : A) (p : ℕ) (u : Token) → Answers e r a p u → Answers e (map f r) (f a) p u
-  answers-map f e r a p u (inl z) = inl (z .0, ap (map f) (z .1))
-  answers-map f e r a p u (inr z) = inr (z .0, z .1, z .2, z .3, ap (map f) (z .4))
+  pub answers-map : {A B : Type 0} (f : A → B) (e : End) (n : ℕ) (r : Read A) (a : A) (p : ℕ) (u : Token) → Answers e n r a p u → Answers e n (map f r) (f a) p u
+  answers-map f e n r a p u (inl z) = inl (z .0, ap (map f) (z .1), z .2)
+  answers-map f e n r a p u (inr z) = inr (z .0, z .1, z .2, z .3, ap (map f) (z .4))
 
-  pub sooner : {A : Type 0} (e : End) (r : Read A) (a : A) (p q : ℕ) (u : Token) → p ≤ q → Answers e r a q u → Answers e r a p u
-  sooner e r a p q u h (inl z) = inl z
-  sooner e r a p q u h (inr z) = inr (z .0, z .1, z .2, omega (arith, h, z .3), z .4)
+  pub sooner : {A : Type 0} (e : End) (m n : ℕ) (r : Read A) (a : A) (p q : ℕ) (u : Token) → m ≤ n → p ≤ q → Answers e n r a q u → Answers e m r a p u
+  sooner e m n r a p q u g h (inl z) = inl (z .0, z .1, omega (arith, g, z .2))
+  sooner e m n r a p q u g h (inr z) = inr (z .0, z .1, z .2, omega (arith, h, z .3), z .4)
 
-  pub bound : {A B : Type 0} (r : Read A) (f : A → Token → Read B) (a : A) (x : Token) (e : End) (b : B) (p : ℕ) (u : Token) → Says r a x → Answers e (f a x) b p u → Answers e (bind r f) b p u
-  bound r f a x e b p u (inl z) h = inl (z .0, ap (λ q. bind q f) (z .1))
-  bound r f a x e b p u (inr q) h = subst (λ m. Answers e m b p u) (sym (ap (λ q. bind q f) q)) h
+  pub bound : {A B : Type 0} (n : ℕ) (r : Read A) (f : A → Token → Read B) (a : A) (x : Token) (e : End) (b : B) (p : ℕ) (u : Token) → Says s n r a x → Answers e n (f a x) b p u
+      → Answers e n (bind r f) b p u
+  bound n r f a x e b p u (inl z) h = inl (z .0, ap (λ q. bind q f) (z .1), z .2)
+  bound n r f a x e b p u (inr q) h = subst (λ m. Answers e n m b p u) (sym (ap (λ q. bind q f) q)) h
 
   -- ---- `print`
 
@@ -100,12 +102,12 @@ module _ (edition : ℕ) (s : List ℕ) where
   -- the elements of a print list after some others
   pub list-says : (levels : ℕ) (l : List Kind) (d : PrintList edition l) (i : ℕ) (es : List Expression) (v : Token) (ts : List Token) (u : Token) → Stretch edition s l v ts u
       → among stops (u .kind) ≡ true → length s ≤ i + v .start
-      → Says (listed edition s levels i (map (λ e. es ++ (e ∷ [])) (expressionAt edition s levels true v))) (es ++ saidList edition s d ts) u
+      → Says s (levels + v .start) (listed edition s levels i (map (λ e. es ++ (e ∷ [])) (expressionAt edition s levels true v))) (es ++ saidList edition s d ts) u
   unfolding saidList among rank
   list-says levels l (last-element d) i es v ts u w st f =
       let z = stop-facts (u .kind) st in
       let Q : Read Expression → Read (List Expression) = λ r. listed edition s levels i (map (λ e. es ++ (e ∷ [])) r) in
-      ⊎-elim (λ q. inl (q .0, ap Q (q .1) ∙ listed-deep levels i (q .0))) (λ q. inr (ap Q q ∙ listed-stop levels i (es ++ (said edition s d ts ∷ [])) u (z .2)))
+      ⊎-elim (λ q. inl (q .0, ap Q (q .1) ∙ listed-deep levels i (q .0), q .2)) (λ q. inr (ap Q q ∙ listed-stop levels i (es ++ (said edition s d ts ∷ [])) u (z .2)))
       (spoken edition s d levels true v ts u refl (spans edition s l v ts u w (z .0)) (z .1))
   list-says levels _ (next-element {l = l} {n = n} {r = r} d h e) i es v ts u w st f =
       let b = split edition s l (comma ∷ (n ++ r)) v ts u w in
@@ -128,9 +130,11 @@ module _ (edition : ℕ) (s : List ℕ) where
       ap (λ (j : ℕ). listed edition s levels j (ok more m)) (fuel .1)
       ∙ (listed-turn levels (fuel .0) more m (ap (λ (j : Kind). same j comma) (a .kind))
       ∙ ap (λ (k : Token). listed edition s levels (fuel .0) (map (λ e. more ++ (e ∷ [])) (expressionAt edition s levels true k))) own) in
-      ⊎-elim (λ q. inl (q .0, ap Q (q .1) ∙ listed-deep levels i (q .0)))
-      (λ q. subst (λ (k : List Expression). Says (Q (expressionAt edition s levels true v)) k u) (append-assoc es (x ∷ []) tree)
-      (subst (λ (k : Read (List Expression)). Says k (more ++ tree) u) (sym (ap Q q ∙ turned)) later))
+      ⊎-elim (λ q. inl (q .0, ap Q (q .1) ∙ listed-deep levels i (q .0), q .2))
+      (λ q. subst (λ (k : List Expression). Says s (levels + v .start) (Q (expressionAt edition s levels true v)) k u) (append-assoc es (x ∷ []) tree)
+      (subst (λ (k : Read (List Expression)). Says s (levels + v .start) k (more ++ tree) u) (sym (ap Q q ∙ turned))
+      (says-less s (levels + v .start) (levels + y .start) (listed edition s levels (fuel .0) (map (λ e. more ++ (e ∷ [])) (expressionAt edition s levels true y))) (more ++ tree) u
+      (omega (arith, b .onward, a .onward, c .onward)) later)))
       (spoken edition s d levels true v (first l ts) m refl (spans edition s l v (first l ts) m (b .left) (ap (among (ERE ∷ bad ∷ bad-ere ∷ [])) (a .kind))) (ap (among quiet) (a .kind)))
 
   -- ---- conditions
@@ -138,7 +142,7 @@ module _ (edition : ℕ) (s : List ℕ) where
   pub record Conditioned (levels : ℕ) (c r : List Kind) (x : Expression) (o : Token) (ts : List Token) (u : Token) : Type 0 where
     pub close : Token
     pub next : Token
-    pub says : Says (conditionAt edition s levels o) x (tokenAfter edition s close)
+    pub says : Says s (levels + o .start) (conditionAt edition s levels o) x (tokenAfter edition s close)
     pub good : InText edition s 0 (tokenAfter edition s close)
     pub follow : Follow edition s close next
     pub others : Stretch edition s r next (tail (rest c (tail ts))) u
@@ -172,14 +176,14 @@ module _ (edition : ℕ) (s : List ℕ) where
       let own : v ≡ operandAfter edition s o = operand-next edition s o v (a .follow) (ap (among Slashes) kind-v ∙ begins .1 .0) in
       let x : Expression = said edition s d (first c (tail ts)) in
       let sp = spans edition s c v (first c (tail ts)) m (b .left) (ap (among (ERE ∷ bad ∷ bad-ere ∷ [])) (z .kind)) in
-      let inner : Exact edition s (inside edition s levels false 10 o v) x m =
-      inner-exact edition s levels false 10 o v x m (λ k. spoken edition s d k false v (first c (tail ts)) m refl sp (ap (among quiet) (z .kind))) in
+      let inner : Exact edition s (levels + o .start) (inside edition s levels false 10 o v) x m =
+      inner-exact edition s levels false 10 o v x m (a .onward) (a .others .good) (λ k. spoken edition s d k false v (first c (tail ts)) m refl sp (ap (among quiet) (z .kind))) in
       let run : conditionAt edition s levels o ≡ closed edition s (inside edition s levels false 10 o v) =
       condition-run levels o (ap (λ (j : Kind). same j open-paren) (a .kind)) ∙ ap (λ (y : Token). closed edition s (inside edition s levels false 10 o y)) (sym own) in
       record {
         close = m;
         next = z .next;
-        says = ⊎-elim (λ q. inl (q .0, run ∙ (ap (closed edition s) (q .1) ∙ closed-deep (q .0))))
+        says = ⊎-elim (λ q. inl (q .0, run ∙ (ap (closed edition s) (q .1) ∙ closed-deep (q .0)), q .2))
             (λ q. inr (run ∙ (ap (closed edition s) q ∙ closed-run x m (ap (λ (j : Kind). same j close-paren) (z .kind))))) inner;
         good = after-in edition s m (b .right .good);
         follow = z .follow;
@@ -222,39 +226,40 @@ module _ (edition : ℕ) (s : List ℕ) where
     unfolding noBody
     no-body y q = rw q
 
-    body-says : (e : End) (levels : ℕ) (y : Token) (a : Statement) (u : Token) → startsStatement edition inMain (y .kind) ≡ true
-        → ((m : ℕ) → Answers e (statementAt edition s inMain m y) a (y .start) u) → Answers e (bodyOf levels y) a (y .start) u
-    body-says e zero y a u q h = inl (y .start, no-body y q)
-    body-says e (suc levels) y a u q h = h levels
+    body-says : (e : End) (levels p : ℕ) (y : Token) (a : Statement) (u : Token) → p < y .start → InText edition s 0 y → startsStatement edition inMain (y .kind) ≡ true
+        → ((m : ℕ) → Answers e (m + y .start) (statementAt edition s inMain m y) a (y .start) u) → Answers e (levels + p) (bodyOf levels y) a p u
+    body-says e zero p y a u on g q h = inl (y .start, no-body y q, omega (arith, on, g .ordered, g .within))
+    body-says e (suc levels) p y a u on g q h =
+        sooner e (suc levels + p) (levels + y .start) (statementAt edition s inMain levels y) a p (y .start) u (omega (arith, on)) (omega (arith, on)) (h levels)
 
     -- a body, where newlines may come before it
-    pub body-at : (e : End) (levels : ℕ) (n : List Kind) (x v : Token) (ns : List Token) (y : Token) (a : Statement) (u : Token) → Newlines n → InText edition s 0 x → Reread edition s x v
+    pub body-at : (e : End) (levels p : ℕ) (n : List Kind) (x v : Token) (ns : List Token) (y : Token) (a : Statement) (u : Token) → Newlines n → p < x .start → InText edition s 0 x → Reread edition s x v
         → Stretch edition s n v ns y → v .start ≤ y .start → startsStatement edition inMain (y .kind) ≡ true → among closers (y .kind) ≡ false
-        → ((m : ℕ) → Answers e (statementAt edition s inMain m y) a (y .start) u) → Answers e (bodyAt edition s (bodyOf levels) x) a (x .start) u
-    body-at e levels n x v ns y a u h g w p on q b k =
+        → ((m : ℕ) → Answers e (m + y .start) (statementAt edition s inMain m y) a (y .start) u) → Answers e (levels + p) (bodyAt edition s (bodyOf levels) x) a p u
+    body-at e levels p n x v ns y a u h lt g w sp on q b k =
         let f = open-facts (y .kind) b in
-        let own : pastNewlines edition s x ≡ y = past-lines n h x v ns y g w p (f .1) (f .0) in
-        subst (λ (z : Token). Answers e (bodyOf levels z) a (x .start) u) (sym own)
-        (sooner e (bodyOf levels y) a (x .start) (y .start) u (omega (arith, on, reread-on edition s x v g w)) (body-says e levels y a u q k))
+        let own : pastNewlines edition s x ≡ y = past-lines n h x v ns y g w sp (f .1) (f .0) in
+        subst (λ (z : Token). Answers e (levels + p) (bodyOf levels z) a p u) (sym own)
+        (body-says e levels p y a u (omega (arith, lt, on, reread-on edition s x v g w)) (last-in edition s n v ns y sp) q k)
 
   -- ---- what follows a then-part
 
-  module _ (body : Token → Read Statement) (e : End) (c : Expression) (v : Token) (a : Statement) (p : ℕ) (u : Token) (h : tree-ended a ≡ isEnded edition s e) where
+  module _ (body : Token → Read Statement) (e : End) (c : Expression) (v : Token) (a : Statement) (n p : ℕ) (u : Token) (h : tree-ended a ≡ isEnded edition s e) where
     else-of : (x : Token) → After e x u → (o : Option Token) → elseAfter edition s (length s) (isEnded edition s e) false u ≡ o → elseAfter edition s (length s) (tree-ended a) false x ≡ o
     else-of x w o q = ap (λ (b : Bool). elseAfter edition s (length s) b false x) h ∙ (else-again edition s (length s) (isEnded edition s e) false x u (again e x u w) ∙ q)
 
     abbrev Rest : Statement → Token → Read Statement
     Rest a v = elseAt edition s body c a v (elseAfter edition s (length s) (tree-ended a) false v)
 
-    pub then-alone : elseAfter edition s (length s) (isEnded edition s e) false u ≡ none → Answers e (bodyAt edition s body v) a p u → Answers e (thenAt edition s body c v) (if c a) p u
-    then-alone q (inl z) = inl (z .0, ap (λ (r : Read Statement). bind r Rest) (z .1))
+    pub then-alone : elseAfter edition s (length s) (isEnded edition s e) false u ≡ none → Answers e n (bodyAt edition s body v) a p u → Answers e n (thenAt edition s body c v) (if c a) p u
+    then-alone q (inl z) = inl (z .0, ap (λ (r : Read Statement). bind r Rest) (z .1), z .2)
     then-alone q (inr z) =
         inr (z .0, z .1, z .2, z .3, ap (λ (r : Read Statement). bind r Rest) (z .4) ∙ ap (elseAt edition s body c a (z .0)) (else-of (z .0) (z .1) none q))
 
-    pub then-else : (w : Token) (f : End) (b : Statement) (q : ℕ) (y : Token) → elseAfter edition s (length s) (isEnded edition s e) false u ≡ some w → p ≤ q
-        → Answers e (bodyAt edition s body v) a p u → Answers f (bodyAt edition s body w) b q y → Answers f (thenAt edition s body c v) (if-else c a b) p y
-    then-else w f b q y g le (inl z) k = inl (z .0, ap (λ (r : Read Statement). bind r Rest) (z .1))
-    then-else w f b q y g le (inr z) k =
-        subst (λ (r : Read Statement). Answers f r (if-else c a b) p y)
+    pub then-else : (w : Token) (f : End) (b : Statement) (m q : ℕ) (y : Token) → elseAfter edition s (length s) (isEnded edition s e) false u ≡ some w → n ≤ m → p ≤ q
+        → Answers e n (bodyAt edition s body v) a p u → Answers f m (bodyAt edition s body w) b q y → Answers f n (thenAt edition s body c v) (if-else c a b) p y
+    then-else w f b m q y g ln le (inl z) k = inl (z .0, ap (λ (r : Read Statement). bind r Rest) (z .1), z .2)
+    then-else w f b m q y g ln le (inr z) k =
+        subst (λ (r : Read Statement). Answers f n r (if-else c a b) p y)
         (sym (ap (λ (r : Read Statement). bind r Rest) (z .4) ∙ ap (elseAt edition s body c a (z .0)) (else-of (z .0) (z .1) (some w) g)))
-        (answers-map (if-else c a) f (bodyAt edition s body w) b p y (sooner f (bodyAt edition s body w) b p q y le k))
+        (answers-map (if-else c a) f n (bodyAt edition s body w) b p y (sooner f n m (bodyAt edition s body w) b p q y ln le k))

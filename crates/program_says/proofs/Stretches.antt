@@ -26,17 +26,21 @@ use Rattle.program_exact.proofs.Sayings.{kindsOf, firstKind, IsEmpty, Raw, Foll
 
 -- ---- answers
 
--- the answer is 6
-abbrev pub Deep : {A : Type 0} → Read A → Type 0
-Deep r = (place : ℕ) × (r ≡ no sizePassed place)
+-- the answer is 6, and a number is less than the text's length
+abbrev pub Deep : {A : Type 0} → List ℕ → ℕ → Read A → Type 0
+Deep s n r = (place : ℕ) × (r ≡ no sizePassed place) × (n < length s)
 
 -- or what was read, and the token after it
-abbrev pub Says : {A : Type 0} → Read A → A → Token → Type 0
-Says r a u = (Deep r) ⊎ (r ≡ ok a u)
+abbrev pub Says : {A : Type 0} → List ℕ → ℕ → Read A → A → Token → Type 0
+Says s n r a u = (Deep s n r) ⊎ (r ≡ ok a u)
 
-pub says-map : {A B : Type 0} (f : A → B) (r : Read A) (a : A) (u : Token) → Says r a u → Says (map f r) (f a) u
-says-map f r a u (inl d) = inl (d .0, ap (map f) (d .1))
-says-map f r a u (inr e) = inr (ap (map f) e)
+pub says-map : {A B : Type 0} (s : List ℕ) (f : A → B) (n : ℕ) (r : Read A) (a : A) (u : Token) → Says s n r a u → Says s n (map f r) (f a) u
+says-map s f n r a u (inl d) = inl (d .0, ap (map f) (d .1), d .2)
+says-map s f n r a u (inr e) = inr (ap (map f) e)
+
+pub says-less : {A : Type 0} (s : List ℕ) (m n : ℕ) (r : Read A) (a : A) (u : Token) → m ≤ n → Says s n r a u → Says s m r a u
+says-less s m n r a u h (inl d) = inl (d .0, d .1, omega (arith, h, d .2))
+says-less s m n r a u h (inr e) = inr e
 
 module _ (edition : ℕ) (s : List ℕ) where
   pub reread-on : (x v : Token) → InText edition s 0 x → Reread edition s x v → x .start ≤ v .start

@@ -13,10 +13,10 @@ use Rattle.program_says.specs.Trees.{saidBy}
 
 module _ (edition : ℕ) (s : List ℕ) where
   -- the reader gives a sentence the tree that each of its derivations says, or refuses a level (6); it gives no tree
-  -- but one that a derivation says; so a sentence has one tree
+  -- but one that a derivation says; a sentence has one tree, whatever its levels
   pub record TreesExactly : Type 0 where
     pub all : (a : Accepted edition s)
         → ((t : Token) × (readProgram edition s ≡ ok (saidBy edition s a) t)) ⊎ (TooDeep edition s)
     pub only : (p : Program) (t : Token) → readProgram edition s ≡ ok p t
         → (a : Accepted edition s) × (p ≡ saidBy edition s a)
-    pub one : (a b : Accepted edition s) → (TooDeep edition s → ⊥) → saidBy edition s a ≡ saidBy edition s b
+    pub one : (a b : Accepted edition s) → saidBy edition s a ≡ saidBy edition s b
