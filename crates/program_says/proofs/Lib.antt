@@ -1,4 +1,5 @@
 -- The reader of statements, items and programs, beside what derivations say.
+pub mod Nearest
 pub mod Stretches
 pub mod Openings
 pub mod Parts
