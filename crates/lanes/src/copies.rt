@@ -79,8 +79,9 @@ pub fn copy(dst: &mut [u8], at: usize, src: &[u8])
     copy_16(dst, at + last, src, last);
 }
 
-// Copies `n` bytes of `src` from index `from` on into `dst` from index `at` on, and those after them up to a multiple of 16.
-pub fn copy_over(dst: &mut [u8], at: usize, src: &[u8], from: usize, n: usize)
+// Copies `n` bytes of `src` from index `from` on into `dst` from index `at` on, and those after them up to a multiple of 16, one block
+// after the other.
+fn copy_over_long(dst: &mut [u8], at: usize, src: &[u8], from: usize, n: usize)
     requires { ⌜ (at + n + 15 ≤ length (now dst)) × (from + n + 15 ≤ length (now src)) ⌝ }
     ensures { λ _. ⌜ now (dst .exit) ≡ put (now (dst .entry)) at (part from (blocks n) (now (src .entry))) ⌝ }
 {
@@ -88,5 +89,19 @@ pub fn copy_over(dst: &mut [u8], at: usize, src: &[u8], from: usize, n: usize)
     while k < n {
         copy_16(dst, at + k, src, from + k);
         k += 16;
+    }
+}
+
+// Copies `n` bytes and those after them in the same way. Most texts fit one block.
+pub fn copy_over(dst: &mut [u8], at: usize, src: &[u8], from: usize, n: usize)
+    requires { ⌜ (at + n + 15 ≤ length (now dst)) × (from + n + 15 ≤ length (now src)) ⌝ }
+    ensures { λ _. ⌜ now (dst .exit) ≡ put (now (dst .entry)) at (part from (blocks n) (now (src .entry))) ⌝ }
+{
+    if 16 < n {
+        copy_over_long(dst, at, src, from, n);
+        return;
+    }
+    if 0 < n {
+        copy_16(dst, at, src, from);
     }
 }

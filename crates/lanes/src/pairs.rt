@@ -1,5 +1,5 @@
 // The first byte that is one of two, as blanks are, and the first that is neither.
-use crate::words::first_in_8;
+use crate::words::marks_at;
 ghost use mathlib.Core.Path.{_≡_};
 ghost use mathlib.Core.List.{[], _∷_};
 ghost use Prim.Native.Nat.{_+_, _≤_};
@@ -14,9 +14,8 @@ fn first_pair_in_8(s: &[u8], at: usize, a: u8, b: u8) -> usize
     requires { ⌜ at + 8 ≤ length (now s) ⌝ }
     ensures { λ r. ⌜ r ≡ leading (neither a b) (part at 8 (now (s .entry))) ⌝ }
 {
-    let i = first_in_8(s, at, a);
-    let j = first_in_8(s, at, b);
-    if i < j { i } else { j }
+    let m = marks_at(s, at, a) | marks_at(s, at, b);
+    (u64::trailing_zeros(m) / 8) as usize
 }
 
 // Tells whether `x` is `a` or `b`.

@@ -1,73 +1,43 @@
--- `copy_over` meets its contract: k bytes are copied, which is a multiple of a block.
-use Prim.Native.Nat.{_+_, _-_, _%_, _≤_, _<_}
+-- `copy_over` meets its contract: one block, none, or one after the other.
 use native.Mathlib.Omega.{arith}
-use mathlib.Core.Path.{_≡_, refl, ap, _∙_}
-use lib.ListN.{length}
-use Rattle.buffer.specs.Parts.{part, put}
-use Rattle.buffer.proofs.Parts.{put-none}
-use Rattle.lanes.specs.Block.{blocks}
-use Rattle.lanes.proofs.Copied.{over-more}
+use Rattle.lanes.proofs.Copied.{over-none, over-end}
 use borrow.Author.Needs.{needs}
 use Rattle.lanes.proofs.copies.copy_over.Statement.{statement}
 use Rattle.lanes.proofs.copies.copy_over.Tie as tie
 
-abbrev Inv-loop : tie.InvT-loop
-Inv-loop dst₀ at src from n k₀ dst k = (k % 16 ≡ 0) × (k < n + 16) × (length dst ≡ length dst₀) × (dst ≡ put dst₀ at (part from k src))
+copy-over-long-requires : tie.Need-copy-over-long-requires
+copy-over-long-requires c κs = search needs
 
-abbrev μ-loop : tie.MeasureT-loop
-μ-loop dst₀ at src from n k₀ dst k = n - k
+same-length : tie.Need-same-length
+same-length c = search needs
 
-loop-holds : tie.Need-loop-holds Inv-loop μ-loop
-unfolding part
-loop-holds c = (refl, omega arith, refl, put-none _ _)
+returns : tie.Need-returns
+returns c = search needs
 
-add-copy-16 : tie.Need-add-copy-16 Inv-loop μ-loop
-add-copy-16 c = omega arith
-
-add-copy-16-2 : tie.Need-add-copy-16-2 Inv-loop μ-loop
-add-copy-16-2 c = omega arith
-
-copy-16-requires : tie.Need-copy-16-requires Inv-loop μ-loop
+copy-16-requires : tie.Need-copy-16-requires
 copy-16-requires c κs = (omega arith, omega arith)
 
-add-k : tie.Need-add-k Inv-loop μ-loop
-add-k c = omega arith
+same-length-2 : tie.Need-same-length-2
+same-length-2 c = search needs
 
-loop-less : tie.Need-loop-less Inv-loop μ-loop
-loop-less c = omega arith
-
-loop-again : tie.Need-loop-again Inv-loop μ-loop
-loop-again c =
+returns-2 : tie.Need-returns-2
+returns-2 c =
     let a = c .before .before .before .before .before .before .before .before .args in
-    let l = c .before .before .before .before .before .loop in (
-      omega arith,
-      omega arith,
-      search needs,
-      c .before .before .copy-16 .ensures ∙ over-more (a .dst .now) (a .at) (a .src .now) (a .from) (l .k) 16 (omega arith) (omega arith) (l .inv .3),
-    )
+    over-end (a .dst .now) (a .at) (a .src .now) (a .from) (a .n) 16 (omega arith) (c .before .before .copy-16 .ensures)
 
-same-length : tie.Need-same-length Inv-loop μ-loop
-same-length c = omega arith
-
-returns : tie.Need-returns Inv-loop μ-loop
-returns c =
+returns-3 : tie.Need-returns-3
+returns-3 c =
     let a = c .before .before .before .before .args in
-    let l = c .before .loop in
-    let e : l .k ≡ blocks (a .n) = omega arith in
-    l .inv .3 ∙ ap (λ m. put (a .dst .now) (a .at) (part (a .from) m (a .src .now))) e
+    over-end (a .dst .now) (a .at) (a .src .now) (a .from) (a .n) 0 (omega arith) (over-none _ _ _ _)
 
 pub copy-over-spec : {M : Type 1} → statement M
 copy-over-spec =
     tie.close
     (tie.spec
-    Inv-loop
-    μ-loop
-    loop-holds
-    add-copy-16
-    add-copy-16-2
-    copy-16-requires
-    add-k
-    loop-less
-    loop-again
+    copy-over-long-requires
     same-length
-    returns)
+    returns
+    copy-16-requires
+    same-length-2
+    returns-2
+    returns-3)
