@@ -43,3 +43,13 @@ pub fn copy_blocks(s: &mut [u8], from: usize, to: usize, n: usize)
         move_16(s, from, to);
     }
 }
+
+// Copies a block and the `n` bytes after it in the same way.
+pub fn copy_headed(s: &mut [u8], from: usize, to: usize, n: usize)
+    requires { ⌜ (from + 16 + n + 15 ≤ length (now s)) × (to + 16 + n + 15 ≤ length (now s))
+        × ((to ≤ from) ⊎ (from + 16 + n + 15 ≤ to)) ⌝ }
+    ensures { λ _. ⌜ now (s .exit) ≡ put (now (s .entry)) to (part from (16 + blocks n) (now (s .entry))) ⌝ }
+{
+    move_16(s, from, to);
+    copy_blocks(s, from + 16, to + 16, n);
+}

@@ -87,5 +87,5 @@ pub fn copy_slot(work: &mut [u8], from: usize, to: usize)
         (SlotHeld (now (work .entry)) from) ⌝ }
 {
     let n = size_in(buffer::get_word(work, from * SLOT));
-    blocks::copy_blocks(work, from * SLOT, to * SLOT, HEAD + n);
+    blocks::copy_headed(work, from * SLOT, to * SLOT, n);
 }

@@ -1,7 +1,7 @@
 -- `copy_blocks` meets its contract: one block, none, or one after the other.
 use native.Mathlib.Omega.{arith}
+use Rattle.lanes.proofs.Copied.{over-none, over-end}
 use borrow.Author.Needs.{needs}
-use Rattle.run_room.proofs.Blockwise.{block-none, block-end}
 use Rattle.run_room.proofs.blocks.copy_blocks.Statement.{statement}
 use Rattle.run_room.proofs.blocks.copy_blocks.Tie as tie
 
@@ -23,12 +23,12 @@ same-length-2 c = search needs
 returns-2 : tie.Need-returns-2
 returns-2 c =
     let a = c .before .before .before .before .before .before .before .args in
-    block-end (a .s .now) (a .from) (a .to) (a .n) 16 (omega arith) (c .before .before .move-16 .ensures)
+    over-end (a .s .now) (a .to) (a .s .now) (a .from) (a .n) 16 (omega arith) (c .before .before .move-16 .ensures)
 
 returns-3 : tie.Need-returns-3
 returns-3 c =
     let a = c .before .before .before .args in
-    block-end (a .s .now) (a .from) (a .to) (a .n) 0 (omega arith) (block-none _ _ _)
+    over-end (a .s .now) (a .to) (a .s .now) (a .from) (a .n) 0 (omega arith) (over-none _ _ _ _)
 
 pub copy-blocks-spec : {M : Type 1} → statement M
 copy-blocks-spec =

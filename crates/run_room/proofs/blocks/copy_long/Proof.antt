@@ -2,9 +2,11 @@
 use Prim.Native.Nat.{_+_, _-_, _%_, _<_}
 use native.Mathlib.Omega.{arith}
 use mathlib.Core.Path.{_≡_, refl}
+use mathlib.Core.Logic.{⊎-elim, inl, inr}
 use lib.ListN.{length}
 use Rattle.buffer.specs.Parts.{part, put}
-use Rattle.run_room.proofs.Blockwise.{block-none, block-more, block-end}
+use Rattle.lanes.proofs.Copied.{over-none, over-end}
+use Rattle.run_room.proofs.Blockwise.{block-more}
 use borrow.Author.Needs.{needs}
 use Rattle.run_room.proofs.blocks.copy_long.Statement.{statement}
 use Rattle.run_room.proofs.blocks.copy_long.Tie as tie
@@ -16,7 +18,7 @@ abbrev μ-loop : tie.MeasureT-loop
 μ-loop s₀ from to n k₀ s k = n - k
 
 loop-holds : tie.Need-loop-holds Inv-loop μ-loop
-loop-holds c = (refl, omega arith, refl, block-none _ _ _)
+loop-holds c = (refl, omega arith, refl, over-none _ _ _ _)
 
 add-move-16 : tie.Need-add-move-16 Inv-loop μ-loop
 add-move-16 c = omega arith
@@ -41,7 +43,7 @@ loop-again c =
       omega arith,
       omega arith,
       search needs,
-      block-more (a .s .now) (a .from) (a .to) (a .n) (l .k) (h .0) (h .1) (h .2) (c .before .before .before .before .loop-test .taken) (l .inv .3) (c .before .before .move-16 .ensures),
+      block-more (a .s .now) (a .from) (a .to) (a .n + 15) (l .k) 16 (omega arith) (omega arith) (⊎-elim (λ p. inl p) (λ p. inr (omega arith)) (h .2)) (omega arith) (l .inv .3) (c .before .before .move-16 .ensures),
     )
 
 same-length : tie.Need-same-length Inv-loop μ-loop
@@ -51,7 +53,7 @@ returns : tie.Need-returns Inv-loop μ-loop
 returns c =
     let a = c .before .before .before .args in
     let l = c .before .loop in
-    block-end (a .s .now) (a .from) (a .to) (a .n) (l .k) (omega arith) (l .inv .3)
+    over-end (a .s .now) (a .to) (a .s .now) (a .from) (a .n) (l .k) (omega arith) (l .inv .3)
 
 pub copy-long-spec : {M : Type 1} → statement M
 copy-long-spec =

@@ -18,17 +18,14 @@ get-word-requires c κs = search needs
 size-in-requires : tie.Need-size-in-requires
 size-in-requires c κs = search needs
 
-mul-copy-blocks : tie.Need-mul-copy-blocks
-mul-copy-blocks c = search needs
+mul-copy-headed : tie.Need-mul-copy-headed
+mul-copy-headed c = search needs
 
-mul-copy-blocks-2 : tie.Need-mul-copy-blocks-2
-mul-copy-blocks-2 c = search needs
+mul-copy-headed-2 : tie.Need-mul-copy-headed-2
+mul-copy-headed-2 c = search needs
 
-add-copy-blocks : tie.Need-add-copy-blocks
-add-copy-blocks c = search needs
-
-copy-blocks-requires : tie.Need-copy-blocks-requires
-copy-blocks-requires c κs =
+copy-headed-requires : tie.Need-copy-headed-requires
+copy-headed-requires c κs =
     let a = c .before .before .before .before .before .args in
     (omega arith, omega arith, elim (decLe (a .to) (a .from)) [ yes p ↦ inl (omega arith) | no p ↦ inr (omega arith) ])
 
@@ -39,7 +36,7 @@ returns : tie.Need-returns
 unfolding wordAt
 returns c =
     let a = c .before .before .before .before .before .before .before .before .args in
-    slotted-copy (a .work .now) (a .to) (a .from) (c .before .before .before .before .size-in .result) (c .before .before .copy-blocks .ensures)
+    slotted-copy (a .work .now) (a .to) (a .from) (c .before .before .before .before .size-in .result) (c .before .before .copy-headed .ensures)
     (omega arith) (omega arith) (omega arith) (omega arith) (omega arith) (omega arith) (c .before .before .before .before .size-in .ensures ∙ ap sizeIn (c .before .before .before .before .before .get-word .ensures))
 
 pub copy-slot-spec : {M : Type 1} → statement M
@@ -49,9 +46,8 @@ copy-slot-spec =
     mul-get-word
     get-word-requires
     size-in-requires
-    mul-copy-blocks
-    mul-copy-blocks-2
-    add-copy-blocks
-    copy-blocks-requires
+    mul-copy-headed
+    mul-copy-headed-2
+    copy-headed-requires
     same-length
     returns)
