@@ -3,7 +3,7 @@ use mathlib.Core.Path.{_≡_, refl, sym, ap, ap₂, subst, _∙_}
 use mathlib.Core.List.{List, [], _∷_, _++_}
 use Prim.Native.Nat.{ℕ, zero, suc, _+_, _-_, _*_, _/_, _%_, _^_, _≤_, _<_}
 use native.Mathlib.Decide.{decLe}
-use native.Mathlib.Nat.{pow-suc}
+use native.Mathlib.Nat.{pow-suc, pow-succ', one-le-pow, div-div-eq-div-mul}
 use native.Mathlib.Omega.{arith}
 use lib.ListN.{length, getD, take, length-append}
 use lib.Seq.{length-take-le, getD-take, take-take, getD-at, take-at}
@@ -114,6 +114,27 @@ length-within zero n h = omega (arith, ap length (digits-small n (omega arith)))
 length-within (suc k) n h =
     let h' : n < 10 ^ suc k * 10 = rw pow-suc at h in
     elim (decLe 10 n) [ yes p ↦ omega (arith, length-step n p, length-within k (n / 10) (omega arith)) | no p ↦ omega (arith, ap length (digits-small n (omega arith))) ]
+
+-- without the last k of its digits
+pub length-split : (k n : ℕ) → 10 ^ k ≤ n → length (decimalDigits n) ≡ k + length (decimalDigits (n / 10 ^ k))
+length-split zero n h =
+    let e : n / 1 ≡ n = omega arith in
+    ap (λ (m : ℕ). length (decimalDigits m)) (sym e) ∙ omega arith
+length-split (suc k) n h =
+    let h' : 10 ^ k * 10 ≤ n = rw pow-suc at h in
+    let some : 1 ≤ 10 ^ k = one-le-pow k 10 (omega arith) in
+    let e : n / 10 / 10 ^ k ≡ n / 10 ^ suc k = div-div-eq-div-mul n 10 (10 ^ k) ∙ ap (λ (m : ℕ). n / m) (sym (pow-succ' 10 k)) in
+    length-step n (omega arith)
+    ∙ omega (arith, length-split k (n / 10) (omega arith), ap (λ (m : ℕ). length (decimalDigits m)) e)
+
+-- there is a digit
+pub length-some : (n : ℕ) → 1 ≤ length (decimalDigits n)
+length-some n =
+    elim (decLe 10 n) [ yes p ↦ omega (arith, length-step n p) | no p ↦ omega (arith, ap length (digits-small n (omega arith))) ]
+
+-- a number from a power of ten on and below the next
+pub length-between : (k n : ℕ) → 10 ^ k ≤ n → n < 10 ^ suc k → length (decimalDigits n) ≡ suc k
+length-between k n h g = omega (arith, length-split k n h, length-some (n / 10 ^ k), length-within k n g)
 
 pub length-bound : (n : ℕ) → n ≤ numberBound → length (decimalDigits n) ≤ 16
 length-bound n h = length-within 15 n (omega arith)

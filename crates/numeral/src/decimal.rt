@@ -1,7 +1,8 @@
 // A number as decimal text.
 ghost use mathlib.Core.Path.{_≡_};
-ghost use Prim.Native.Nat.{_+_, _≤_};
+ghost use Prim.Native.Nat.{_+_, _≤_, _<_};
 ghost use lib.ListN.{length};
+ghost use Rattle.edition.specs.Limits.{numberBound};
 ghost use Rattle.buffer.specs.Parts.{put};
 ghost use Rattle.number.specs.Range.{unbias, top};
 ghost use Rattle.numeral.specs.Decimal.{decimalDigits, decimalText};
@@ -10,17 +11,32 @@ use edition::Edition;
 // The most bytes that a number's text has.
 pub const DECIMAL_BYTES: usize = 17;
 
-// How many digits `n` has.
-fn digit_count(n: u64) -> usize
+// Returns how many digits `n` has, which is below 10^8. Comparisons wait for nothing, as divisions one after the other would.
+fn few_digits(n: u64) -> usize
+    requires { ⌜ n < 100000000 ⌝ }
     ensures { λ r. ⌜ r ≡ length (decimalDigits n) ⌝ }
 {
-    let mut count = 1;
-    let mut rest = n;
-    while 10 <= rest {
-        rest /= 10;
-        count += 1;
+    if n < 10000 {
+        if n < 100 {
+            return if n < 10 { 1 } else { 2 };
+        }
+        return if n < 1000 { 3 } else { 4 };
     }
-    count
+    if n < 1000000 {
+        return if n < 100000 { 5 } else { 6 };
+    }
+    if n < 10000000 { 7 } else { 8 }
+}
+
+// Returns how many digits `n` has.
+fn digit_count(n: u64) -> usize
+    requires { ⌜ n ≤ numberBound ⌝ }
+    ensures { λ r. ⌜ r ≡ length (decimalDigits n) ⌝ }
+{
+    if n < 100000000 {
+        return few_digits(n);
+    }
+    8 + few_digits(n / 100000000)
 }
 
 // Writes the digits of `n`, of which there are `count`, from index `at` on.

@@ -1,34 +1,26 @@
--- `digit_count`: each turn takes one digit off.
-use mathlib.Core.Path.{_≡_, ap}
-use Prim.Native.Nat.{_+_, _≤_}
+-- `digit_count` meets its contract: the last eight digits, and those before them.
 use native.Mathlib.Omega.{arith}
-use lib.ListN.{length}
-use Rattle.numeral.specs.Decimal.{decimalDigits}
-use Rattle.numeral.proofs.Decimals.{digits-small, length-step}
+use Prim.Native.Nat.{_/_}
+use Rattle.numeral.proofs.Decimals.{length-split, length-within}
+use borrow.Author.Needs.{needs}
 use Rattle.numeral.proofs.decimal.digit_count.Statement.{statement}
 use Rattle.numeral.proofs.decimal.digit_count.Tie as tie
 
-abbrev Inv-loop : tie.InvT-loop
-Inv-loop n count₀ rest₀ count rest = (length (decimalDigits n) + 1 ≡ count + length (decimalDigits rest)) × (count + rest ≤ n + 1)
+few-digits-requires : tie.Need-few-digits-requires
+few-digits-requires c κs = search needs
 
-abbrev μ-loop : tie.MeasureT-loop
-μ-loop n count₀ rest₀ count rest = rest
+returns : tie.Need-returns
+returns c = search needs
 
-loop-holds : tie.Need-loop-holds Inv-loop μ-loop
-loop-holds c = omega arith
+few-digits-requires-2 : tie.Need-few-digits-requires-2
+few-digits-requires-2 c κs = search needs
 
-add-count : tie.Need-add-count Inv-loop μ-loop
-add-count c = omega arith
+add-result : tie.Need-add-result
+add-result c = omega (arith, length-within 7 (c .before .before .args .n / 100000000) (omega arith))
 
-loop-less : tie.Need-loop-less Inv-loop μ-loop
-loop-less c = omega arith
-
-loop-again : tie.Need-loop-again Inv-loop μ-loop
-loop-again c = omega (arith, length-step (c .before .loop .rest) (omega arith))
-
-returns : tie.Need-returns Inv-loop μ-loop
-returns c = omega (arith, ap length (digits-small (c .before .loop .rest) (omega arith)))
+returns-2 : tie.Need-returns-2
+returns-2 c = omega (arith, length-split 8 (c .before .before .args .n) (omega arith))
 
 pub digit-count-spec : {M : Type 1} → statement M
 digit-count-spec =
-    tie.close (tie.spec Inv-loop μ-loop loop-holds add-count loop-less loop-again returns)
+    tie.close (tie.spec few-digits-requires returns few-digits-requires-2 add-result returns-2)
