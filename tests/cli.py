@@ -3,7 +3,7 @@
 
     tests/cli.py [--program FILE] [--random N] [--seed S] [--large] [NAME..]
 
-The program is ./flowawk, or FILE. The cases run in a temporary directory; with names, only those whose names contain one. Then N (default 300) random filters and lines, from the
+The program is ./flowawk, or FILE. The cases run in a temporary directory; with names, only those whose names contain one. Then N (default 300) random filters, images and lines, from the
 seed S (default 1), are compared with the reference of tests/reference and the model of the messages in tests/program_cases.py. --large adds the cases that need 2 GiB of
 memory: lines that don't fit, and an output room that is full. The status is 1 if a case fails.
 """
@@ -470,17 +470,55 @@ SPECIAL = [full_disk, closed_output, closed_output_unused, closed_errors, closed
 LARGE = [large_lines, large_output]
 
 
-# ---- random filters and lines, against the reference
+# ---- random filters, images and lines, against the reference
 
-def drawn(r):
-    """A random filter, lines and a budget, and what the program does with them."""
+def joined(files):
+    """The lines of files: a newline where one that isn't empty lacks its last."""
+    lines = b''
+    for content in files:
+        if lines and not lines.endswith(b'\n'):
+            lines += b'\n'
+        lines += content
+    return lines
+
+
+def run_of(image, lines, budget):
+    outcome, steps, records, output = reference.run(image, lines, ROOM, budget)
+    return outcome, output, summary(outcome, records, steps, len(output))
+
+
+def drawn_filter(r, directory):
+    """A random filter over random files, of which the first is standard input: words, standard input, and what is expected."""
     text = gen.filter_text(r).replace(b'\0', b'\1')
-    lines, budget = gen.lines(r), r.choice([0, 1, 10, 100, 2000, 2000])
+    files, budget = [gen.lines(r) for _ in range(r.choice([1, 1, 2, 3]))], r.choice([0, 1, 10, 100, 2000, 2000])
+    names = []
+    for k, content in enumerate(files[1:]):
+        names.append('random%d' % k)
+        with open(os.path.join(directory, names[-1]), 'wb') as f:
+            f.write(content)
+    words = ['-s', '-b', str(budget), '--', text] + (['-'] + names if names else [])
     outcome, place, image = reference.translate(text)
     if outcome:
-        return text, lines, budget, (outcome, b'', program_cases.refusal(b'filter', text, place, outcome))
-    outcome, steps, records, output = reference.run(image, lines, ROOM, budget)
-    return text, lines, budget, (outcome, output, summary(outcome, records, steps, len(output)))
+        return words, files[0], (outcome, b'', program_cases.refusal(b'filter', text, place, outcome))
+    return words, files[0], run_of(image, joined(files), budget)
+
+
+def drawn_image(r, directory):
+    """A random image, often a damaged one: checked, read or run."""
+    image, lines, budget = gen.image(r, reference.translate), gen.lines(r), r.choice([0, 10, 1000])
+    with open(os.path.join(directory, 'random.img'), 'wb') as f:
+        f.write(image)
+    option = r.choice(['--check', '--content', '-i'])
+    outcome, content = reference.read_image(image)
+    if option != '--content' and not outcome:
+        outcome = reference.check(image)
+    if outcome:
+        return [option, 'random.img'], lines, (outcome, b'', image_refusal(b'random.img', outcome))
+    if option == '--check':
+        return [option, 'random.img'], lines, (0, b'', b'')
+    if option == '--content':
+        return [option, 'random.img'], lines, (0, b''.join(b'%d\n' % w for w in content), b'')
+    return ['-s', '-b', str(budget), '-i', 'random.img'], lines, run_of(image, lines, budget)
 
 
 def random_cases(program, directory, count, seed):
@@ -488,13 +526,13 @@ def random_cases(program, directory, count, seed):
     r = random.Random(seed)
     outcomes, wrong = {}, []
     for _ in range(count):
-        text, lines, budget, expected = drawn(r)
+        words, stdin, expected = r.choice([drawn_filter, drawn_filter, drawn_image])(r, directory)
         outcomes[expected[0]] = outcomes.get(expected[0], 0) + 1
-        done = subprocess.run([program, '-s', '-b', str(budget), '--', text], cwd=directory, input=lines, stdout=subprocess.PIPE, stderr=subprocess.PIPE, timeout=SECONDS)
+        done = subprocess.run([program] + words, cwd=directory, input=stdin, stdout=subprocess.PIPE, stderr=subprocess.PIPE, timeout=SECONDS)
         got = (done.returncode, done.stdout, done.stderr)
         if got != expected:
-            wrong.append('random: %r on %r, budget %d: expected %r, got %r' % (text, lines, budget, expected, got))
-    print('%d random cases, seed %d; outcomes: %s' % (count, seed, ', '.join('%d: %d' % pair for pair in sorted(outcomes.items()))))
+            wrong.append('random: %r on %r: expected %r, got %r' % (words, stdin, expected, got))
+    print('%d random cases, seed %d, %d failed; outcomes: %s' % (count, seed, len(wrong), ', '.join('%d: %d' % pair for pair in sorted(outcomes.items()))))
     return wrong[:10]
 
 
