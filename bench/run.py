@@ -128,4 +128,5 @@ def main():
         bench.growth(flows, options.lines)
 
 
-main()
+if __name__ == '__main__':
+    main()
