@@ -545,6 +545,7 @@ def main():
     parser.add_argument('names', nargs='*')
     options = parser.parse_args()
     program = os.path.abspath(options.program)
+    subprocess.run([program, '-V'], stdout=subprocess.DEVNULL, check=True)
     jobs = [(c.name, c.wrong) for c in cases()] + [(f.__doc__, f) for f in SPECIAL + (LARGE if options.large else [])]
     jobs = [(name, job) for name, job in jobs if not options.names or any(part in name for part in options.names)]
     failed = []

@@ -334,6 +334,7 @@ def main():
     parser.add_argument('documents', nargs='*')
     options = parser.parse_args()
     program = os.path.abspath(options.program)
+    subprocess.run([program, '-V'], stdout=subprocess.DEVNULL, check=True)
     failed = 0
     for name in options.documents or DOCUMENTS:
         count, mistakes = run_document(name, program, options.table)
