@@ -12,10 +12,3 @@ pub use reading::Filled;
 pub use reading::fill;
 pub use words::read_words;
 pub use writing::write_whole;
-
-// The statuses besides the outcomes: bad usage, no input, input or output that failed.
-pub const USAGE: i32 = 64;
-
-pub const NO_INPUT: i32 = 66;
-
-pub const IO_FAILED: i32 = 74;

@@ -1,7 +1,7 @@
 // The words of a command line to a choice: which options are given, with which words, and what is to be done.
-mod actions;
+pub mod actions;
 mod budgets;
-mod options;
+pub mod options;
 
 pub use actions::Action;
 pub use actions::asked_action;

@@ -1,0 +1,3 @@
+-- What the contracts on choices cite.
+pub mod Choices
+pub mod Statuses

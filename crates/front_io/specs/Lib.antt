@@ -1,0 +1,2 @@
+-- What the contracts on input and output cite.
+pub mod Loading

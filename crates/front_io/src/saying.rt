@@ -1,0 +1,106 @@
+// What the program writes: its results to standard output, and what it says to standard error.
+ghost use Prim.Native.Nat.{_≤_};
+ghost use Rattle.front_io.specs.Loading.{MOST};
+use libc::STDERR_FILENO;
+use libc::STDOUT_FILENO;
+
+// Writes a text to standard error.
+pub fn say(text: &[u8]) {
+    front_files::write_whole(STDERR_FILENO, text);
+}
+
+// Says why the last call of the system failed, in the system's words, and on what.
+pub fn fail(name: &[u8]) {
+    if 4096 < name.len() {
+        os::fail(b"flowawk");
+        return;
+    }
+    let mut room = io::large_buffer();
+    let a = front_messages::put_text(&mut room, 0, b"flowawk: ");
+    let n = front_messages::put_text(&mut room, a, name);
+    if n <= 65536 {
+        os::fail(&room[0..n]);
+    }
+}
+
+// Writes bytes to standard output, all of them, and returns the status.
+pub fn print(bytes: &[u8]) -> u64
+    ensures { λ r. ⌜ r ≤ MOST ⌝ }
+{
+    if front_files::write_whole(STDOUT_FILENO, bytes) {
+        return 0;
+    }
+    fail(b"standard output");
+    front_choices::IO_FAILED
+}
+
+// Says why a filter is refused: the place, the outcome, the line and a caret under the place.
+pub fn refuse_filter(name: &[u8], text: &[u8], place: usize, outcome: u64) {
+    if 4096 < name.len() {
+        return;
+    }
+    if 4294967295 < text.len() {
+        return;
+    }
+    if text.len() < place {
+        return;
+    }
+    let mut room = io::large_buffer();
+    let n = front_messages::put_refusal(&mut room, name, text, place, outcome);
+    if n <= 65536 {
+        say(&room[0..n]);
+    }
+}
+
+// Says why an image is refused.
+pub fn refuse_image(name: &[u8], outcome: u64) {
+    if 4096 < name.len() {
+        return;
+    }
+    let mut room = io::large_buffer();
+    let n = front_messages::put_image_refusal(&mut room, name, outcome);
+    if n <= 65536 {
+        say(&room[0..n]);
+    }
+}
+
+// Says how a run ended, with its counts.
+pub fn summarize(outcome: u64, records: u64, steps: u64, bytes: u64) {
+    let mut room = io::large_buffer();
+    let n = front_messages::put_summary(&mut room, outcome, records, steps, bytes);
+    if n <= 65536 {
+        say(&room[0..n]);
+    }
+}
+
+// Says that input does not fit its room, and how many bytes the room has.
+pub fn refuse_size(size: usize) {
+    let mut room = io::large_buffer();
+    let a = front_messages::put_text(
+        &mut room,
+        0,
+        b"flowawk: the input does not fit the room of ",
+    );
+    let b = front_messages::put_decimal(&mut room, a, size as u64);
+    let n = front_messages::put_text(&mut room, b, b" bytes\n");
+    if n <= 65536 {
+        say(&room[0..n]);
+    }
+}
+
+// Says what is wrong with a word of the command line.
+pub fn refuse_word(word: &[u8], reason: &[u8]) {
+    if 4096 < word.len() {
+        return;
+    }
+    if 4096 < reason.len() {
+        return;
+    }
+    let mut room = io::large_buffer();
+    let a = front_messages::put_text(&mut room, 0, b"flowawk: ");
+    let b = front_messages::put_text(&mut room, a, word);
+    let c = front_messages::put_text(&mut room, b, reason);
+    if c <= 65536 {
+        say(&room[0..c]);
+    }
+}
