@@ -50,7 +50,7 @@ word-both o p r =
 
 -- ---- sets
 
-three : {a b c x y z : ℕ} → a ≡ x → b ≡ y → c ≡ z → _≡_ {A = List ℕ} (a ∷ b ∷ c ∷ []) (x ∷ y ∷ z ∷ [])
+pub three : {a b c x y z : ℕ} → a ≡ x → b ≡ y → c ≡ z → _≡_ {A = List ℕ} (a ∷ b ∷ c ∷ []) (x ∷ y ∷ z ∷ [])
 three p q r = cc
 
 join-left : (o p r : List ℕ) → join (join o r) p ≡ join (join o p) r
@@ -58,7 +58,7 @@ join-left o p r =
     three (word-left (getD o 0 0) (getD p 0 0) _) (word-left (getD o 1 0) (getD p 1 0) _)
     (word-left (getD o 2 0) (getD p 2 0) _)
 
-join-right : (o p r : List ℕ) → join o (join p r) ≡ join (join o p) r
+pub join-right : (o p r : List ℕ) → join o (join p r) ≡ join (join o p) r
 join-right o p r =
     three (word-right (getD o 0 0) (getD p 0 0) _) (word-right (getD o 1 0) (getD p 1 0) _)
     (word-right (getD o 2 0) (getD p 2 0) _)
@@ -67,6 +67,15 @@ join-both : (o p r : List ℕ) → join (join o r) (join p r) ≡ join (join o p
 join-both o p r =
     three (word-both (getD o 0 0) (getD p 0 0) _) (word-both (getD o 1 0) (getD p 1 0) _)
     (word-both (getD o 2 0) (getD p 2 0) _)
+
+pub join-comm : (o p : List ℕ) → join o p ≡ join p o
+join-comm o p =
+    three (or-comm (getD o 0 0) (getD p 0 0)) (or-comm (getD o 1 0) (getD p 1 0)) (or-comm (getD o 2 0) (getD p 2 0))
+
+-- the same again
+pub join-self : (o p : List ℕ) → join p (join o o) ≡ join p o
+join-self o p =
+    ap (join p) (three (or-self (getD o 0 0)) (or-self (getD o 1 0)) (or-self (getD o 2 0)))
 
 -- nothing more
 pub join-none : (r : List ℕ) → join noPlace r ≡ getD r 0 0 ∷ getD r 1 0 ∷ getD r 2 0 ∷ []

@@ -48,7 +48,7 @@ module _ (d x : List ℕ) (bytes : (k : ℕ) → getD x k 0 < 256) where
   left-skipped i s r e h K L t D =
       let z : D .sets s ≡ collapsed (row t 1) = ap (D .sets) e ∙ D .later in
       ap (λ (u : List ℕ). walk t u (drop r x)) z
-      ∙ sym (skipped t d (D .hull h) x bytes i r K)
+      ∙ sym (skipped t d (D .hull) x bytes i r K)
       ∙ ap (λ (u : List ℕ). walk t u (drop i x)) (sym z)
       ∙ L t D
 

@@ -6,3 +6,4 @@ pub mod Ranging
 pub mod Skips
 pub mod States
 pub mod Left
+pub mod Spent

@@ -3,7 +3,7 @@ use mathlib.Core.Path.{_≡_, sym, ap, ap₂, _∙_}
 use mathlib.Core.Bool.{Bool, false, cond}
 use mathlib.Core.List.{List}
 use Prim.Native.Nat.{ℕ, zero, suc, _+_, _-_, _*_, _≤_, _<_}
-use native.Mathlib.Nat.{le-div-iff-mul-le, mul-comm, mul-suc, mul-le-mul-left}
+use native.Mathlib.Nat.{add-zero, add-suc, le-div-iff-mul-le, mul-comm, mul-suc, mul-le-mul-left}
 use native.Mathlib.Omega.{arith}
 use lib.ListN.{length, getD}
 use lib.Dec.{eqb}
@@ -59,6 +59,14 @@ module _ (d x : List ℕ) where
       let z : i + 1 - from ≡ suc (i - from) = omega arith in
       let w : i ≡ from + (i - from) = omega arith in
       ap₂ (λ (a b : ℕ). nextIn d a (getD x b 0)) e w ∙ ap (runs d x from s) (sym z)
+
+  -- one after the other
+  pub runs-add : (i s m n : ℕ) → runs d x (i + m) (runs d x i s m) n ≡ runs d x i s (m + n)
+  unfolding runs
+  runs-add i s m zero = ap (runs d x i s) (sym (add-zero m))
+  runs-add i s m (suc n) =
+      let z : i + m + n ≡ i + (m + n) = omega arith in
+      ap₂ (λ (q k : ℕ). nextIn d q (getD x k 0)) (runs-add i s m n) z ∙ ap (runs d x i s) (sym (add-suc m n))
 
   pub runs-count : (i s m n : ℕ) {r : ℕ} → r ≡ runs d x i s m → m ≡ n → r ≡ runs d x i s n
   runs-count i s m n e h = e ∙ ap (runs d x i s) h

@@ -2,14 +2,14 @@
 use mathlib.Core.Path.{_≡_}
 use mathlib.Core.Bool.{Bool, true, false, not, _&&_}
 use mathlib.Core.List.{List}
-use Prim.Native.Nat.{ℕ, _+_, _-_, _≤_, _<_}
+use Prim.Native.Nat.{ℕ, suc, _+_, _-_, _≤_, _<_}
 use lib.ListN.{length, getD}
 use lib.Dec.{eqb, leb}
 use Rattle.ere_table.specs.Table.{row, noPlace}
 use Rattle.ere_table.specs.Wiring.{stopIn}
 use Rattle.ere_search.specs.Walk.{step}
-use Rattle.ere_automaton.specs.Sets.{collapsed, after}
-use Rattle.ere_automaton.specs.Layout.{classCount, firstState, laterState, acceptedState, pairsWord, skipsWord}
+use Rattle.ere_automaton.specs.Sets.{collapsed, after, spent}
+use Rattle.ere_automaton.specs.Layout.{classCount, firstState, laterState, acceptedState, pairsWord, reachWord}
 use Rattle.ere_automaton.specs.Layout.{rowsAt, classIn, State, nextIn, pairIn, endWord}
 
 -- each word that is a state is one, each class has its words
@@ -39,6 +39,8 @@ pub record Hull (t d : List ℕ) : Type 0 where
   pub first : (b : ℕ) → b < 256 → firstByte d b ≡ false → step t (row t 1) b ≡ noPlace
   pub second : (b c : ℕ) → b < 256 → c < 256 → secondByte d c ≡ false → step t (step t (row t 1) b) c ≡ noPlace
   pub none-ends : (b c : ℕ) → b < 256 → c < 256 → secondByte d c ≡ false → stopIn (step t (row t 1) b) false ≡ false
+  -- each match ends at the text's end, and has fewer bytes than the word says
+  pub reach : (n : ℕ) → reachWord d ≡ suc n → (spent t (suc n) (row t 0)) × (spent t (suc n) (row t 1))
 
 -- each state stands for a set, and each entry for the step of that set
 pub record Drives (t d : List ℕ) : Type 0 where
@@ -51,4 +53,4 @@ pub record Drives (t d : List ℕ) : Type 0 where
   pub ends : (q : ℕ) → State d q → not (eqb (endWord d q) 0) ≡ stopIn (sets q) true
   -- where a match may end before the text's end, it may at it
   pub fair : (q : ℕ) → State d q → stopIn (sets q) false ≡ true → stopIn (sets q) true ≡ true
-  pub hull : eqb (skipsWord d) 0 ≡ false → Hull t d
+  pub hull : Hull t d

@@ -30,6 +30,10 @@ pairsWord d = getD d 4 0
 abbrev pub skipsWord : List ℕ → ℕ
 skipsWord d = getD d 5 0
 
+-- 0, or one more than the bytes of the longest match, where each match ends at the text's end
+abbrev pub reachWord : List ℕ → ℕ
+reachWord d = getD d 14 0
+
 abbrev pub classesAt : ℕ
 classesAt = 16
 

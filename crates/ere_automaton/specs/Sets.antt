@@ -1,8 +1,9 @@
 -- Internal: cited by private contracts only. One walk over a text for all starts of a match: the set of what may come
 -- next, a match that starts there included.
+use mathlib.Core.Path.{_≡_}
 use mathlib.Core.Bool.{Bool, true, false, cond}
 use mathlib.Core.List.{List, [], _∷_}
-use Prim.Native.Nat.{ℕ, _+_, _-_, _≤_, _<_}
+use Prim.Native.Nat.{ℕ, zero, suc, _+_, _-_, _≤_, _<_}
 use lib.ListN.{getD}
 use Rattle.ere_table.specs.Table.{row, join}
 use Rattle.ere_table.specs.Wiring.{stopIn}
@@ -24,3 +25,8 @@ walk t s (b ∷ l) = walk t (after t s b) l
 -- there is a match, by where the walk ends
 abbrev pub answer : List ℕ → List ℕ → List ℕ → Bool
 answer t s l = stopIn (walk t s l) true
+
+-- after n bytes nothing is left of what may come next, and no match has ended before them
+unfoldable pub spent : List ℕ → ℕ → List ℕ → Type 0
+spent t zero s = (getD s 0 0 ≡ 0) × (getD s 1 0 ≡ 0) × (getD s 2 0 ≡ 0)
+spent t (suc n) s = (stopIn s false ≡ false) × ((b : ℕ) → b < 256 → spent t n (step t s b))

@@ -2,11 +2,11 @@
 ghost use mathlib.Core.Path.{_≡_};
 ghost use mathlib.Core.Bool.{not};
 ghost use mathlib.Core.List.{List};
-ghost use Prim.Native.Nat.{ℕ, _+_, _≤_, _<_, _^_};
+ghost use Prim.Native.Nat.{ℕ, _+_, _-_, _≤_, _<_, _^_};
 ghost use lib.ListN.{length};
 ghost use lib.Dec.{eqb};
 ghost use Rattle.ere_search.specs.Any.{Exists};
-ghost use Rattle.ere_automaton.specs.Layout.{pairsWord, rowsAt};
+ghost use Rattle.ere_automaton.specs.Layout.{laterState, pairsWord, rowsAt};
 ghost use Rattle.ere_automaton.specs.Automaton.{Ranged, Drives};
 ghost use Rattle.ere_automaton.specs.Scan.{Ready, runs, rangesOf, Skipped, NearEnd};
 use crate::blocks;
@@ -48,8 +48,8 @@ fn near_end(d: &[u16], x: &[u8], i: usize) -> usize
     i
 }
 
-// Tells whether a match is in the text.
-pub fn exists(d: &[u16], text: &[u8]) -> bool
+// Tells whether a match is in the text, by a walk over all of it.
+fn search(d: &[u16], text: &[u8]) -> bool
     requires { ⌜ Ranged (now d) × (length (now text) < 2 ^ 63) ⌝ }
     ensures { λ r. ⌜ ((t : List ℕ) → Drives t (now (d .entry)) → Exists t (now (text .entry)) r) ⌝ }
 {
@@ -81,4 +81,32 @@ pub fn exists(d: &[u16], text: &[u8]) -> bool
     }
     s = blocks::by_bytes(d, text, i, text.len(), s);
     d[s + k] != 0
+}
+
+// Returns the state after the bytes from i on, from where nothing is pending.
+fn to_end(d: &[u16], x: &[u8], i: usize) -> usize
+    requires { ⌜ (Ranged (now d)) × (length (now x) < 2 ^ 63) × (i ≤ length (now x)) ⌝ }
+    ensures { λ r. ⌜ r
+        ≡ runs (now (d .entry)) (now (x .entry)) i (laterState (now (d .entry))) (length (now (x .entry)) - i) ⌝ }
+{
+    let mut s = d[layout::LATER] as usize;
+    let mut from = i;
+    if d[layout::PAIRS] != 0 {
+        from = x.len() - (x.len() - i) % 2;
+        s = blocks::pairs_to(d, d[layout::CLASS_COUNT] as usize, x, i, from, s);
+    }
+    blocks::by_bytes(d, x, from, x.len(), s)
+}
+
+// Tells whether a match is in the text: by its last bytes, if each match ends there and has no more.
+pub fn exists(d: &[u16], text: &[u8]) -> bool
+    requires { ⌜ Ranged (now d) × (length (now text) < 2 ^ 63) ⌝ }
+    ensures { λ r. ⌜ ((t : List ℕ) → Drives t (now (d .entry)) → Exists t (now (text .entry)) r) ⌝ }
+{
+    let reach = d[layout::REACH] as usize;
+    if (0 < reach) & (reach <= text.len()) {
+        let s = to_end(d, text, text.len() + 1 - reach);
+        return d[s + d[layout::CLASS_COUNT] as usize] != 0;
+    }
+    search(d, text)
 }

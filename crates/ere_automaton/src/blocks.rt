@@ -1,7 +1,7 @@
 // Blocks of 16 bytes.
 ghost use mathlib.Core.Path.{_≡_};
 ghost use mathlib.Core.Bool.{false, _||_};
-ghost use Prim.Native.Nat.{_+_, _-_, _≤_, _<_, _^_};
+ghost use Prim.Native.Nat.{_+_, _-_, _%_, _≤_, _<_, _^_};
 ghost use lib.ListN.{length};
 ghost use lib.Dec.{eqb};
 ghost use Rattle.ere_automaton.specs.Layout.{State, pairsWord, pairIn};
@@ -82,6 +82,21 @@ pub fn by_pairs(d: &[u16], k: usize, x: &[u8], i: usize, state: usize) -> usize
     while j < BLOCK {
         s = pair(d, k, s, x[i + j], x[i + j + 1]);
         j += 2;
+    }
+    s
+}
+
+// Returns the state after the bytes from `from` to `end`, an even number, two at a time.
+pub fn pairs_to(d: &[u16], k: usize, x: &[u8], from: usize, end: usize, state: usize) -> usize
+    requires { ⌜ (Ready (now d) k state) × (eqb (pairsWord (now d)) 0 ≡ false) × (from ≤ end)
+        × ((end - from) % 2 ≡ 0) × (end ≤ length (now x)) ⌝ }
+    ensures { λ r. ⌜ r ≡ runs (now (d .entry)) (now (x .entry)) from state (end - from) ⌝ }
+{
+    let mut s = state;
+    let mut i = from;
+    while i < end {
+        s = pair(d, k, s, x[i], x[i + 1]);
+        i += 2;
     }
     s
 }

@@ -27,6 +27,8 @@ pub const NEXT_WIDTH: usize = 9;
 pub const LENGTH: usize = 10;
 
 pub const EMPTY: usize = 11;
+// Not 0 if each match ends at the text's end: one more than the bytes of the longest.
+pub const REACH: usize = 14;
 // Where the classes of the bytes start.
 pub const CLASSES: usize = 16;
 

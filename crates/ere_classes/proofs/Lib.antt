@@ -2,3 +2,4 @@
 pub mod Columns
 pub mod Framed
 pub mod Bounded
+pub mod Reaching

@@ -12,6 +12,7 @@ ghost use Rattle.ere_classes.specs.Column.{Classified};
 ghost use Rattle.ere_classes.specs.Bounds.{Keeps, Led, Follows, SecondsOf, Below64, Range, PutHull};
 use crate::layout;
 use crate::layout::CLASSES;
+use crate::reach;
 use crate::sets;
 use ere_table::PLACES;
 
@@ -125,7 +126,7 @@ fn put_range(d: &mut [u16], at: usize, set: u64) -> usize
     high - low
 }
 
-// Stores both ranges, and whether to look at them.
+// Stores both ranges, and whether to look at them; and how far matches reach.
 pub fn put_hull(t: &[u64], bytes: &[u8], k: usize, d: &mut [u16])
     requires { ⌜ (length (now t) ≡ tableWords) × (k ≤ length (now bytes)) × (rowsAt ≤ length (now d))
         × (Classified (now t) (now bytes) k (now d)) ⌝ }
@@ -135,4 +136,5 @@ pub fn put_hull(t: &[u64], bytes: &[u8], k: usize, d: &mut [u16])
     let n = put_range(d, layout::LOW, firsts);
     let m = put_range(d, layout::NEXT_LOW, seconds(t, bytes, k));
     d[layout::SKIPS] = if n * m <= 16384 { 1 } else { 0 };
+    d[layout::REACH] = reach::reach(t, bytes, k) as u16;
 }

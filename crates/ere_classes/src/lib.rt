@@ -3,6 +3,7 @@
 mod classes;
 mod hull;
 mod layout;
+mod reach;
 mod sets;
 
 pub use classes::put_classes;

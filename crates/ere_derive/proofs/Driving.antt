@@ -224,7 +224,7 @@ module _ (mode : ℕ) (t bytes : List ℕ) (k : ℕ) (a : List ℕ) (n stride pa
   }
 
   pub built-hull : Hull t D
-  built-hull = hull-on D (λ i l m. at i (omega arith)) (B .hull)
+  built-hull = hull-on D (λ i l m. at i (omega arith)) (at 14 (omega arith)) (B .hull)
 
 -- ---- from the pieces
 
@@ -275,7 +275,7 @@ module _ (mode : ℕ) (t bytes : List ℕ) (k : ℕ) (a₀ a : List ℕ) (most n
     composed = composed;
     fair = R .grows l .fair (G .fair l₀);
     classes = classified-on d3 (λ b h. kept (16 + b) (omega arith) (omega arith)) C;
-    hull = hull-on d3 (λ i g h. kept i (omega arith) (omega arith)) H;
+    hull = hull-on d3 (λ i g h. kept i (omega arith) (omega arith)) (kept 14 (omega arith) (omega arith)) H;
   }
 
   pub attempted : Attempted mode t d (rowsAt + stride * n) d3
@@ -300,7 +300,7 @@ module _ (mode : ℕ) (t bytes : List ℕ) (k m : ℕ) (d : List ℕ) (h : rowsA
   front-classified = classified-on (take m d) (λ b g. getD-take m d (16 + b) 0 (omega arith))
 
   pub front-hull : Hull t d → Hull t (take m d)
-  front-hull = hull-on (take m d) (λ i g o. getD-take m d i 0 (omega arith))
+  front-hull = hull-on (take m d) (λ i g o. getD-take m d i 0 (omega arith)) (getD-take m d 14 0 (omega arith))
 
   pub front-attempted : (r : ℕ) (f : List ℕ) → Attempted mode t (take m d) r f → Attempted mode t d r (f ++ drop m d)
   front-attempted r f A = record {

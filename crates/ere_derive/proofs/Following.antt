@@ -98,7 +98,7 @@ follows-drives F H = record {
   steps = F .steps;
   ends = λ q s. marks-end (F .sets q) _ (F .marks q s) (F .fair q s);
   fair = λ q s. marks-fair (F .sets q) _ (F .marks q s) (F .fair q s);
-  hull = λ h. H;
+  hull = H;
 }
 
 pub derived-all : {t d d' : List ℕ} {r : ℕ} → DerivedBy 0 t d r d' → Derived t d r d'

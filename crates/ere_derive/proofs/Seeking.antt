@@ -272,6 +272,7 @@ module _ (t d : List ℕ) (n : ℕ) (d1 : List ℕ) (D : DerivedBy 1 t d n d1) (
             seeks-both t (take n d2) (take m f) n front2 one-long (word2 10 (omega arith) ∙ H .size)
             (follows-one t (follows-on (take n d1) (take n d2) front-frame (D .follows some)))
             (follows-pending t (E .follows more))
-            (hull-on (take n d2) (λ i g h. front-frame .below i (omega arith)) (D .hull some))
+            (hull-on (take n d2) (λ i g h. front-frame .below i (omega arith)) (front-frame .above 14 (omega arith))
+            (D .hull some))
             (E .hull more) N
             (word2 11 (omega arith) ∙ H .empty-first) (word2 12 (omega arith) ∙ H .empty-later)

@@ -1,7 +1,7 @@
 use Prim.Native.Nat.{ℕ, _+_}
 use mathlib.Core.Path.{sym, ap, _∙_}
 use native.Mathlib.Omega.{arith}
-use lib.ListN.{length-set, getD}
+use lib.ListN.{set, length-set, getD}
 use mathlib.Core.List.{List}
 use native.Mathlib.Nat.{mul-le-mul}
 use Rattle.ere_search.specs.Walk.{step}
@@ -35,15 +35,34 @@ mul-if1 c = let z = mul-le-mul (c .before .before .before .before .before .befor
 slice-write-d : tie.Need-slice-write-d
 slice-write-d c = search needs
 
+reach-requires : tie.Need-reach-requires
+reach-requires c κs = search needs
+
+cast-d : tie.Need-cast-d
+cast-d c = omega (arith, c .reach .ensures .0)
+
+slice-write-d-2 : tie.Need-slice-write-d-2
+slice-write-d-2 c = simp length-set (omega (arith, c .before .before .before .before .before .before .before .before .before .before .before .before .before .before .before .before .pre .2, c .before .before .before .before .before .before .before .before .before .put-range .ensures .frame .size, c .before .before .before .before .put-range2 .ensures .frame .size))
+
 same-length : tie.Need-same-length
-same-length c = length-set (c .before .before .before .put-range2 .last .0) 5 (c .if1 .d) ∙ c .before .before .before .put-range2 .ensures .frame .size ∙ c .before .before .before .before .before .before .before .before .put-range .ensures .frame .size
+same-length c =
+    let last = c .before .before .before .before .put-range2 .last .0 in
+    length-set (set last 5 (c .before .if1 .d)) 14 (c .reach .result)
+    ∙ length-set last 5 (c .before .if1 .d)
+    ∙ c .before .before .before .before .put-range2 .ensures .frame .size
+    ∙ c .before .before .before .before .before .before .before .before .before .put-range .ensures .frame .size
 
 returns : tie.Need-returns
 returns c =
-    let a = c .before .before .before .before .before .before .before .before .before .before .before .before .before .before .before .args in
-    hull-put (a .t .now) (a .bytes .now) (a .k) (a .d .now) (c .before .before .before .before .before .before .before .before .before .before .led .result) (c .before .before .before .before .seconds .result) _ _ _ _ (c .before .before .before .before .before .before .before .before .before .before .before .before .before .before .before .pre .3)
-    (λ x h f. ap (λ (s : List ℕ). step (a .t .now) s (getD (a .bytes .now) x 0)) (sym (c .before .before .before .before .before .before .before .before .before .before .before .set-at .ensures)) ∙ c .before .before .before .before .before .before .before .before .before .before .led .ensures .none x h f)
-    (c .before .before .before .before .seconds .ensures) (c .before .before .before .before .before .before .before .before .put-range .ensures) (c .before .before .before .put-range2 .ensures) (c .if1 .d)
+    let e = c .before .before .before .before .before .before .before .before .before .before .before .before .before .before .before .before .args in
+    let t = e .t .now in
+    let bytes = e .bytes .now in
+    let d = e .d .now in
+    let C = c .before .before .before .before .before .before .before .before .before .before .before .before .before .before .before .before .pre .3 in
+    hull-put t bytes (e .k) d (c .before .before .before .before .before .before .before .before .before .before .before .led .result) (c .before .before .before .before .before .seconds .result) _ _ _ _ C
+    (λ x h f. ap (λ (s : List ℕ). step t s (getD bytes x 0)) (sym (c .before .before .before .before .before .before .before .before .before .before .before .before .set-at .ensures)) ∙ c .before .before .before .before .before .before .before .before .before .before .before .led .ensures .none x h f)
+    (c .before .before .before .before .before .seconds .ensures) (c .before .before .before .before .before .before .before .before .before .put-range .ensures) (c .before .before .before .before .put-range2 .ensures) (c .before .if1 .d) (c .reach .result) (c .before .before .before .before .before .before .before .before .before .before .before .before .before .before .before .before .pre .2)
+    (c .reach .ensures .1 d C)
 
 pub put-hull-spec : {M : Type 1} → statement M
 put-hull-spec =
@@ -56,5 +75,8 @@ put-hull-spec =
     put-range-requires-2
     mul-if1
     slice-write-d
+    reach-requires
+    cast-d
+    slice-write-d-2
     same-length
     returns)
