@@ -18,7 +18,7 @@ import building
 RANDOM = ['match', 'split', 'images', 'translate', 'run', 'ways']
 # over other archives than capi's
 OTHER_ARCHIVES = ['exists', 'tokens']
-OTHERS = ['frames', 'believe', 'sentences', 'edits']
+OTHERS = ['frames', 'believe', 'sentences', 'documents', 'edits']
 # over the program ./flowawk, which they build if it is missing
 PROGRAM = ['cli', 'install']
 COMPUTED = ['semantics', 'translation', 'grammar', 'wrong_definitions', 'wrong_grammar']

@@ -118,7 +118,7 @@ CHAPTERS = [
       ('program_levels', ['Levels'])]),
     ('Translation', 'From a tree to code by names, from names to numbers, and the outcomes of a translation.',
      [('program_code', ['Emitted', 'Expressions', 'Sections']), ('program_numbering', ['Names', 'Numbering', 'Sizes']), ('translation', ['Translation']),
-      ('translator', ['Answer'])]),
+      ('program_writer', ['Answer'])]),
     ('What is claimed of the whole', 'Statements of theorems: that texts are read and refused exactly as the grammar says, and demand 3, from bytes. They are proved, so '
      'nobody has to believe them; this is what they say.', [('program_exact', ['Claims']), ('program_says', ['Claims']), ('program_levels', ['Claims']), ('sound', ['Demand'])]),
 ]

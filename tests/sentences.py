@@ -45,14 +45,14 @@ def rows():
 
 @functools.lru_cache(maxsize=None)
 def names_of(crate):
-    """What a crate defines: definitions with their constructors and fields, theorems, functions."""
+    """What a crate defines: definitions with their constructors and fields, theorems, functions, types and constants."""
     found = set()
     for path in glob.glob(os.path.join(ROOT, 'crates', crate, 'specs', '*.antt')) + glob.glob(os.path.join(ROOT, 'crates', crate, 'proofs', '*.antt')):
         text = re.sub(r'(?m)^\s*--.*$', '', read(path))
         found.update(re.findall(r'^\s*(?:(?:abbrev|unfoldable) )*pub (?:data |record )?(%s)' % NAME, text, re.M))
         found.update(name for line in re.findall(r'^ *(?:pub )?((?:%s )+):' % NAME, text, re.M) for name in line.split())
     for path in glob.glob(os.path.join(ROOT, 'crates', crate, 'src', '**', '*.rt'), recursive=True):
-        found.update(re.findall(r'\bfn ([a-z_0-9]+)', read(path)))
+        found.update(re.findall(r'\b(?:fn|const|struct|enum) ([A-Za-z_0-9]+)', read(path)))
     return found
 
 
