@@ -67,15 +67,15 @@ never-longer l r k e =
 answers : (o q p l : ℕ) → o ≡ q → p ≡ l → _≡_ {A = Read Program} (no o p) (no q l)
 answers o q p l e f = rw (e, f)
 
-record Place : Type 0 where
-  before : List Kind
-  token : Token
+pub record Place : Type 0 where
+  pub before : List Kind
+  pub token : Token
 
-abbrev place : List Kind → Token → Place
+abbrev pub place : List Kind → Token → Place
 place l t = record { before = l; token = t }
 
 module _ (edition : ℕ) where
-  viable-more : (l r : List Kind) → Viable edition (l ++ r) → Viable edition l
+  pub viable-more : (l r : List Kind) → Viable edition (l ++ r) → Viable edition l
   viable-more l r v = record { rest = r ++ v .rest; complete = subst (Sentence edition) (append-assoc l r (v .rest)) (v .complete) }
 
   sentence-viable : (l : List Kind) → Sentence edition l → Viable edition l
@@ -108,7 +108,7 @@ module _ (edition : ℕ) where
   print-end n b = rw (quiet-starts edition text-end refl)
 
   -- the text's end is taken at the end alone
-  end-step : (x : State) → (step edition x text-end ≡ none) ⊎ (step edition x text-end ≡ some done)
+  pub end-step : (x : State) → (step edition x text-end ≡ none) ⊎ (step edition x text-end ≡ some done)
   unfolding step itemStep listStep fieldStep primaryStep argumentStep argumentEnd finishedStep among rank
   end-step start = inr refl
   end-step between = inr refl
@@ -175,7 +175,7 @@ module _ (edition : ℕ) where
         (suc (i .0), ap (place (b ++ ((u .kind) ∷ []))) (taken-is (b ++ ((u .kind) ∷ [])) (tokenAfter edition s u) v h) ∙ ap next (i .1))
 
     -- a place is before another
-    abbrev Sooner : Place → Place → Type 0
+    abbrev pub Sooner : Place → Place → Type 0
     Sooner p q = (r : List Kind) × (q .before ≡ ((p .before) ++ ((p .token .kind) ∷ [])) ++ r)
 
     sooner : (n d : ℕ) → Sooner (chain n) (chain (plus d (suc n)))
@@ -187,7 +187,7 @@ module _ (edition : ℕ) where
         let l = (chain n .before) ++ ((chain n .token .kind) ∷ []) in
         ((i .0) ++ ((q .token .kind) ∷ []), ap (λ (x : List Kind). x ++ ((q .token .kind) ∷ [])) (i .1) ∙ append-assoc l (i .0) ((q .token .kind) ∷ []))
 
-    compare : (l m : List Kind) (t u : Token) → Reached edition s l t → Reached edition s m u
+    pub compare : (l m : List Kind) (t u : Token) → Reached edition s l t → Reached edition s m u
         → (place l t ≡ place m u) ⊎ ((Sooner (place l t) (place m u)) ⊎ (Sooner (place m u) (place l t)))
     compare l m t u a b =
         let i = in-chain l t a in
@@ -279,12 +279,12 @@ module _ (edition : ℕ) where
         (λ z. b .stuck (viable-more ((b .before) ++ ((u .kind) ∷ [])) (z .0) (subst (Viable edition) (z .1) (a .viable)))) h))
         (compare (a .before) (b .before) t u (a .reached) (b .reached))
 
-    no-level : (t : Token) → refusedBy t ≡ sizePassed → ⊥
+    pub no-level : (t : Token) → refusedBy t ≡ sizePassed → ⊥
     no-level t =
         by-test (λ (n : ℕ). n ≡ sizePassed → ⊥) (is bad t) badToken (cond (is bad-ere t) badEre misplacedToken) (λ q e. omega (arith, e))
         (λ q. by-test (λ (n : ℕ). n ≡ sizePassed → ⊥) (is bad-ere t) badEre misplacedToken (λ q e. omega (arith, e)) (λ q e. omega (arith, e)))
 
-    answer : (r : Read Program) → readProgram edition s ≡ r → Finishes edition s start (asOperand edition s (tokenAt edition s 0)) r
+    pub answer : (r : Read Program) → readProgram edition s ≡ r → Finishes edition s start (asOperand edition s (tokenAt edition s 0)) r
     answer r e = subst (Finishes edition s start (asOperand edition s (tokenAt edition s 0))) e (program-reads edition s)
 
     -- ---- the claims

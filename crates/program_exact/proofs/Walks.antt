@@ -126,7 +126,7 @@ module _ (edition : ℕ) (s : List ℕ) where
     pub reached : Reached edition s before t
     pub ran : run edition before (some start) ≡ some x
 
-  taken : (l : List Kind) (x : State) (t u : Token) → run edition l (some start) ≡ some x → Next x t u → Taken edition s l t u
+  pub taken : (l : List Kind) (x : State) (t u : Token) → run edition l (some start) ≡ some x → Next x t u → Taken edition s l t u
   unfolding run
   taken l x t u h (read-again y e) = taken-operand (run-viable edition (l ++ (ERE ∷ [])) y (run-append edition l (ERE ∷ []) (some start) ∙ (ap (λ o. stepIn edition o ERE) h ∙ e)))
   taken l x t u h (as-it-is live e) = taken-operator (not-viable edition (l ++ (ERE ∷ [])) (run-append edition l (ERE ∷ []) (some start) ∙ (ap (λ o. stepIn edition o ERE) h ∙ e)))
