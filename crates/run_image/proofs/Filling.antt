@@ -2,7 +2,7 @@
 use mathlib.Core.Path.{_≡_, refl, sym, ap, ap₂, subst, _∙_}
 use mathlib.Core.Bool.{Bool, true, false}
 use mathlib.Core.List.{List, [], _∷_}
-use Prim.Native.Nat.{ℕ, _+_, _-_, _≤_, _<_}
+use Prim.Native.Nat.{ℕ, _+_, _-_, _%_, _≤_, _<_}
 use native.Mathlib.Omega.{arith}
 use lib.ListN.{length, take, getD, set, length-set, length-take, length-drop}
 use borrow.Rule.Slice.PartMut.{putMid, midOf}
@@ -15,17 +15,18 @@ use Rattle.buffer.proofs.Lent.{front-lent, part-came}
 use Rattle.buffer.proofs.Parts.{length-put, getD-put-below, part-put-same, part-put-below, part-put-above, part-part}
 use Rattle.buffer.proofs.Parts.{put-one, length-part}
 use Rattle.ere_meaning.specs.Tree.{Class, Ere}
-use Rattle.ere_automaton.specs.Automaton.{Ranged, Drives}
-use Rattle.ere_derive.specs.Derived.{Derived}
+use Rattle.ere_automaton.specs.Automaton.{Ranged}
+use Rattle.ere_automaton.specs.Follows.{SeekRanged}
 use Rattle.ere.specs.Answer.{Serves}
 use Rattle.semantics.proofs.Tables.{nth-some}
-use Rattle.run_image.specs.Tables.{Readable, IsEre}
-use Rattle.run_image.specs.Automata.{boundCount, boundIn, automatonIn, Bounded, Recognizes, Automata, Pooled}
-use Rattle.run_image.specs.Automata.{Filled}
+use Rattle.run_image.specs.Table.{Readable, IsEre}
+use Rattle.run_image.specs.Automata.{poolSlots, boundCount, boundIn, automatonIn, Bounded, Suits, SuitsEre}
+use Rattle.run_image.specs.Automata.{MadeOf, Automata, Pooled, Filled}
+use Rattle.run_image.proofs.Compiling.{ere-below}
 
 -- ---- an automaton is stored at a place, and its end as bound n + 1
 
-module _ (old d : List ℕ) (n at r : ℕ) (few : n < ereCount) (from : boundCount ≤ at) (fits : at + length d ≡ length old)
+module _ (old d : List ℕ) (n at r : ℕ) (few : n < poolSlots) (from : boundCount ≤ at) (fits : at + length d ≡ length old)
     (room : r ≤ length d) where
   abbrev stored : List ℕ
   stored = set (put old at d) (n + 1) (at + r)
@@ -68,7 +69,7 @@ module _ (old d : List ℕ) (n at r : ℕ) (few : n < ereCount) (from : boundCou
 
 -- ---- the pool is filled for one more
 
-module _ (edition : ℕ) (xs : List (List ℕ)) (old d : List ℕ) (n r : ℕ) (few : n < ereCount)
+module _ (edition : ℕ) (xs : List (List ℕ)) (old d : List ℕ) (n r : ℕ) (few : n < poolSlots)
     (filled : Filled edition xs old n) (fits : boundIn old n + length d ≡ length old) (room : r ≤ length d) where
   abbrev at : ℕ
   at = boundIn old n
@@ -131,21 +132,20 @@ module _ (edition : ℕ) (xs : List (List ℕ)) (old d : List ℕ) (n r : ℕ) (
         room = omega (arith, b .room, size-new);
       }
 
-  module _ (new-one : (e : Ere Class) → IsEre edition xs n e → 0 < r → Recognizes (take r d) e) where
-    recognizes-new : (j : ℕ) (e : Ere Class) → j < n + 1 → IsEre edition xs j e → 0 < length (automatonIn new j)
-        → (b : Bool) → eqb j n ≡ b → Recognizes (automatonIn new j) e
-    recognizes-new j e h i long true g =
+  module _ (new-one : 0 < r → SuitsEre edition xs n (take r d)) where
+    fits-new : (j : ℕ) → j < n + 1 → 0 < length (automatonIn new j) → (b : Bool) → eqb j n ≡ b
+        → SuitsEre edition xs j (automatonIn new j)
+    fits-new j h long true g =
         let same = eqb-true j n g in
-        subst (λ (k : ℕ). Recognizes (automatonIn new k) e) (sym same)
+        subst (λ (k : ℕ). SuitsEre edition xs k (automatonIn new k)) (sym same)
         (rw automaton-new
-        (new-one e (rw same at i)
-        (omega (arith, ap length (ap (automatonIn new) same ∙ automaton-new), length-take-most))))
+        (new-one (omega (arith, ap length (ap (automatonIn new) same ∙ automaton-new), length-take-most))))
       where
         length-take-most : length (take r d) ≤ r
         length-take-most = rw length-take (omega arith)
-    recognizes-new j e h i long false g =
+    fits-new j h long false g =
         let less : j < n = omega (arith, eqb-false j n g) in
-        rw (automaton-kept j less) (filled .automata .recognizes j e less i (rw (automaton-kept j less) at long))
+        rw (automaton-kept j less) (filled .automata .fits j less (rw (automaton-kept j less) at long))
 
     pub filled-more : Filled edition xs new (n + 1)
     filled-more =
@@ -153,7 +153,7 @@ module _ (edition : ℕ) (xs : List (List ℕ)) (old d : List ℕ) (n r : ℕ) (
           small = omega (arith, filled .small, size-new);
           automata = record {
             bounded = λ j h. bounded-new j h (eqb j n) refl;
-            recognizes = λ j e h i long. recognizes-new j e h i long (eqb j n) refl;
+            fits = λ j h long. fits-new j h long (eqb j n) refl;
           };
           low = λ j h. low-new j h (eqb j (n + 1)) refl;
           high = λ j h. high-new j h (eqb j (n + 1)) refl;
@@ -172,7 +172,22 @@ module _ (edition : ℕ) (xs : List (List ℕ)) (old d : List ℕ) (n r : ℕ) (
             let less : j ≤ n = omega (arith, eqb-false j (n + 1) g) in
             omega (arith, bound-kept j less, filled .high j less, end-new)
 
--- ---- the automaton is derived into what is left of the pool
+-- ---- the ERE of a slot
+
+pub suits-ere : {edition k : ℕ} {xs : List (List ℕ)} {t d : List ℕ} → length xs ≤ ereCount → Suits k t d
+    → ((e : Ere Class) → IsEre edition xs (k % ereCount) e → Serves t e) → SuitsEre edition xs k d
+suits-ere {edition} {k} {xs} {t} few s serves =
+    record {
+      drives = λ h e i.
+          let same : k ≡ k % ereCount = omega arith in
+          (t, s .drives h, serves e (subst (λ (n : ℕ). IsEre edition xs n e) same i));
+      seeks = λ n is e i.
+          let below = ere-below edition xs n e i in
+          let same : n ≡ k % ereCount = omega arith in
+          (t, s .seeks (omega arith), serves e (subst (λ (n : ℕ). IsEre edition xs n e) same i));
+    }
+
+-- ---- what a slot has is made in what is left of the pool
 
 pub left-size : (old : List ℕ) (at : ℕ) → at ≤ length old → length (midOf at (length old - at) old) ≡ length old - at
 left-size old at inside = simp (length-take, length-drop) (omega arith)
@@ -185,18 +200,17 @@ module _ (old d : List ℕ) (at : ℕ) (inside : at ≤ length old)
   pub left-length : length (putMid at (length old - at) old d) ≡ length old
   left-length = ap length left-came ∙ length-put old at d (omega (arith, left-size old at inside))
 
-pub filled-derived : (edition : ℕ) (xs : List (List ℕ)) (old t d : List ℕ) (n r : ℕ) → n < ereCount
-    → Filled edition xs old n
-    → Derived t (midOf (boundIn old n) (length old - boundIn old n) old) r d
-    → ((e : Ere Class) → IsEre edition xs n e → Serves t e)
+pub filled-made : (edition : ℕ) (xs : List (List ℕ)) (old d : List ℕ) (k r : ℕ) → k < poolSlots
+    → Filled edition xs old k
+    → MadeOf edition xs k (midOf (boundIn old k) (length old - boundIn old k) old) r d
     → Filled edition xs
-    (set (putMid (boundIn old n) (length old - boundIn old n) old d) (n + 1) (boundIn old n + r)) (n + 1)
-filled-derived edition xs old t d n r few f e serves =
-    let at = boundIn old n in
+    (set (putMid (boundIn old k) (length old - boundIn old k) old d) (k + 1) (boundIn old k + r)) (k + 1)
+filled-made edition xs old d k r few f m =
+    let at = boundIn old k in
     let left = left-size old at (f .inside) in
-    rw (left-came old d at (f .inside) (e .size))
-    (filled-more edition xs old d n r few f (omega (arith, f .inside, e .size, left))
-    (omega (arith, e .inside, e .size)) (λ g i long. (t, e .drives long, serves g i)))
+    rw (left-came old d at (f .inside) (m .size))
+    (filled-more edition xs old d k r few f (omega (arith, f .inside, m .size, left))
+    (omega (arith, m .inside, m .size)) (m .fits))
 
 -- ---- the start, and the end
 
@@ -208,7 +222,7 @@ filled-none edition xs pool room small =
     let size : length (set pool 0 boundCount) ≡ length pool = simp length-set refl in
     record {
       small = omega arith;
-      automata = record { bounded = λ n h. absurd (omega arith); recognizes = λ n e h. absurd (omega arith) };
+      automata = record { bounded = λ n h. absurd (omega arith); fits = λ n h. absurd (omega arith) };
       low = λ n h. subst (λ (k : ℕ). boundCount ≤ boundIn (set pool 0 boundCount) k) (zero n h) (omega arith);
       high = λ n h.
           subst (λ (k : ℕ). boundIn (set pool 0 boundCount) k ≤ boundIn (set pool 0 boundCount) 0) (zero n h)
@@ -221,11 +235,22 @@ filled-none edition xs pool room small =
 
 -- ---- what a run asks of the pool
 
--- an automaton that has words has its states in range
-pub pooled-ranged : {edition : ℕ} {image index : List ℕ} {xs : List (List ℕ)} {pool : List ℕ}
-    → Readable edition image index xs → Pooled edition xs pool → (n : ℕ) → n < length xs
-    → 0 < length (automatonIn pool n) → Ranged (automatonIn pool n)
-pooled-ranged {xs = xs} y p n h long =
-    let l = nth-some xs n h in
-    let e = y .reads n (l .0) (l .1) in
-    p .recognizes n (e .0) h (l .0, l .1, e .1) long .1 .ranged
+module _ {edition : ℕ} {image index : List ℕ} {xs : List (List ℕ)} {pool : List ℕ}
+    (y : Readable edition image index xs) (p : Pooled edition xs pool) (n : ℕ) (h : n < length xs) where
+  -- the ERE
+  ere-of : (e : Ere Class) × (IsEre edition xs n e)
+  ere-of =
+      let l = nth-some xs n h in
+      let e = y .reads n (l .0) (l .1) in
+      (e .0, (l .0, l .1, e .1))
+
+  -- an automaton that has words has its states in range
+  pub pooled-ranged : 0 < length (automatonIn pool n) → Ranged (automatonIn pool n)
+  pooled-ranged long =
+      p .fits n (omega (arith, y .few)) long .drives (omega (arith, y .few)) (ere-of .0) (ere-of .1) .1 .ranged
+
+  -- and so do both of a search
+  pub pooled-sought : 0 < length (automatonIn pool (ereCount + n)) → SeekRanged (automatonIn pool (ereCount + n))
+  pooled-sought long =
+      let s = p .fits (ereCount + n) (omega (arith, y .few)) long .seeks n refl (ere-of .0) (ere-of .1) .1 in
+      record { inside = s .inside; one = s .one .ranged; pending = s .pending .ranged }

@@ -1,4 +1,4 @@
 -- What a run keeps of its image.
 pub mod Constants
-pub mod Tables
+pub mod Table
 pub mod Automata

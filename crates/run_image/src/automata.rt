@@ -1,27 +1,28 @@
-// Finite automata of an image's EREs, for whether there is a match, in one slice of words: the pool. Its first words
-// are bounds: the automaton of ERE n is `pool[pool[n]..pool[n + 1]]`, empty where it has none.
+// Finite automata of an image's EREs, in one slice of words: the pool. Its first words are bounds: what slot k has is
+// `pool[pool[k]..pool[k + 1]]`, empty where it has none. Slot n has the automaton of ERE n for whether there is a
+// match, slot 16 + n both automata for the leftmost longest match of ERE n.
 //
-// The pool is filled once, in the order of the EREs. Of the words that are left, each gets its even share for an
-// automaton with pairs, the fastest; if these are too few, any of them for an automaton without pairs; and if all are
-// too few, none: then it is walked over its table.
+// The pool is filled for a section when the section is entered, with what its instructions ask for, in the order of the
+// slots: for `~` first, then for match(). Of the words that are left, each automaton gets its even share if that is
+// enough for one with pairs, the fastest; else any of them for one without pairs; and if all are too few, none: then
+// its ERE is walked over the shared table.
 ghost use mathlib.Core.Path.{_≡_};
 ghost use mathlib.Core.List.{List};
-ghost use Prim.Native.Nat.{ℕ, _+_, _*_, _≤_, _<_};
+ghost use Prim.Native.Nat.{ℕ, _+_, _≤_, _<_};
 ghost use lib.ListN.{length, replicate};
-ghost use Rattle.edition.specs.Limits.{ereCount};
-ghost use Rattle.ere_meaning.specs.Tree.{Class, Ere};
 ghost use Rattle.ere_table.specs.Table.{tableWords};
-ghost use Rattle.ere.specs.Answer.{Serves};
-ghost use Rattle.run_image.specs.Tables.{keptCount, tableCount, tableAt, Readable, IsEre, Prepared};
-ghost use Rattle.run_image.specs.Automata.{boundCount, automatonIn, Bounded, Pooled, Filled};
-use crate::tables;
+ghost use Rattle.run_image.specs.Table.{Readable, Compiled};
+ghost use Rattle.run_image.specs.Automata.{poolSlots, boundCount, poolWords, automatonIn};
+ghost use Rattle.run_image.specs.Automata.{Bounded, Made, MadeOf, Pooled, Filled};
+use crate::table;
+use crate::uses;
 use edition::Edition;
 
 // The words of the bounds.
-const BOUNDS: usize = Edition::ERES + 1;
+const BOUNDS: usize = uses::SLOTS + 1;
 
 // The words of the pool.
-pub const POOL_WORDS: usize = 7680;
+pub const POOL_WORDS: usize = 13312;
 
 // Fills words with zeros.
 fn clear(words: &mut [u64])
@@ -34,99 +35,122 @@ fn clear(words: &mut [u64])
     }
 }
 
-// Compiles ERE n into the shared table, whose other words are zeros then: no place that it doesn't have takes a byte.
-fn compile_alone(image: &[u8], index: &[u32], edition: Edition, n: usize, tables: &mut [u64])
-    requires { ⌜ (length (now tables) ≡ tableCount * tableWords)
+// Compiles ERE n into a table whose other words are zeros then: no place that the ERE doesn't have takes a byte.
+fn compile_alone(image: &[u8], index: &[u32], edition: Edition, n: usize, table: &mut [u64])
+    requires { ⌜ (length (now table) ≡ tableWords)
         × ((xs : List (List ℕ)) × (Readable (edition .number) (now image) (now index) xs) × (n < length xs)) ⌝ }
-    ensures { λ _. ⌜ (length (now (tables .exit)) ≡ tableCount * tableWords)
-        × ((xs : List (List ℕ)) (e : Ere Class)
-        → Readable (edition .number) (now (image .entry)) (now (index .entry)) xs → IsEre (edition .number) xs n e
-        → Serves (tableAt (now (tables .exit)) keptCount) e) ⌝ }
+    ensures { λ _. ⌜ Compiled (edition .number) (now (image .entry)) (now (index .entry)) n (now (table .exit)) ⌝ }
 {
-    let from = tables::KEPT * ere_table::TABLE_WORDS;
-    clear(&mut tables[from..]);
-    tables::compile_to(image, index, edition, n, tables, tables::KEPT);
+    clear(table);
+    table::compile(image, index, edition, n, table);
 }
 
-// Stores the automaton of ERE n, where so many EREs have none yet, and its end.
+// Makes what slot k has of a table's ERE, each automaton with pairs if they fit below `pairs` words, and gives how many
+// words it has; 0 if there is no room.
+fn derive(t: &[u64], k: usize, d: &mut [u16], pairs: usize) -> usize
+    requires { ⌜ (length (now t) ≡ tableWords) × (length (now d) < 65536) ⌝ }
+    ensures { λ r. ⌜ Made k (now (t .entry)) (now (d .entry)) r (now (d .exit)) ⌝ }
+{
+    if k < Edition::ERES {
+        return ere_derive::derive(t, d, pairs);
+    }
+    ere_derive::derive_both(t, d, pairs)
+}
+
+// Makes what slot k has of the EREs, and gives how many words it has: 0 if `pairs` is, or there is no room.
+fn make(
+    image: &[u8],
+    index: &[u32],
+    edition: Edition,
+    k: usize,
+    pairs: usize,
+    table: &mut [u64],
+    d: &mut [u16],
+) -> usize
+    requires { ⌜ (length (now table) ≡ tableWords) × (length (now d) < 65536)
+        × ((xs : List (List ℕ)) × (Readable (edition .number) (now image) (now index) xs)) ⌝ }
+    ensures { λ r. ⌜ ((xs : List (List ℕ)) → Readable (edition .number) (now (image .entry)) (now (index .entry)) xs
+        → MadeOf (edition .number) xs k (now (d .entry)) r (now (d .exit))) ⌝ }
+{
+    let n = k % Edition::ERES;
+    if (pairs == 0) | (index.len() <= n) {
+        return 0;
+    }
+    compile_alone(image, index, edition, n, table);
+    derive(table, k, d, pairs)
+}
+
+// Stores what slot k has, and its end.
 fn add(
     image: &[u8],
     index: &[u32],
     edition: Edition,
-    n: usize,
-    left: usize,
-    tables: &mut [u64],
+    asked: &[u8],
+    k: usize,
+    table: &mut [u64],
     pool: &mut [u16],
 )
-    requires { ⌜ (length (now tables) ≡ tableCount * tableWords) × (0 < left)
-        × ((xs : List (List ℕ)) × (Readable (edition .number) (now image) (now index) xs) × (n < length xs)
-        × (Filled (edition .number) xs (now pool) n)) ⌝ }
-    ensures { λ _. ⌜ (length (now (tables .exit)) ≡ tableCount * tableWords)
-        × ((xs : List (List ℕ)) → Readable (edition .number) (now (image .entry)) (now (index .entry)) xs
-        → n < length xs → Filled (edition .number) xs (now (pool .entry)) n
-        → Filled (edition .number) xs (now (pool .exit)) (n + 1)) ⌝ }
+    requires { ⌜ (length (now table) ≡ tableWords) × (length (now asked) ≡ poolSlots) × (k < poolSlots)
+        × ((xs : List (List ℕ)) × (Readable (edition .number) (now image) (now index) xs)
+        × (Filled (edition .number) xs (now pool) k)) ⌝ }
+    ensures { λ _. ⌜ ((xs : List (List ℕ)) → Readable (edition .number) (now (image .entry)) (now (index .entry)) xs
+        → Filled (edition .number) xs (now (pool .entry)) k → Filled (edition .number) xs (now (pool .exit)) (k + 1)) ⌝ }
 {
-    compile_alone(image, index, edition, n, tables);
-    let at = pool[n] as usize;
-    let share = (pool.len() - at) / left;
-    let size = ere_derive::derive(
-        tables::table_of(tables, tables::KEPT),
-        &mut pool[at..],
-        share,
-    );
-    pool[n + 1] = (at + size) as u16;
+    let at = pool[k] as usize;
+    let pairs = uses::share(asked, k, pool.len() - at);
+    let size = make(image, index, edition, k, pairs, table, &mut pool[at..]);
+    pool[k + 1] = (at + size) as u16;
 }
 
-// Fills the pool with the automata of n EREs, by way of the shared table.
+// Fills the pool, by way of the shared table.
 fn fill_pool(
     image: &[u8],
     index: &[u32],
     edition: Edition,
-    n: usize,
-    tables: &mut [u64],
+    asked: &[u8],
+    table: &mut [u64],
     pool: &mut [u16],
 )
-    requires { ⌜ (length (now tables) ≡ tableCount * tableWords) × (boundCount ≤ length (now pool))
+    requires { ⌜ (length (now table) ≡ tableWords) × (length (now asked) ≡ poolSlots) × (boundCount ≤ length (now pool))
         × (length (now pool) < 65536)
-        × ((xs : List (List ℕ)) × (Readable (edition .number) (now image) (now index) xs) × (n ≡ length xs)) ⌝ }
-    ensures { λ _. ⌜ (length (now (tables .exit)) ≡ tableCount * tableWords)
-        × ((xs : List (List ℕ)) → Readable (edition .number) (now (image .entry)) (now (index .entry)) xs
-        → n ≡ length xs → Pooled (edition .number) xs (now (pool .exit))) ⌝ }
+        × ((xs : List (List ℕ)) × (Readable (edition .number) (now image) (now index) xs)) ⌝ }
+    ensures { λ _. ⌜ ((xs : List (List ℕ)) → Readable (edition .number) (now (image .entry)) (now (index .entry)) xs
+        → Pooled (edition .number) xs (now (pool .exit))) ⌝ }
 {
     pool[0] = BOUNDS as u16;
     let mut k = 0;
-    while k < n {
-        add(image, index, edition, k, n - k, tables, pool);
+    while k < uses::SLOTS {
+        add(image, index, edition, asked, k, table, pool);
         k += 1;
     }
 }
 
-// Makes of n EREs what a run keeps: automata as far as there is room, and the first tables.
+// Fills the pool with automata of the EREs that the instructions of a section ask for, as far as there is room. The
+// shared table is that of no ERE then.
 pub fn load_eres(
     image: &[u8],
     index: &[u32],
     edition: Edition,
-    n: usize,
-    tables: &mut [u64],
+    program: &[u32],
+    table: &mut [u64],
     pool: &mut [u16],
 )
-    requires { ⌜ (length (now tables) ≡ tableCount * tableWords) × (boundCount ≤ length (now pool))
-        × (length (now pool) < 65536)
-        × ((xs : List (List ℕ)) × (Readable (edition .number) (now image) (now index) xs) × (n ≡ length xs)) ⌝ }
+    requires { ⌜ (length (now table) ≡ tableWords) × (length (now pool) ≡ poolWords)
+        × ((xs : List (List ℕ)) × (Readable (edition .number) (now image) (now index) xs)) ⌝ }
     ensures { λ _. ⌜ ((xs : List (List ℕ)) → Readable (edition .number) (now (image .entry)) (now (index .entry)) xs
-        → n ≡ length xs → (Pooled (edition .number) xs (now (pool .exit)))
-        × (Prepared (edition .number) xs (now (tables .exit)) ereCount)) ⌝ }
+        → Pooled (edition .number) xs (now (pool .exit))) ⌝ }
 {
-    fill_pool(image, index, edition, n, tables, pool);
-    tables::compile_kept(image, index, edition, n, tables);
+    let mut asked = [0u8; uses::SLOTS];
+    uses::note_all(program, &mut asked);
+    fill_pool(image, index, edition, &asked, table, pool);
 }
 
-// Returns the automaton of ERE n.
-pub fn automaton_of(pool: &[u16], n: usize) -> &[u16]
-    requires { ⌜ Bounded (now pool) n ⌝ }
-    ensures { λ r. ⌜ now r ≡ automatonIn (now (pool .entry)) n ⌝ }
+// Returns what slot k has.
+pub fn automaton_of(pool: &[u16], k: usize) -> &[u16]
+    requires { ⌜ Bounded (now pool) k ⌝ }
+    ensures { λ r. ⌜ now r ≡ automatonIn (now (pool .entry)) k ⌝ }
 {
-    let from = pool[n] as usize;
-    let end = pool[n + 1] as usize;
+    let from = pool[k] as usize;
+    let end = pool[k + 1] as usize;
     &pool[from..end]
 }

@@ -19,6 +19,8 @@ use Rattle.ere_search.specs.Any.{isMatch, Exists}
 use Rattle.ere_search.specs.Find.{matchOf, Inside, Finds}
 use Rattle.ere_search.specs.declared.search.Found.{Found}
 use Rattle.ere_search.specs.declared.search.Found.the-variants.{At, Nowhere}
+use Rattle.ere_automaton.specs.Automaton.{Drives}
+use Rattle.ere_automaton.specs.Follows.{Seeks}
 use Rattle.ere.specs.Answer.{Serves, Bytes}
 use Rattle.ere.proofs.Serving.{serves-answer, serves-exists}
 use Rattle.values.specs.Value.{number, textOf, truthValue}
@@ -27,8 +29,8 @@ use Rattle.run_room.specs.Room.{slotAt, Store, storeOf, withSlot}
 use Rattle.run_room.specs.Held.{Slotted, Shown, Did}
 use Rattle.run_room.specs.declared.lines.Line.{Line}
 use Rattle.run_room.proofs.Stored.{did-slot, did-on, did-so}
-use Rattle.run_operations.specs.Marks.{Searches, Told, rstartSlot, rlengthSlot, rstartOf, rlengthOf, withMark}
-use Rattle.run_operations.specs.Marks.{markedIn, Marks}
+use Rattle.run_operations.specs.Marks.{SearchesBy, TellsBy, Searches, Told, Locates, FoundBy}
+use Rattle.run_operations.specs.Marks.{rstartSlot, rlengthSlot, rstartOf, rlengthOf, withMark, markedIn, Marks}
 use Rattle.run_operations.proofs.Showing.{did-again, in-lent, shown-in}
 
 -- ---- three slots are set
@@ -56,12 +58,12 @@ marks x y z u a start size inside o p q l =
 
 -- ---- the match in a text that is shown
 
-pub found-inside : (t y : List ℕ) (from n : ℕ) (f : Found) (s m : ℕ) → n ≤ textBytes → f ≡ At s m
-    → Finds t (midOf from (from + n - from) y) 0 0 f
+pub found-inside : (y : List ℕ) (from n : ℕ) (f : Found) (s m : ℕ) → n ≤ textBytes → f ≡ At s m
+    → Inside 0 0 (length (midOf from (from + n - from) y)) f
     → s + m ≤ textBytes
-found-inside t y from n f s m h e finds =
+found-inside y from n f s m h e inside =
     let few : length (midOf from (from + n - from) y) ≤ n = rw length-take (omega arith) in
-    omega (arith, subst (Inside 0 0 (length (midOf from (from + n - from) y))) e (finds .inside) .1)
+    omega (arith, subst (Inside 0 0 (length (midOf from (from + n - from) y))) e inside .1)
 
 bytes-lent : (y : List ℕ) (from n : ℕ) → ((i : ℕ) → getD y i 0 < 256) → Bytes (midOf from n y)
 bytes-lent y from n h i g =
@@ -69,11 +71,11 @@ bytes-lent y from n h i g =
     omega (arith, getD-take n (drop from y) i 0 k, getD-drop from y i 0, h (from + i))
 
 -- what `match_marked` says, and what `matches` says
-abbrev Marked : List ℕ → List ℕ → List ℕ → ℕ → Type 0
-Marked t x z a =
+abbrev Marked : List ℕ → List ℕ → List ℕ → List ℕ → ℕ → Type 0
+Marked d t x z a =
     (l : Line)
     → Did x l z l (length z ≡ length x)
-    ((s : Separator) (e : Ere Class) → Serves t e
+    ((s : Separator) (e : Ere Class) → Locates d t e
     → storeOf z l s ≡ markedIn (storeOf x l s) a (bestOf accepts (textOf (slotAt x a)) e))
 
 abbrev Tested : List ℕ → List ℕ → List ℕ → List ℕ → ℕ → Type 0
@@ -84,9 +86,9 @@ Tested d t x z a =
     → storeOf z l s ≡ withSlot (storeOf x l s) a (truthValue (isMatch (bestOf accepts (textOf (slotAt x a)) e))))
 
 -- a table of the ERE by which the answer is right
-told-by : (d t text : List ℕ) (r : Bool) → Told d t text r → (e : Ere Class) → Searches d t e
-    → (u : List ℕ) × (Serves u e) × (Exists u text r)
-told-by d t text r told e s =
+told-by : (By : List ℕ → List ℕ → Type 0) (Says : List ℕ → Type 0) (d t : List ℕ) → TellsBy By Says d t
+    → (e : Ere Class) → SearchesBy By d t e → (u : List ℕ) × (Serves u e) × (Says u)
+told-by By Says d t told e s =
     elim (decLt 0 (length d)) [
       | yes h ↦ let u = s .0 h in (u .0, u .2, told .0 h (u .0) (u .1))
       | no h ↦
@@ -104,7 +106,7 @@ module _ (t x y z : List ℕ) (a n from : ℕ) (o : Shown x y a n) (inside : a <
   tested d b told q l =
       did-so
       (λ h s e searches.
-      let u = told-by d t (midOf from (from + n - from) y) b told e searches in
+      let u = told-by Drives (λ (v : List ℕ). Exists v (midOf from (from + n - from) y) b) d t told e searches in
       h s
       ∙ ap (λ (c : Bool). withSlot (storeOf x l s) a (truthValue c))
       (serves-exists (u .0) b e (midOf from (from + n - from) y) (u .1) (u .2)
@@ -113,32 +115,33 @@ module _ (t x y z : List ℕ) (a n from : ℕ) (o : Shown x y a n) (inside : a <
       (did-again x y a (o .slotted) inside z (λ st. withSlot st a (truthValue b)) l
       (did-slot y z l a (truthValue b) q inside (q .outside .size) (λ h. tt)))
 
-  module _ (f : Found) (finds : Finds t (midOf from (from + n - from) y) 0 0 f) where
-    best : (m : Match) → matchOf f ≡ m → (e : Ere Class) → Serves t e → m ≡ bestOf accepts (textOf (slotAt x a)) e
+  module _ (d : List ℕ) (f : Found) (finds : FoundBy d t (midOf from (from + n - from) y) f) where
+    best : (m : Match) → matchOf f ≡ m → (e : Ere Class) → Locates d t e → m ≡ bestOf accepts (textOf (slotAt x a)) e
     unfolding bestOf
     best m em e s =
         let text = midOf from (from + n - from) y in
+        let u = told-by Seeks (λ (v : List ℕ). Finds v text 0 0 f) d t (finds .finds) e s in
         sym em
-        ∙ serves-answer t text 0 0 f e text s finds (bytes-lent y from (from + n - from) bytes) zero-le refl
+        ∙ serves-answer (u .0) text 0 0 f e text (u .1) (u .2) (bytes-lent y from (from + n - from) bytes) zero-le refl
         ∙ ap (λ (w : List ℕ). bestFrom accepts w e 0 0) lent
 
     -- RSTART and RLENGTH are those of the match m
     matched : (m : Match) (start size : ℕ) → matchOf f ≡ m → number (unbias start) ≡ rstartOf m
-        → number (unbias size) ≡ rlengthOf m → Marks y z a start size → Marked t x z a
+        → number (unbias size) ≡ rlengthOf m → Marks y z a start size → Marked d t x z a
     matched m start size em es en marks l =
         did-so
-        (λ h s e serves.
-        h s ∙ ap₂ (withMark (storeOf x l s) a) es en ∙ ap (markedIn (storeOf x l s) a) (best m em e serves))
+        (λ h s e located.
+        h s ∙ ap₂ (withMark (storeOf x l s) a) es en ∙ ap (markedIn (storeOf x l s) a) (best m em e located))
         (did-again x y a (o .slotted) inside z
         (λ st. withMark st a (number (unbias start)) (number (unbias size))) l (marks l))
 
-    pub matched-at : (s m : ℕ) → f ≡ At s m → Marks y z a (numberBound + s + 1) (numberBound + m) → Marked t x z a
+    pub matched-at : (s m : ℕ) → f ≡ At s m → Marks y z a (numberBound + s + 1) (numberBound + m) → Marked d t x z a
     matched-at s m e marks =
         let g : numberBound + s + 1 ≡ numberBound + suc s = omega arith in
         matched (found s m) (numberBound + s + 1) (numberBound + m) (ap matchOf e)
         (ap number (ap unbias g ∙ unbias-plus (suc s))) (ap number (unbias-plus m)) marks
 
-    pub matched-none : f ≡ Nowhere → Marks y z a numberBound (numberBound - 1) → Marked t x z a
+    pub matched-none : f ≡ Nowhere → Marks y z a numberBound (numberBound - 1) → Marked d t x z a
     matched-none e marks =
         matched nowhere numberBound (numberBound - 1) (ap matchOf e) (ap number (unbias-plus 0))
         (ap number (unbias-minus 1 (omega arith))) marks

@@ -9,7 +9,10 @@ use Rattle.edition.specs.Limits.{operandDepth}
 use Rattle.ere_meaning.specs.Tree.{Class, Ere}
 use Rattle.ere_meaning.specs.Meaning.{Match, found, nowhere}
 use Rattle.ere_search.specs.Any.{Exists}
+use Rattle.ere_search.specs.Find.{Inside, Finds}
+use Rattle.ere_search.specs.declared.search.Found.{Found}
 use Rattle.ere_automaton.specs.Automaton.{Drives}
+use Rattle.ere_automaton.specs.Follows.{Seeks}
 use Rattle.ere.specs.Answer.{Serves}
 use Rattle.values.specs.Value.{Value, number}
 use Rattle.semantics.specs.Variables.{RSTART, RLENGTH}
@@ -19,19 +22,32 @@ use Rattle.run_room.specs.Room.{Store, storeOf, withSlot}
 use Rattle.run_room.specs.Held.{Did}
 use Rattle.run_room.specs.declared.lines.Line.{Line}
 
--- ---- whether there is a match: by an automaton, or where it is empty by a table
+-- ---- a search by automata, or where these are empty by a table
 
--- what they are those of
+-- what they are those of: `By` says what automata of a table are
+abbrev pub SearchesBy : (List ℕ → List ℕ → Type 0) → List ℕ → List ℕ → Ere Class → Type 0
+SearchesBy By d t e = (0 < length d → (u : List ℕ) × (By u d) × (Serves u e)) × (length d ≡ 0 → Serves t e)
+
+-- what is so for the table, and for each table that the automata are those of
+abbrev pub TellsBy : (List ℕ → List ℕ → Type 0) → (List ℕ → Type 0) → List ℕ → List ℕ → Type 0
+TellsBy By Says d t = (0 < length d → (u : List ℕ) → By u d → Says u) × (length d ≡ 0 → Says t)
+
+-- whether there is a match
 abbrev pub Searches : List ℕ → List ℕ → Ere Class → Type 0
-Searches d t e =
-    (0 < length d → (u : List ℕ) × (Drives u d) × (Serves u e)) × (length d ≡ 0 → Serves t e)
+Searches = SearchesBy Drives
 
--- r says whether the text has a match
 abbrev pub Told : List ℕ → List ℕ → List ℕ → Bool → Type 0
-Told d t text r =
-    (0 < length d → (u : List ℕ) → Drives u d → Exists u text r) × (length d ≡ 0 → Exists t text r)
+Told d t text r = TellsBy Drives (λ (u : List ℕ). Exists u text r) d t
 
--- ---- where a match is
+-- where the leftmost longest match is
+abbrev pub Locates : List ℕ → List ℕ → Ere Class → Type 0
+Locates = SearchesBy Seeks
+
+pub record FoundBy (d t text : List ℕ) (r : Found) : Type 0 where
+  pub inside : Inside 0 0 (length text) r
+  pub finds : TellsBy Seeks (λ (u : List ℕ). Finds u text 0 0 r) d t
+
+-- ---- RSTART and RLENGTH
 
 abbrev pub rstartSlot : ℕ
 rstartSlot = operandDepth + RSTART

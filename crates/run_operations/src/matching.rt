@@ -13,9 +13,9 @@ ghost use Rattle.ere_meaning.specs.Search.{bestOf};
 ghost use Rattle.ere_table.specs.Table.{tableWords};
 ghost use Rattle.ere_search.specs.Any.{isMatch};
 ghost use Rattle.ere_automaton.specs.Automaton.{Ranged};
-ghost use Rattle.ere.specs.Answer.{Serves};
+ghost use Rattle.ere_automaton.specs.Follows.{SeekRanged};
 ghost use Rattle.values.specs.Value.{textOf, truthValue};
-ghost use Rattle.run_operations.specs.Marks.{Searches, Told, markedIn, Marks};
+ghost use Rattle.run_operations.specs.Marks.{Searches, Told, Locates, FoundBy, markedIn, Marks};
 use ere_search::Found;
 
 // Tells whether a text has a match of an ERE: by its automaton, or where that is empty by its table.
@@ -63,19 +63,32 @@ fn mark(work: &mut [u8], a: usize, start: u64, size: u64)
     run_room::set_number(work, a, start);
 }
 
+// Finds the leftmost longest match of an ERE in a text: by its automata, or where these are empty by its table.
+fn find(d: &[u16], t: &[u64], text: &[u8]) -> Found
+    requires { ⌜ (0 < length (now d) → SeekRanged (now d)) × (length (now t) ≡ tableWords)
+        × (length (now text) < 2 ^ 63) ⌝ }
+    ensures { λ r. ⌜ FoundBy (now (d .entry)) (now (t .entry)) (now (text .entry)) r ⌝ }
+{
+    if d.len() == 0 {
+        return ere_search::find_from(t, text, 0, 0);
+    }
+    ere_seek::seek(d, text, 0, 0)
+}
+
 // Replaces a value by the place of the leftmost longest match in its text, which RSTART and RLENGTH say too.
-pub fn match_marked(work: &mut [u8], t: &[u64], a: usize)
-    requires { ⌜ (slotsEnd ≤ length (now work)) × (a < slotCount) × (length (now t) ≡ tableWords) ⌝ }
+pub fn match_marked(work: &mut [u8], d: &[u16], t: &[u64], a: usize)
+    requires { ⌜ (slotsEnd ≤ length (now work)) × (a < slotCount) × (0 < length (now d) → SeekRanged (now d))
+        × (length (now t) ≡ tableWords) ⌝ }
     ensures { λ _. ⌜ ((l : Line) → Did (now (work .entry)) l (now (work .exit)) l
         (length (now (work .exit)) ≡ length (now (work .entry)))
-        ((s : Separator) (e : Ere Class) → Serves (now (t .entry)) e
+        ((s : Separator) (e : Ere Class) → Locates (now (d .entry)) (now (t .entry)) e
         → storeOf (now (work .exit)) l s
         ≡ markedIn (storeOf (now (work .entry)) l s) a (bestOf accepts (textOf (slotAt (now (work .entry)) a)) e))) ⌝ }
 {
     let n = run_room::show(work, a);
     let from = a * run_room::SLOT + run_room::HEAD;
     let end = from + n;
-    let f = ere_search::find_from(t, &work[from..end], 0, 0);
+    let f = find(d, t, &work[from..end]);
     match f {
         Found::At(s, size) => mark(
             work,

@@ -2,14 +2,13 @@
 ghost use mathlib.Core.Path.{_≡_};
 ghost use mathlib.Core.List.{List, _++_};
 ghost use mathlib.Core.Option.{some};
-ghost use Prim.Native.Nat.{ℕ, _+_, _-_, _*_, _≤_, _<_};
+ghost use Prim.Native.Nat.{ℕ, _+_, _-_, _≤_, _<_};
 ghost use lib.ListN.{length, take, drop, getD};
-ghost use Rattle.edition.specs.Limits.{operandDepth, numberBound};
+ghost use Rattle.edition.specs.Limits.{operandDepth, numberBound, ereCount};
 ghost use Rattle.ere_meaning.specs.Tree.{Class, accepts, Ere};
 ghost use Rattle.ere_meaning.specs.Search.{bestOf};
 ghost use Rattle.ere_search.specs.Any.{isMatch};
 ghost use Rattle.ere_table.specs.Table.{tableWords};
-ghost use Rattle.ere.specs.Answer.{Serves};
 ghost use Rattle.splitting.specs.Separator.{Separator};
 ghost use Rattle.separators.specs.Kinds.{Sized, Tells};
 ghost use Rattle.image_format.specs.Image.{Constant};
@@ -23,13 +22,13 @@ ghost use Rattle.run_room.specs.declared.lines.Line.{Line};
 ghost use Rattle.run_records.specs.Records.{Safe, InForce, Leaves};
 ghost use Rattle.run_records.specs.declared.beginning.Begun.{Begun};
 ghost use Rattle.run_join.specs.Stores.{Stores};
-ghost use Rattle.run_image.specs.Tables.{keptCount, tableCount, tableOf, tableAt, Readable, Prepared};
+ghost use Rattle.run_image.specs.Table.{Readable, Prepared};
 ghost use Rattle.run_image.specs.Automata.{automatonIn, Pooled};
 ghost use Rattle.run_values.specs.Answers.{TruthBy};
 ghost use Rattle.run_values.specs.declared.numbers.Truth.{Truth};
 ghost use Rattle.run_operations.specs.Constants.{Fits, Decodes};
 ghost use Rattle.run_operations.specs.Assigns.{Known, Assigns};
-ghost use Rattle.run_operations.specs.Marks.{Searches, markedIn};
+ghost use Rattle.run_operations.specs.Marks.{Searches, Locates, markedIn};
 ghost use Rattle.run_operations.specs.Prints.{Writes, written, PrintedBy};
 ghost use Rattle.run_operations.specs.declared.variables.Assigned.{Assigned};
 ghost use Rattle.run_operations.specs.declared.printing.Printed.{Printed as Prints};
@@ -222,54 +221,54 @@ pub fn exits(section: usize, m: Machine) -> Machine
     m.stop(0)
 }
 
-// Compiles ERE n, unless its automaton has words or its table is that already; `last` is the ERE of the shared table,
-// and so is the answer.
+// Compiles ERE n, unless its automaton has words or the shared table is that of it already; `last` is the ERE of the
+// shared table, and so is the answer.
 fn prepare_table(
     image: &[u8],
     eres: &[u32],
     edition: Edition,
     words: usize,
-    tables: &mut [u64],
+    shared: &mut [u64],
     last: usize,
     n: usize,
 ) -> usize
-    requires { ⌜ (length (now tables) ≡ tableCount * tableWords)
+    requires { ⌜ (length (now shared) ≡ tableWords)
         × ((xs : List (List ℕ)) × (Readable (edition .number) (now image) (now eres) xs) × (n < length xs)) ⌝ }
-    ensures { λ r. ⌜ (length (now (tables .exit)) ≡ tableCount * tableWords) × (words ≡ 0 → keptCount ≤ n → r ≡ n)
-        × ((xs : List (List ℕ)) → Readable (edition .number) (now (image .entry)) (now (eres .entry)) xs → n < length xs
-        → Prepared (edition .number) xs (now (tables .entry)) last
-        → Prepared (edition .number) xs (now (tables .exit)) r) ⌝ }
+    ensures { λ r. ⌜ (length (now (shared .exit)) ≡ tableWords) × (words ≡ 0 → r ≡ n)
+        × ((xs : List (List ℕ)) → Readable (edition .number) (now (image .entry)) (now (eres .entry)) xs
+        → Prepared (edition .number) xs (now (shared .entry)) last
+        → Prepared (edition .number) xs (now (shared .exit)) r) ⌝ }
 {
     if words != 0 {
         return last;
     }
-    run_image::prepare(image, eres, edition, tables, last, n)
+    run_image::prepare(image, eres, edition, shared, last, n)
 }
 
-// Replaces a value by whether its text has a match of ERE n: by its automaton, or else by its table.
+// Replaces a value by whether its text has a match of ERE n: by its automaton, or else by the shared table.
 pub fn matches(
     image: &[u8],
     eres: &[u32],
     edition: Edition,
     pool: &[u16],
-    tables: &mut [u64],
+    shared: &mut [u64],
     work: &mut [u8],
     m: Machine,
     n: usize,
 ) -> Machine
     requires { ⌜ (slotsEnd ≤ length (now work)) × (1 ≤ m .depth) × (m .depth ≤ slotCount) × (m .at < 1024)
-        × (length (now tables) ≡ tableCount * tableWords)
+        × (length (now shared) ≡ tableWords)
         × ((xs : List (List ℕ)) × (Readable (edition .number) (now image) (now eres) xs) × (n < length xs)
         × (Pooled (edition .number) xs (now pool))) ⌝ }
     ensures { λ r. ⌜ ((k : ℕ) × (r ≡ advanced (withLast m k) (m .depth))
-        × (length (automatonIn (now (pool .entry)) n) ≡ 0 → keptCount ≤ n → k ≡ n)
-        × ((xs : List (List ℕ)) → Readable (edition .number) (now (image .entry)) (now (eres .entry)) xs → n < length xs
-        → Prepared (edition .number) xs (now (tables .entry)) (m .last)
-        → Prepared (edition .number) xs (now (tables .exit)) k)
+        × (length (automatonIn (now (pool .entry)) n) ≡ 0 → k ≡ n)
+        × ((xs : List (List ℕ)) → Readable (edition .number) (now (image .entry)) (now (eres .entry)) xs
+        → Prepared (edition .number) xs (now (shared .entry)) (m .last)
+        → Prepared (edition .number) xs (now (shared .exit)) k)
         × ((l : Line) → Did (now (work .entry)) l (now (work .exit)) l
         (length (now (work .exit)) ≡ length (now (work .entry)))
         ((s : Separator) (e : Ere Class)
-        → Searches (automatonIn (now (pool .entry)) n) (tableAt (now (tables .exit)) (tableOf n)) e
+        → Searches (automatonIn (now (pool .entry)) n) (now (shared .exit)) e
         → storeOf (now (work .exit)) l s
         ≡ withSlot (storeOf (now (work .entry)) l s) (m .depth - 1)
         (truthValue (isMatch (bestOf accepts (textOf (slotAt (now (work .entry)) (m .depth - 1))) e)))))) ⌝ }
@@ -277,38 +276,43 @@ pub fn matches(
     let d = m.depth;
     let automaton = run_image::automaton_of(pool, n);
     let mut r = m;
-    r.last = prepare_table(image, eres, edition, automaton.len(), tables, m.last, n);
-    run_operations::matches(work, automaton, run_image::table_of(tables, n), d - 1);
+    r.last = prepare_table(image, eres, edition, automaton.len(), shared, m.last, n);
+    run_operations::matches(work, automaton, shared, d - 1);
     r.on(d)
 }
 
-// Replaces a value by the place of the leftmost longest match of ERE n.
+// Replaces a value by the place of the leftmost longest match of ERE n: by its automata, or else by the shared table.
 pub fn match_marked(
     image: &[u8],
     eres: &[u32],
     edition: Edition,
-    tables: &mut [u64],
+    pool: &[u16],
+    shared: &mut [u64],
     work: &mut [u8],
     m: Machine,
     n: usize,
 ) -> Machine
     requires { ⌜ (slotsEnd ≤ length (now work)) × (1 ≤ m .depth) × (m .depth ≤ slotCount) × (m .at < 1024)
-        × (length (now tables) ≡ tableCount * tableWords)
-        × ((xs : List (List ℕ)) × (Readable (edition .number) (now image) (now eres) xs) × (n < length xs)) ⌝ }
-    ensures { λ r. ⌜ ((k : ℕ) × (r ≡ advanced (withLast m k) (m .depth)) × (keptCount ≤ n → k ≡ n)
-        × ((xs : List (List ℕ)) → Readable (edition .number) (now (image .entry)) (now (eres .entry)) xs → n < length xs
-        → Prepared (edition .number) xs (now (tables .entry)) (m .last)
-        → Prepared (edition .number) xs (now (tables .exit)) k)
+        × (length (now shared) ≡ tableWords)
+        × ((xs : List (List ℕ)) × (Readable (edition .number) (now image) (now eres) xs) × (n < length xs)
+        × (Pooled (edition .number) xs (now pool))) ⌝ }
+    ensures { λ r. ⌜ ((k : ℕ) × (r ≡ advanced (withLast m k) (m .depth))
+        × (length (automatonIn (now (pool .entry)) (ereCount + n)) ≡ 0 → k ≡ n)
+        × ((xs : List (List ℕ)) → Readable (edition .number) (now (image .entry)) (now (eres .entry)) xs
+        → Prepared (edition .number) xs (now (shared .entry)) (m .last)
+        → Prepared (edition .number) xs (now (shared .exit)) k)
         × ((l : Line) → Did (now (work .entry)) l (now (work .exit)) l
         (length (now (work .exit)) ≡ length (now (work .entry)))
-        ((s : Separator) (e : Ere Class) → Serves (tableAt (now (tables .exit)) (tableOf n)) e
+        ((s : Separator) (e : Ere Class)
+        → Locates (automatonIn (now (pool .entry)) (ereCount + n)) (now (shared .exit)) e
         → storeOf (now (work .exit)) l s
         ≡ markedIn (storeOf (now (work .entry)) l s) (m .depth - 1)
         (bestOf accepts (textOf (slotAt (now (work .entry)) (m .depth - 1))) e)))) ⌝ }
 {
     let d = m.depth;
+    let automata = run_image::automaton_of(pool, Edition::ERES + n);
     let mut r = m;
-    r.last = run_image::prepare(image, eres, edition, tables, m.last, n);
-    run_operations::match_marked(work, run_image::table_of(tables, n), d - 1);
+    r.last = prepare_table(image, eres, edition, automata.len(), shared, m.last, n);
+    run_operations::match_marked(work, automata, shared, d - 1);
     r.on(d)
 }

@@ -8,56 +8,44 @@ use borrow.Author.Needs.{needs}
 use Rattle.run_image.proofs.automata.automaton_of.Statement.{statement}
 use Rattle.run_image.proofs.automata.automaton_of.Tie as tie
 
--- src/automata.rt:108:16
 mul-from : tie.Need-mul-from
 mul-from c = search needs
 
--- src/automata.rt:108:16
 shared-slice-read-from : tie.Need-shared-slice-read-from
 shared-slice-read-from c = search needs
 
--- src/automata.rt:108:16
 cast-from : tie.Need-cast-from
 cast-from c = search needs
 
--- src/automata.rt:109:20
 add-end : tie.Need-add-end
 add-end c = search needs
 
--- src/automata.rt:109:15
 mul-end : tie.Need-mul-end
 mul-end c = search needs
 
--- src/automata.rt:109:15
 shared-slice-read-end : tie.Need-shared-slice-read-end
 shared-slice-read-end c = search needs
 
--- src/automata.rt:109:15
 cast-end : tie.Need-cast-end
 cast-end c = search needs
 
--- src/automata.rt:110:5
 mul-result : tie.Need-mul-result
 mul-result c = search needs
 
--- src/automata.rt:110:5
 sub-result : tie.Need-sub-result
 sub-result c = search needs
 
--- src/automata.rt:110:5
 part-result-start : tie.Need-part-result-start
 part-result-start c = search needs
 
--- src/automata.rt:110:5
 part-result-end : tie.Need-part-result-end
 part-result-end c = search needs
 
--- src/automata.rt:104:1
 returns : tie.Need-returns
 returns c =
     let a = c .before .before .before .args in
-    let from = boundIn (a .pool .now) (a .n) in
-    let end = boundIn (a .pool .now) (a .n + 1) in
+    let from = boundIn (a .pool .now) (a .k) in
+    let end = boundIn (a .pool .now) (a .k + 1) in
     let fits : end ≡ from + (end - from) = omega (arith, c .before .before .before .pre .order) in
     part-lent (a .pool .now) from end (end - from) fits
 

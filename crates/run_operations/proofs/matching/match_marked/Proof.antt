@@ -18,17 +18,17 @@ add-from c = search needs
 add-end : tie.Need-add-end
 add-end c = search needs
 
-sub-find-from : tie.Need-sub-find-from
-sub-find-from c = search needs
+sub-find : tie.Need-sub-find
+sub-find c = search needs
 
-part-find-from-start : tie.Need-part-find-from-start
-part-find-from-start c = search needs
+part-find-start : tie.Need-part-find-start
+part-find-start c = search needs
 
-part-find-from-end : tie.Need-part-find-from-end
-part-find-from-end c = search needs
+part-find-end : tie.Need-part-find-end
+part-find-end c = search needs
 
-find-from-requires : tie.Need-find-from-requires
-find-from-requires c κs = search needs
+find-requires : tie.Need-find-requires
+find-requires c κs = search needs
 
 enum-known-f : tie.Need-enum-known-f
 enum-known-f c = search needs
@@ -40,9 +40,9 @@ add-mark c =
     let s = g .before .before .before .before .before in
     omega (
       arith,
-      found-inside _ _ _ (s .show .result) (g .find-from .result) (f .f .given .0 .0) (f .f .given .0 .1 .0)
+      found-inside _ _ (s .show .result) (g .find .result) (f .f .given .0 .0) (f .f .given .0 .1 .0)
           (s .show .ensures .most)
-          (f .f .given .1) (g .find-from .ensures),
+          (f .f .given .1) (g .find .ensures .inside),
     )
 
 add-mark-2 : tie.Need-add-mark-2
@@ -52,9 +52,9 @@ add-mark-2 c =
     let s = g .before .before .before .before .before in
     omega (
       arith,
-      found-inside _ _ _ (s .show .result) (g .find-from .result) (f .f .given .0 .0) (f .f .given .0 .1 .0)
+      found-inside _ _ (s .show .result) (g .find .result) (f .f .given .0 .0) (f .f .given .0 .1 .0)
           (s .show .ensures .most)
-          (f .f .given .1) (g .find-from .ensures),
+          (f .f .given .1) (g .find .ensures .inside),
     )
 
 add-mark-3 : tie.Need-add-mark-3
@@ -64,9 +64,9 @@ add-mark-3 c =
     let s = g .before .before .before .before .before in
     omega (
       arith,
-      found-inside _ _ _ (s .show .result) (g .find-from .result) (f .f .given .0 .0) (f .f .given .0 .1 .0)
+      found-inside _ _ (s .show .result) (g .find .result) (f .f .given .0 .0) (f .f .given .0 .1 .0)
           (s .show .ensures .most)
-          (f .f .given .1) (g .find-from .ensures),
+          (f .f .given .1) (g .find .ensures .inside),
     )
 
 mark-requires : tie.Need-mark-requires
@@ -74,11 +74,11 @@ mark-requires c κs =
     let f = c .before .before in
     let g = f .before .before in
     let s = g .before .before .before .before .before in
-    let e = s .before .before .before .before in
+    let e = s .before .before .before .before .before in
     let h =
-    found-inside _ _ _ (s .show .result) (g .find-from .result) (f .f .given .0 .0) (f .f .given .0 .1 .0)
+    found-inside _ _ (s .show .result) (g .find .result) (f .f .given .0 .0) (f .f .given .0 .1 .0)
     (s .show .ensures .most)
-    (f .f .given .1) (g .find-from .ensures) in
+    (f .f .given .1) (g .find .ensures .inside) in
     (omega (arith, s .show .ensures .slotted .outside .size, e .pre .0), e .pre .1, omega (arith, h), omega (arith, h))
 
 enum-told : tie.Need-enum-told
@@ -100,10 +100,10 @@ returns c =
     let g = f .before .before in
     let k = g .before .before .before in
     let s = k .before .before in
-    let e = s .before .before .before .before in
+    let e = s .before .before .before .before .before in
     let a = e .args in
     matched-at (a .t .now) (a .work .now) _ _ (a .a) (s .show .result) _ (s .show .ensures) (e .pre .1) refl
-    (λ i. k .slice-known2 .given i .fits) (g .find-from .result) (g .find-from .ensures)
+    (λ i. k .slice-known2 .given i .fits) (a .d .now) (g .find .result) (g .find .ensures)
     (f .f .given .0 .0) (f .f .given .0 .1 .0) (f .f .given .1) (m .mark .ensures)
 
 same-length-2 : tie.Need-same-length-2
@@ -116,10 +116,10 @@ returns-2 c =
     let g = f .before .before in
     let k = g .before .before .before in
     let s = k .before .before in
-    let e = s .before .before .before .before in
+    let e = s .before .before .before .before .before in
     let a = e .args in
     matched-none (a .t .now) (a .work .now) _ _ (a .a) (s .show .result) _ (s .show .ensures) (e .pre .1) refl
-    (λ i. k .slice-known2 .given i .fits) (g .find-from .result) (g .find-from .ensures)
+    (λ i. k .slice-known2 .given i .fits) (a .d .now) (g .find .result) (g .find .ensures)
     (f .enum-told .given .1) (m .mark2 .ensures)
 
 pub match-marked-spec : {M : Type 1} → statement M
@@ -130,10 +130,10 @@ match-marked-spec =
     mul-from
     add-from
     add-end
-    sub-find-from
-    part-find-from-start
-    part-find-from-end
-    find-from-requires
+    sub-find
+    part-find-start
+    part-find-end
+    find-requires
     enum-known-f
     add-mark
     add-mark-2

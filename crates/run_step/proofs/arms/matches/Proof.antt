@@ -1,10 +1,8 @@
--- `matches` meets its contract: the automaton is taken, or the table is prepared, and the operation goes by them.
-use mathlib.Core.Path.{ap, sym, subst, _∙_}
+-- `matches` meets its contract: the automaton is taken, or the shared table is prepared, and the operation goes by them.
+use mathlib.Core.Path.{ap, _∙_}
 use native.Mathlib.Omega.{arith}
 use lib.ListN.{length}
-use Rattle.ere_automaton.specs.Automaton.{Ranged}
 use Rattle.run_image.proofs.Filling.{pooled-ranged}
-use Rattle.run_step.proofs.Matching.{table-size}
 use borrow.Author.Needs.{needs}
 use Rattle.run_step.proofs.arms.matches.Statement.{statement}
 use Rattle.run_step.proofs.arms.matches.Tie as tie
@@ -12,31 +10,23 @@ use Rattle.run_step.proofs.arms.matches.Tie as tie
 automaton-of-requires : tie.Need-automaton-of-requires
 automaton-of-requires c κs =
     let l = c .before .before .before .before .before .pre .5 in
-    l .3 .bounded (c .before .before .before .before .before .args .n) (l .2)
+    l .3 .bounded (c .before .before .before .before .before .args .n) (omega (arith, l .1 .few, l .2))
 
 prepare-table-requires : tie.Need-prepare-table-requires
 prepare-table-requires c κs = search needs
-
-table-of-requires : tie.Need-table-of-requires
-table-of-requires c κs = search needs
 
 sub-matches : tie.Need-sub-matches
 sub-matches c = search needs
 
 matches-requires : tie.Need-matches-requires
 matches-requires c κs =
-    let c5 = c .before .before .before .before .before in
-    let c7 = c5 .before .before in
-    let c13 = c7 .before .before .before .before .before .before in
-    let a = c13 .args in
-    let l = c13 .pre .5 in
-    let d = c7 .automaton-of in (
+    let a = c .before .before .before .before .before .before .before .before .before .before .before .before .args in
+    let l = c .before .before .before .before .before .before .before .before .before .before .before .before .pre .5 in
+    let d = c .before .before .before .before .before .before .automaton-of in (
       omega arith,
       omega arith,
-      λ long.
-          rw (d .ensures)
-          (pooled-ranged (l .1) (l .3) (a .n) (l .2) (rw (d .ensures) at long)),
-      ap length (c .table-of .ensures) ∙ table-size _ (a .n) (c5 .prepare-table .ensures .0),
+      λ long. rw (d .ensures) (pooled-ranged (l .1) (l .3) (a .n) (l .2) (rw (d .ensures) at long)),
+      c .before .before .before .before .prepare-table .ensures .0,
     )
 
 on-requires : tie.Need-on-requires
@@ -50,14 +40,13 @@ same-length-2 c = search needs
 
 returns : tie.Need-returns
 returns c =
-    let d = c .before .before .before .before .before .before .before .before .before .before .before .automaton-of in
-    let p = c .before .before .before .before .before .before .before .before .before .prepare-table in
-    let t = c .before .before .before .before .table-of in (
+    let d = c .before .before .before .before .before .before .before .before .before .before .automaton-of in
+    let p = c .before .before .before .before .before .before .before .before .prepare-table in (
       p .result,
       c .on .ensures,
-      λ none far. p .ensures .1 (ap length (d .ensures) ∙ none) far,
+      λ none. p .ensures .1 (ap length (d .ensures) ∙ none),
       p .ensures .2,
-      rw (t .ensures) at (rw (d .ensures) at (c .before .before .before .matches .ensures)),
+      rw (d .ensures) at (c .before .before .before .matches .ensures),
     )
 
 pub matches-spec : {M : Type 1} → statement M
@@ -66,7 +55,6 @@ matches-spec =
     (tie.spec
     automaton-of-requires
     prepare-table-requires
-    table-of-requires
     sub-matches
     matches-requires
     on-requires
