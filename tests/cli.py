@@ -171,6 +171,7 @@ def inputs():
     yield Case('an empty file between', ['{ print NR, $0 }', 'nolast', 'empty', 'other', 'empty'], b'1 a b\n2 c d\n')
     yield Case('a file of one newline', ['{ print NR, NF }', 'newline', 'nolast', 'newline'], b'1 0\n2 2\n3 0\n')
     yield Case('a missing file', ['{ print }', 'three', 'missing'], err=b'flowawk: missing: No such file or directory\n', status=66)
+    yield Case('BEGIN alone opens no files', ['BEGIN { print 1 }', 'missing'], b'1\n')
     yield Case('a directory', ['{ print }', 'three', '.'], err=b'flowawk: .: Is a directory\n', status=74)
     yield Case('a file\'s name with a newline', ['{ print }', 'mis\nsing'], err=b'flowawk: mis\nsing: No such file or directory\n', status=66)
     yield Case('a name of 300 bytes', ['{ print }', 'n' * 300], err=b'flowawk: ' + b'n' * 300 + b': File name too long\n', status=66)
