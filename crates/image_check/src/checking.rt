@@ -6,10 +6,10 @@ ghost use Rattle.edition.specs.Limits.{userNames, instructionCount};
 ghost use Rattle.image_format.specs.Image.{imageBound};
 ghost use Rattle.image_check.specs.Sections.{SectionJudged, SectionsJudged, ImageJudged};
 ghost use Rattle.image_check.specs.Verdict.{outcomeOf, checkOf};
-use image_instructions::Context;
 use edition::Edition;
 use image_index::Kind;
 use image_index::Listed;
+use image_instructions::Context;
 
 // What the checker answers.
 pub enum Verdict {

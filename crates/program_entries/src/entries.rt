@@ -22,9 +22,9 @@ ghost use Rattle.program_entries.specs.Named.{
   WordToken,
 };
 use edition::Edition;
-use program_scanner::Close;
 use program_lexer::Token;
 use program_parser::kinds;
+use program_scanner::Close;
 use program_tables::Entry;
 
 // What the entries of a table are.

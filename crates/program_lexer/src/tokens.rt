@@ -17,8 +17,8 @@ ghost use Rattle.program_tokens.specs.Tokens.{
   asOperand,
 };
 ghost use Rattle.program_lexer.specs.Coded.{coded, decoded, kindCount};
-use program_scanner::Close;
 use edition::Edition;
+use program_scanner::Close;
 
 // A token: where it starts, the number of its kind, and the place after it.
 pub struct Token {

@@ -9,10 +9,10 @@ ghost use Rattle.program_image.specs.Pictured.{Sectioned};
 ghost use Rattle.program_writer.specs.Answer.{translationOf};
 ghost use Rattle.translator.specs.ReadAs.{ReadAs};
 use crate::numbering;
-use program_writer::Translation;
 use edition::Edition;
 use edition::Outcome;
 use program_image::Sections;
+use program_writer::Translation;
 
 // The words of the tables.
 const VARIABLE_WORDS: usize = 2 * (program_entries::SPECIALS + Edition::USERS);
