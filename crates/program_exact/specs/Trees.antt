@@ -1,5 +1,5 @@
--- Internal: cited by private contracts only. The tree that a derivation of an expression says, by the tokens whose
--- kinds it derives.
+-- Document 01, "Tokens and grammar": the tree that a derivation of an expression says, by the tokens whose kinds it
+-- derives; one clause a rule of the grammar.
 use mathlib.Core.Bool.{cond}
 use mathlib.Core.List.{List, [], _∷_}
 use Prim.Native.Nat.{ℕ}
