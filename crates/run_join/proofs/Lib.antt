@@ -2,5 +2,6 @@
 pub mod Grown
 pub mod Joined
 pub mod Measured
+pub mod Bounded
 pub mod Assigned
 pub mod Stored

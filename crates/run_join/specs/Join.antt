@@ -1,7 +1,7 @@
 -- Internal: cited by private contracts only. The fields after an assignment, and the rooms on the way.
 use mathlib.Core.Path.{_≡_}
 use mathlib.Core.Logic.{_⊎_}
-use mathlib.Core.Bool.{cond}
+use mathlib.Core.Bool.{Bool, true, false, cond}
 use mathlib.Core.List.{List, [], _∷_, _++_}
 use Prim.Native.Nat.{ℕ, zero, suc, _+_, _-_, _*_, _≤_, _<_}
 use lib.ListN.{length}
@@ -31,6 +31,11 @@ gapOf between i = cond (eqb i 0) [] between
 -- the definition's text of fields with another between them
 unfoldable pub joinedText : List ℕ → List Value → List ℕ
 joinedText between fs = joined between fs
+
+-- the sizes of the texts of values, taken together
+unfoldable pub textsSize : List Value → ℕ
+textsSize [] = 0
+textsSize (v ∷ vs) = length (textOf v) + textsSize vs
 
 -- where the slot of a record ends
 abbrev pub recordEnd : ℕ → ℕ
@@ -71,3 +76,8 @@ pub record Joins (x y : List ℕ) (l : Line) (k v : ℕ) (between : List ℕ) (n
 pub record Measured (x : List ℕ) (l : Line) (k v n m r : ℕ) : Type 0 where
   pub short : r ≤ textBytes → (b : List ℕ) → length b ≡ m → r ≡ length (joinedText b (newFields x l k v n))
   pub long : textBytes < r → (b : List ℕ) → length b ≡ m → textBytes < length (joinedText b (newFields x l k v n))
+
+-- r tells whether the first n fields joined, with m bytes between them, are more than a text may have
+pub record TooLong (x : List ℕ) (l : Line) (k v n m : ℕ) (r : Bool) : Type 0 where
+  pub short : r ≡ false → (b : List ℕ) → length b ≡ m → length (joinedText b (newFields x l k v n)) ≤ textBytes
+  pub long : r ≡ true → (b : List ℕ) → length b ≡ m → textBytes < length (joinedText b (newFields x l k v n))

@@ -51,8 +51,7 @@ pub fn set_field(
     let n = run_room::show(work, run_records::OFS);
     let all = run_records::split_all(work, t, kind, edition, line);
     let count = field_count(all.known, k);
-    let size = measuring::measure(work, all, k, v, count, n);
-    if Edition::TEXT < size {
+    if measuring::too_long(work, all, k, v, count, n) {
         return Begun {
             outcome: 14,
             line: all,

@@ -1,5 +1,6 @@
 // Fields assigned: all fields joined into the other slot of the record.
 mod assigning;
+mod bounding;
 mod joining;
 mod measuring;
 mod parts;

@@ -8,7 +8,8 @@ ghost use Rattle.buffer.specs.Parts.{part};
 ghost use Rattle.values.specs.Value.{textOf};
 ghost use Rattle.run_room.specs.Layout.{slotCount, baseEnd};
 ghost use Rattle.run_room.specs.Room.{valueBy, Placed};
-ghost use Rattle.run_join.specs.Join.{gapOf, Measured};
+ghost use Rattle.run_join.specs.Join.{gapOf, Measured, TooLong};
+use crate::bounding;
 use crate::parts;
 use crate::parts::Part;
 use edition::Edition;
@@ -41,7 +42,7 @@ fn gap_length(i: usize, n: usize) -> usize
 }
 
 // Returns the size of all fields joined, or more than a text may have.
-pub fn measure(work: &[u8], line: Line, k: usize, v: usize, count: usize, n: usize) -> usize
+fn measure(work: &[u8], line: Line, k: usize, v: usize, count: usize, n: usize) -> usize
     requires { ⌜ (baseEnd ≤ length (now work)) × Placed line × (count ≤ fieldCount) × (v < slotCount) × (n ≤ textBytes) ⌝ }
     ensures { λ r. ⌜ Measured (now (work .entry)) line k v count n r ⌝ }
 {
@@ -60,4 +61,15 @@ pub fn measure(work: &[u8], line: Line, k: usize, v: usize, count: usize, n: usi
         i += 1;
     }
     sum
+}
+
+// Tells whether all fields joined are more than a text may have. They are measured only if a bound of their size is too much.
+pub fn too_long(work: &[u8], line: Line, k: usize, v: usize, count: usize, n: usize) -> bool
+    requires { ⌜ (baseEnd ≤ length (now work)) × Placed line × (line .known ≤ count) × (count ≤ fieldCount) × (v < slotCount) × (n ≤ textBytes) ⌝ }
+    ensures { λ r. ⌜ TooLong (now (work .entry)) line k v count n r ⌝ }
+{
+    if bounding::surely_fits(work, line, v, count, n) {
+        return false;
+    }
+    Edition::TEXT < measure(work, line, k, v, count, n)
 }

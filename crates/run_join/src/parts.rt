@@ -21,7 +21,7 @@ pub struct Part {
 pub fn least_word(a: u64, b: u64) -> u64
     ensures { λ r. ⌜ r ≡ min a b ⌝ }
 {
-    if a < b { a } else { b }
+    if a <= b { a } else { b }
 }
 
 // Returns field i, from 0 on, where field k is to be the value of slot v.

@@ -16,7 +16,7 @@ use Rattle.run_join.proofs.assigning.set_field.Reads as reads
 use Rattle.run_join.proofs.assigning.set_field.Lts as lts
 use Rattle.run_join.proofs.assigning.field_count.Reads as field-count-reads
 use Rattle.run_join.proofs.joining.join_all.Reads as join-all-reads
-use Rattle.run_join.proofs.measuring.measure.Reads as measure-reads
+use Rattle.run_join.proofs.measuring.too_long.Reads as too-long-reads
 use Rattle.run_records.proofs.split_all.Reads as split-all-reads
 use Rattle.run_room.proofs.show.Reads as show-reads
 
@@ -33,8 +33,8 @@ field-count-requires : tie.Need-field-count-requires
 field-count-requires c κs = search needs
 
 -- src/assigning.rt:46:9
-measure-requires : tie.Need-measure-requires
-measure-requires c κs = search needs
+too-long-requires : tie.Need-too-long-requires
+too-long-requires c κs = search needs
 
 -- src/assigning.rt:48:9
 same-length : tie.Need-same-length
@@ -52,7 +52,7 @@ returns c =
     let fits : baseEnd ≤ length y = omega (arith, p .0, o .slotted .outside .size, d .outside .size) in
     let b = part (ofsSlot * slotBytes + headSize) (c .before .before .before .before .before .before .before .before .before .before .show .result) y in
     let lb : length b ≡ c .before .before .before .before .before .before .before .before .before .before .show .result = length-part (ofsSlot * slotBytes + headSize) (c .before .before .before .before .before .before .before .before .before .before .show .result) y (omega (arith, fits, o .most)) in
-    set-long (a .edition .number) (a .t .now) (a .kind) (a .work .now) u y (a .line) (c .before .before .before .before .before .before .split-all .result) (a .k) (a .v) (c .before .before .before .field-count .result) (c .before .before .before .before .before .before .before .before .before .before .show .result) (p .0) (p .1) o d (p .4) (c .before .before .before .field-count .ensures) (c .before .measure .ensures .long (c .if1 .taken) b lb)
+    set-long (a .edition .number) (a .t .now) (a .kind) (a .work .now) u y (a .line) (c .before .before .before .before .before .before .split-all .result) (a .k) (a .v) (c .before .before .before .field-count .result) (c .before .before .before .before .before .before .before .before .before .before .show .result) (p .0) (p .1) o d (p .4) (c .before .before .before .field-count .ensures) (c .before .too-long .ensures .long (c .if1 .taken) b lb)
 
 -- src/assigning.rt:53:16
 mul-from : tie.Need-mul-from
@@ -80,12 +80,12 @@ join-all-requires c κs =
       omega (arith, p .4),
       o .most,
       omega (arith, o .most),
-      omega (arith, c .before .before .measure .ensures .short (c .before .if1 .left) b lb, c .before .if1 .left),
+      omega (arith, c .before .before .too-long .ensures .short (c .before .if1 .left) b lb),
     )
 
 -- src/assigning.rt:58:19
-sub-t21 : tie.Need-sub-t21
-sub-t21 c =
+sub-t20 : tie.Need-sub-t20
+sub-t20 c =
     let a = c .before .before .before .before .before .before .before .before .before .before .before .before .before .before .before .before .before .before .before .args in
     let p = c .before .before .before .before .before .before .before .before .before .before .before .before .before .before .before .before .before .before .before .pre in
     let u = c .before .before .before .before .before .before .before .before .before .before .before .before .before .before .before .show .last .0 in
@@ -95,11 +95,11 @@ sub-t21 c =
     let fits : baseEnd ≤ length y = omega (arith, p .0, o .slotted .outside .size, d .outside .size) in
     let b = part (ofsSlot * slotBytes + headSize) (c .before .before .before .before .before .before .before .before .before .before .before .before .before .before .before .show .result) y in
     let lb : length b ≡ c .before .before .before .before .before .before .before .before .before .before .before .before .before .before .before .show .result = length-part (ofsSlot * slotBytes + headSize) (c .before .before .before .before .before .before .before .before .before .before .before .before .before .before .before .show .result) y (omega (arith, fits, o .most)) in
-    omega (arith, c .before .before .before .join-all .ensures .place, c .before .before .before .before .before .before .measure .ensures .short (c .before .before .before .before .before .if1 .left) b lb, c .before .before .before .before .before .if1 .left, d .side, p .1 .placed .side)
+    omega (arith, c .before .before .before .join-all .ensures .place, c .before .before .before .before .before .before .too-long .ensures .short (c .before .before .before .before .before .if1 .left) b lb, d .side, p .1 .placed .side)
 
 -- src/assigning.rt:61:20
-add-t24 : tie.Need-add-t24
-add-t24 c =
+add-t23 : tie.Need-add-t23
+add-t23 c =
     let a = c .before .before .before .before .before .before .before .before .before .before .before .before .before .before .before .before .before .before .before .args in
     let p = c .before .before .before .before .before .before .before .before .before .before .before .before .before .before .before .before .before .before .before .pre in
     let u = c .before .before .before .before .before .before .before .before .before .before .before .before .before .before .before .show .last .0 in
@@ -109,7 +109,7 @@ add-t24 c =
     let fits : baseEnd ≤ length y = omega (arith, p .0, o .slotted .outside .size, d .outside .size) in
     let b = part (ofsSlot * slotBytes + headSize) (c .before .before .before .before .before .before .before .before .before .before .before .before .before .before .before .show .result) y in
     let lb : length b ≡ c .before .before .before .before .before .before .before .before .before .before .before .before .before .before .before .show .result = length-part (ofsSlot * slotBytes + headSize) (c .before .before .before .before .before .before .before .before .before .before .before .before .before .before .before .show .result) y (omega (arith, fits, o .most)) in
-    omega (arith, c .before .before .before .join-all .ensures .place, c .before .before .before .before .before .before .measure .ensures .short (c .before .before .before .before .before .if1 .left) b lb, c .before .before .before .before .before .if1 .left, d .side, p .1 .placed .side)
+    omega (arith, c .before .before .before .join-all .ensures .place, c .before .before .before .before .before .before .too-long .ensures .short (c .before .before .before .before .before .if1 .left) b lb, d .side, p .1 .placed .side)
 
 -- src/assigning.rt:34:1
 same-length-2 : tie.Need-same-length-2
@@ -128,7 +128,7 @@ returns-2 c =
     let b = part (ofsSlot * slotBytes + headSize) (c .before .before .before .before .before .before .before .before .before .before .before .before .before .before .before .show .result) y in
     let lb : length b ≡ c .before .before .before .before .before .before .before .before .before .before .before .before .before .before .before .show .result = length-part (ofsSlot * slotBytes + headSize) (c .before .before .before .before .before .before .before .before .before .before .before .before .before .before .before .show .result) y (omega (arith, fits, o .most)) in
     set-some (a .edition .number) (a .t .now) (a .kind) (a .work .now) u y (a .line) (c .before .before .before .before .before .before .before .before .before .before .before .split-all .result) (a .k) (a .v) (c .before .before .before .before .before .before .before .before .field-count .result) (c .before .before .before .before .before .before .before .before .before .before .before .before .before .before .before .show .result) (p .0) (p .1) o d (p .4) (c .before .before .before .before .before .before .before .before .field-count .ensures) (c .before .before .before .join-all .last .0) _ (c .before .before .before .join-all .result) _ (omega (arith, c .before .before .before .before .before .before .before .before .field-count .ensures, p .3, d .few)) (c .before .before .before .join-all .ensures)
-    (omega (arith, c .before .before .before .before .before .before .measure .ensures .short (c .before .before .before .before .before .if1 .left) b lb, c .before .before .before .before .before .if1 .left))
+    (omega (arith, c .before .before .before .before .before .before .too-long .ensures .short (c .before .before .before .before .before .if1 .left) b lb))
     (omega arith) (omega arith) (omega arith) (omega arith) (omega arith)
 
 pub set-field-spec : {M : Type 1} → statement M
@@ -138,13 +138,13 @@ set-field-spec =
     show-requires
     split-all-requires
     field-count-requires
-    measure-requires
+    too-long-requires
     same-length
     returns
     mul-from
     add-from
     join-all-requires
-    sub-t21
-    add-t24
+    sub-t20
+    add-t23
     same-length-2
     returns-2)
