@@ -1,4 +1,2 @@
 -- A run from bytes, and what the runner's functions promise.
 pub mod Report
-pub mod Phases
-pub mod Starts

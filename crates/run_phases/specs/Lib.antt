@@ -1,0 +1,3 @@
+-- The sections of a run: a loop of steps, the records read between them, and the start.
+pub mod Phases
+pub mod Starts
