@@ -26,9 +26,9 @@ use Rattle.run_room.specs.declared.lines.Line.{Line}
 use Rattle.run_room.proofs.Outside.{outside-wider, part-before}
 use Rattle.run_room.proofs.Slotwise.{slot-before, slots-before}
 use Rattle.run_room.proofs.Entrywise.{length-entries, getD-entries}
-use Rattle.run_records.specs.Records.{ofsSlot, Safe, InForce, SplitsAll, Becomes}
-use Rattle.run_records.proofs.Turn.{slot-kept, lined-few}
-use Rattle.run_records.proofs.Stored.{force-pends, store-all, all-lined, all-known, store-shown, fields-shown, held-shown}
+use Rattle.run_lines.specs.Records.{ofsSlot, Safe, InForce, SplitsAll, Becomes}
+use Rattle.run_lines.proofs.Turn.{slot-kept, lined-few}
+use Rattle.run_lines.proofs.Stored.{force-pends, store-all, all-lined, all-known, store-shown, fields-shown, held-shown}
 use Rattle.run_join.specs.Join.{newField, newFields, joinedText, Joins}
 use Rattle.run_join.proofs.Joined.{length-new}
 

@@ -12,7 +12,7 @@ use Rattle.semantics.specs.Operations.{Effect, assigned, setField}
 use Rattle.run_room.specs.Room.{slotAt, lineOf, fieldsOf, storeOf, withSlot, withLine}
 use Rattle.run_room.specs.Held.{Did}
 use Rattle.run_room.specs.declared.lines.Line.{Line}
-use Rattle.run_records.specs.Records.{ofsSlot, Safe, InForce, Forced, Same, Becomes}
+use Rattle.run_lines.specs.Records.{ofsSlot, Safe, InForce, Forced, Same, Becomes}
 
 -- what is told of the world: its record is that of the room, and FS and OFS are those of their slots
 pub record Stands (edition : ℕ) (t : List ℕ) (kind : Kind) (x : List ℕ) (l : Line) (s : Separator) (w : World) : Type 0 where

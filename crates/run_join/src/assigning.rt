@@ -13,7 +13,7 @@ ghost use Rattle.semantics.specs.Operations.{assigned};
 ghost use Rattle.run_room.specs.Layout.{baseEnd};
 ghost use Rattle.run_room.specs.Room.{slotAt, lineOf, fieldsOf, Lined};
 ghost use Rattle.run_room.specs.Held.{Did};
-ghost use Rattle.run_records.specs.Records.{ofsSlot, Safe, InForce, Becomes};
+ghost use Rattle.run_lines.specs.Records.{ofsSlot, Safe, InForce, Becomes};
 ghost use Rattle.run_join.specs.Stores.{Assigns, Stores};
 use crate::joining;
 use crate::measuring;
@@ -48,8 +48,8 @@ pub fn set_field(
         → Becomes (edition .number) fs (now (work .entry)) (now (work .exit)) line (r .line) (r .outcome)
         (assigned (edition .number) w (suc k) (slotAt (now (work .entry)) v))) ⌝ }
 {
-    let n = run_room::show(work, run_records::OFS);
-    let all = run_records::split_all(work, t, kind, edition, line);
+    let n = run_room::show(work, run_lines::OFS);
+    let all = run_lines::split_all(work, t, kind, edition, line);
     let count = field_count(all.known, k);
     if measuring::too_long(work, all, k, v, count, n) {
         return Begun {
@@ -57,7 +57,7 @@ pub fn set_field(
             line: all,
         };
     }
-    let from = run_records::OFS * run_room::SLOT + run_room::HEAD;
+    let from = run_lines::OFS * run_room::SLOT + run_room::HEAD;
     let at = joining::join_all(work, all, k, v, count, from, n);
     Begun {
         outcome: 0,
@@ -101,7 +101,7 @@ pub fn store_field(
     requires { ⌜ (baseEnd ≤ length (now work)) × Lined line × Sized kind (now t) × (a + 1 < operandDepth) ⌝ }
     ensures { λ r. ⌜ Stores (edition .number) (now (t .entry)) kind (now (work .entry)) (now (work .exit)) line (r .line) a (r .outcome) ⌝ }
 {
-    let f = run_records::field_number(work, a);
+    let f = run_lines::field_number(work, a);
     if f.stop != 0 {
         return Begun {
             outcome: f.stop,

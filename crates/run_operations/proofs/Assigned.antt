@@ -26,8 +26,8 @@ use Rattle.run_room.specs.Room.{slotAt, slotsFrom, lineOf, fieldsOf, Lined, Sto
 use Rattle.run_room.specs.Held.{SlotHeld, Held, Slotted, Did}
 use Rattle.run_room.specs.declared.lines.Line.{Line}
 use Rattle.run_room.proofs.Stored.{did-slot, did-so, store-slot, held-slot}
-use Rattle.run_records.specs.Records.{fsSlot, Safe, InForce, SeparatorOf}
-use Rattle.run_records.proofs.Stored.{some-one, all-known}
+use Rattle.run_lines.specs.Records.{fsSlot, Safe, InForce, SeparatorOf}
+use Rattle.run_lines.proofs.Stored.{some-one, all-known}
 use Rattle.run_operations.specs.Assigns.{Known, fsOf, Assigns}
 use Rattle.run_operations.proofs.Showing.{slot-other, store-again, held-again}
 

@@ -11,7 +11,7 @@ use Rattle.semantics.specs.Operations.{joined}
 use Rattle.run_room.specs.Layout.{slotCount, slotsEnd}
 use Rattle.run_room.specs.Room.{slotAt, slotsFrom}
 use Rattle.run_room.specs.Held.{Shown}
-use Rattle.run_records.specs.Records.{ofsSlot}
+use Rattle.run_lines.specs.Records.{ofsSlot}
 use Rattle.run_operations.specs.Prints.{InSlot, Kept, ofsOf, lineFrom}
 use Rattle.run_operations.proofs.Showing.{in-length, shown-in, shown-length, kept-shown, kept-none, kept-on}
 

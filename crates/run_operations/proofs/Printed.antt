@@ -18,7 +18,7 @@ use Rattle.run_room.specs.Layout.{slotCount, slotsEnd}
 use Rattle.run_room.specs.Room.{slotAt, slotsFrom, storeOf}
 use Rattle.run_room.specs.Held.{Shown, Did}
 use Rattle.run_room.specs.declared.lines.Line.{Line}
-use Rattle.run_records.specs.Records.{ofsSlot}
+use Rattle.run_lines.specs.Records.{ofsSlot}
 use Rattle.run_operations.specs.Prints.{InSlot, Kept, orsSlot, lineFrom, Writes, written, PrintedBy}
 use Rattle.run_operations.specs.declared.printing.Printed.{Printed}
 use Rattle.run_operations.specs.declared.printing.Printed.the-variants.{Bytes, Short}

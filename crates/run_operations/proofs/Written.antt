@@ -11,7 +11,7 @@ use Rattle.values.specs.Value.{Value, textOf}
 use Rattle.run_room.specs.Layout.{headSize, slotBytes, slotCount, slotsEnd}
 use Rattle.run_room.specs.Room.{slotAt}
 use Rattle.run_room.specs.Held.{Shown}
-use Rattle.run_records.specs.Records.{ofsSlot}
+use Rattle.run_lines.specs.Records.{ofsSlot}
 use Rattle.run_operations.specs.Prints.{InSlot, Kept, ofsOf, lineFrom}
 use Rattle.run_operations.proofs.Showing.{in-length, in-lent, shown-length, kept-none, kept-on}
 use Rattle.run_operations.proofs.Joined.{line-one, line-more, length-more, length-mono}

@@ -12,7 +12,7 @@ use Rattle.values.specs.Value.{Value, textOf}
 use Rattle.semantics.specs.World.{World, recordOf}
 use Rattle.run_room.specs.Room.{slotAt, lineOf, fieldsOf, storeOf, withSlot}
 use Rattle.run_room.specs.declared.lines.Line.{Line}
-use Rattle.run_records.specs.Records.{fsSlot, InForce, Forced}
+use Rattle.run_lines.specs.Records.{fsSlot, InForce, Forced}
 
 -- what is told of the world: its variables are those of the slots, its record that of the room, and so many records
 -- were begun

@@ -13,7 +13,7 @@ ghost use Rattle.ere_table.specs.Table.{tableWords};
 ghost use Rattle.separators.specs.Kinds.{Sized, Tells};
 ghost use Rattle.values.specs.Value.{Value};
 ghost use Rattle.semantics.specs.World.{World, valueAt};
-ghost use Rattle.run_records.specs.Records.{Safe, InForce};
+ghost use Rattle.run_lines.specs.Records.{Safe, InForce};
 ghost use Rattle.run_operations.specs.Assigns.{Known, Assigns};
 use edition::Edition;
 use run_room::Line;
@@ -75,15 +75,15 @@ pub fn set_variable(
         (Assigns (edition .number) (now (t .entry)) (now (t .exit)) kind (r .kind)
         (now (work .entry)) (now (work .exit)) line (r .line) v a) ⌝ }
 {
-    if run_room::OPERANDS + v != run_records::FS {
+    if run_room::OPERANDS + v != run_lines::FS {
         run_room::copy_slot(work, a, run_room::OPERANDS + v);
         return Assigned {
             line: line,
             kind: kind,
         };
     }
-    let r = run_records::set_separator(work, t, kind, edition, line, a);
-    let next = run_records::separator_of(work, edition, t);
+    let r = run_lines::set_separator(work, t, kind, edition, line, a);
+    let next = run_lines::separator_of(work, edition, t);
     Assigned {
         line: r,
         kind: next,

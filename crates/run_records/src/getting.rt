@@ -13,10 +13,8 @@ ghost use Rattle.semantics.specs.Operations.{fieldAt, getField};
 ghost use Rattle.run_room.specs.Layout.{slotCount, baseEnd};
 ghost use Rattle.run_room.specs.Room.{slotAt, lineOf, fieldsOf, Lined, storeOf, withSlot};
 ghost use Rattle.run_room.specs.Held.{Slotted, Did};
-ghost use Rattle.run_records.specs.Records.{Safe, InForce, knownField, Leaves};
+ghost use Rattle.run_lines.specs.Records.{Safe, InForce, knownField, Leaves};
 use crate::beginning::Begun;
-use crate::lines;
-use crate::numbers;
 use edition::Edition;
 use run_room::Line;
 use separators::Kind;
@@ -56,7 +54,7 @@ pub fn get_field(
         → (InForce (edition .number) fs r s)
         × (storeOf (now (work .exit)) r s ≡ withSlot (storeOf (now (work .entry)) line s) slot (fieldAt w k))) ⌝ }
 {
-    let r = lines::split_to(work, t, kind, edition, line, k);
+    let r = run_lines::split_to(work, t, kind, edition, line, k);
     put_field(work, r, k, slot);
     r
 }
@@ -77,7 +75,7 @@ pub fn get_count(
         × (storeOf (now (work .exit)) r s
         ≡ withSlot (storeOf (now (work .entry)) line s) slot (number (pos (length (fieldsOf (now (work .entry)) line s)))))) ⌝ }
 {
-    let r = lines::split_all(work, t, kind, edition, line);
+    let r = run_lines::split_all(work, t, kind, edition, line);
     run_room::set_number(work, slot, Edition::NUMBER + r.known as u64);
     r
 }
@@ -98,7 +96,7 @@ pub fn load_field(
         → Leaves (edition .number) fs s w (now (work .entry)) (now (work .exit)) line (r .line) a (r .outcome)
         (getField (slotAt (now (work .entry)) a) w)) ⌝ }
 {
-    let f = numbers::field_number(work, a);
+    let f = run_lines::field_number(work, a);
     if f.stop != 0 {
         return Begun {
             outcome: f.stop,

@@ -9,7 +9,7 @@ ghost use Rattle.semantics.specs.Operations.{assigned};
 ghost use Rattle.run_room.specs.Layout.{slotCount, baseEnd};
 ghost use Rattle.run_room.specs.Room.{slotAt, Lined};
 ghost use Rattle.run_room.specs.Held.{Did};
-ghost use Rattle.run_records.specs.Records.{Safe, Becomes};
+ghost use Rattle.run_lines.specs.Records.{Safe, Becomes};
 use crate::beginning;
 use crate::beginning::Begun;
 use edition::Edition;

@@ -19,7 +19,7 @@ ghost use Rattle.run_room.specs.Layout.{slotCount, slotsEnd, baseEnd};
 ghost use Rattle.run_room.specs.Room.{slotAt, slotsFrom, lineOf, fieldsOf, Lined, storeOf, withSlot};
 ghost use Rattle.run_room.specs.Held.{Did};
 ghost use Rattle.run_room.specs.declared.lines.Line.{Line};
-ghost use Rattle.run_records.specs.Records.{Safe, InForce, Leaves};
+ghost use Rattle.run_lines.specs.Records.{Safe, InForce, Leaves};
 ghost use Rattle.run_records.specs.declared.beginning.Begun.{Begun};
 ghost use Rattle.run_join.specs.Stores.{Stores};
 ghost use Rattle.run_image.specs.Table.{Readable, Prepared};

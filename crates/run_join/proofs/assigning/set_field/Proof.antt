@@ -6,8 +6,8 @@ use lib.ListN.{length}
 use Rattle.buffer.specs.Parts.{part}
 use Rattle.buffer.proofs.Parts.{length-part}
 use Rattle.run_room.specs.Layout.{headSize, slotBytes, baseEnd}
-use Rattle.run_records.specs.Records.{ofsSlot}
-use Rattle.run_records.proofs.Stored.{all-lined}
+use Rattle.run_lines.specs.Records.{ofsSlot}
+use Rattle.run_lines.proofs.Stored.{all-lined}
 use Rattle.run_join.proofs.Assigned.{set-long, set-some}
 use borrow.Author.Needs.{needs}
 use Rattle.run_join.proofs.assigning.set_field.Statement.{statement}

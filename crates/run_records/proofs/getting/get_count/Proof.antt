@@ -1,12 +1,12 @@
 -- `get_count` meets its contract.
 use mathlib.Core.Path.{refl}
-use Rattle.run_records.proofs.Got.{counted-all}
+use Rattle.run_lines.proofs.Got.{counted-all}
 use borrow.Author.Needs.{needs}
 use Rattle.run_records.proofs.getting.get_count.Statement.{statement}
 use Rattle.run_records.proofs.getting.get_count.Tie as tie
 use Rattle.run_records.proofs.getting.get_count.Reads as reads
 use Rattle.run_records.proofs.getting.get_count.Lts as lts
-use Rattle.run_records.proofs.lines.split_all.Reads as split-all-reads
+use Rattle.run_lines.proofs.lines.split_all.Reads as split-all-reads
 use Rattle.run_room.proofs.set_number.Reads as set-number-reads
 
 -- src/getting.rt:63:9

@@ -1,12 +1,12 @@
 -- `get_field` meets its contract.
-use Rattle.run_records.proofs.Got.{got}
+use Rattle.run_lines.proofs.Got.{got}
 use borrow.Author.Needs.{needs}
 use Rattle.run_records.proofs.getting.get_field.Statement.{statement}
 use Rattle.run_records.proofs.getting.get_field.Tie as tie
 use Rattle.run_records.proofs.getting.get_field.Reads as reads
 use Rattle.run_records.proofs.getting.get_field.Lts as lts
 use Rattle.run_records.proofs.getting.put_field.Reads as put-field-reads
-use Rattle.run_records.proofs.lines.split_to.Reads as split-to-reads
+use Rattle.run_lines.proofs.lines.split_to.Reads as split-to-reads
 
 -- src/getting.rt:49:9
 split-to-requires : tie.Need-split-to-requires

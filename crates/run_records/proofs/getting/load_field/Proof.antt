@@ -2,14 +2,14 @@
 use native.Mathlib.Omega.{arith}
 use Rattle.values.specs.Operations.{fieldNumber}
 use Rattle.run_room.specs.Room.{slotAt}
-use Rattle.run_records.proofs.Got.{field-most, load-stop, load-field}
+use Rattle.run_lines.proofs.Got.{field-most, load-stop, load-field}
 use borrow.Author.Needs.{needs}
 use Rattle.run_records.proofs.getting.load_field.Statement.{statement}
 use Rattle.run_records.proofs.getting.load_field.Tie as tie
 use Rattle.run_records.proofs.getting.load_field.Reads as reads
 use Rattle.run_records.proofs.getting.load_field.Lts as lts
 use Rattle.run_records.proofs.getting.get_field.Reads as get-field-reads
-use Rattle.run_records.proofs.numbers.field_number.Reads as field-number-reads
+use Rattle.run_lines.proofs.numbers.field_number.Reads as field-number-reads
 
 -- src/getting.rt:94:9
 field-number-requires : tie.Need-field-number-requires

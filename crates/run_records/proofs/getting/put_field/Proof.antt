@@ -1,7 +1,7 @@
 -- `put_field` meets its contract: the record, a field above the known ones, or the value of an entry.
 use native.Mathlib.Omega.{arith}
 use Rattle.run_room.proofs.Slotwise.{slotted-is}
-use Rattle.run_records.proofs.Stored.{known-record, known-above, known-entry}
+use Rattle.run_lines.proofs.Stored.{known-record, known-above, known-entry}
 use borrow.Author.Needs.{needs}
 use Rattle.run_records.proofs.getting.put_field.Statement.{statement}
 use Rattle.run_records.proofs.getting.put_field.Tie as tie

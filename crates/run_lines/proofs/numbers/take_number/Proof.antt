@@ -1,0 +1,58 @@
+-- `take_number` meets its contract, by the value's kind.
+use mathlib.Core.Path.{refl}
+use native.Mathlib.Omega.{arith}
+use Rattle.run_room.specs.Room.{slotAt}
+use Rattle.run_lines.proofs.Numbered.{taken-number, taken-unset, taken-text, kind-text}
+use borrow.Author.Needs.{needs}
+use Rattle.run_lines.proofs.numbers.take_number.Statement.{statement}
+use Rattle.run_lines.proofs.numbers.take_number.Tie as tie
+use Rattle.run_lines.proofs.numbers.take_number.Reads as reads
+use Rattle.run_lines.proofs.numbers.take_number.Lts as lts
+use Rattle.run_lines.proofs.numbers.text_number.Reads as text-number-reads
+use Rattle.run_room.proofs.slot_kind.Reads as slot-kind-reads
+use Rattle.run_room.proofs.slot_number.Reads as slot-number-reads
+use Rattle.run_room.proofs.slot_text.Reads as slot-text-reads
+
+-- src/numbers.rt:44:9
+slot-kind-requires : tie.Need-slot-kind-requires
+slot-kind-requires c κs = search needs
+
+-- src/numbers.rt:48:19
+slot-number-requires : tie.Need-slot-number-requires
+slot-number-requires c κs = search needs
+
+-- src/numbers.rt:46:9
+returns : tie.Need-returns
+returns c = let a = c .before .before .before .before .args in taken-number (slotAt (a .work .now) (a .i)) (c .before .before .slot-kind .result) _ (c .before .before .slot-kind .ensures) (c .before .if1 .taken) (c .slot-number .ensures .within) (c .slot-number .ensures .value) refl
+
+-- src/numbers.rt:52:9
+returns-2 : tie.Need-returns-2
+returns-2 c = let a = c .before .before .before .before .args in taken-unset (slotAt (a .work .now) (a .i)) (c .before .before .slot-kind .result) _ (c .before .before .slot-kind .ensures) (c .if2 .taken) refl refl
+
+-- src/numbers.rt:57:17
+slot-text-requires : tie.Need-slot-text-requires
+slot-text-requires c κs = search needs
+
+-- src/numbers.rt:57:5
+text-number-requires : tie.Need-text-number-requires
+text-number-requires c κs = search needs
+
+-- src/numbers.rt:40:1
+returns-3 : tie.Need-returns-3
+returns-3 c =
+    let a = c .before .before .before .before .before .before .args in
+    let v = slotAt (a .work .now) (a .i) in
+    taken-text v (c .before .before .before .before .slot-kind .result) _ _ (c .before .before .before .before .slot-kind .ensures) (c .before .before .before .if1 .left) (c .before .before .if2 .left)
+    (c .before .slot-text .ensures (kind-text v (c .before .before .before .before .slot-kind .result) (c .before .before .before .before .slot-kind .ensures) (c .before .before .before .if1 .left) (c .before .before .if2 .left))) (c .text-number .ensures)
+
+pub take-number-spec : {M : Type 1} → statement M
+take-number-spec =
+    tie.close
+    (tie.spec
+    slot-kind-requires
+    slot-number-requires
+    returns
+    returns-2
+    slot-text-requires
+    text-number-requires
+    returns-3)

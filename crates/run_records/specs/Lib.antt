@@ -1,3 +1,0 @@
--- The record and its fields.
-pub mod Records
-pub mod Numbers
