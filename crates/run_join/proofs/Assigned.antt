@@ -29,8 +29,8 @@ use Rattle.run_room.proofs.Entrywise.{length-entries, getD-entries}
 use Rattle.run_lines.specs.Records.{ofsSlot, Safe, InForce, SplitsAll, Becomes}
 use Rattle.run_lines.proofs.Turn.{slot-kept, lined-few}
 use Rattle.run_lines.proofs.Stored.{force-pends, store-all, all-lined, all-known, store-shown, fields-shown, held-shown}
-use Rattle.run_join.specs.Join.{newField, newFields, joinedText, Joins}
-use Rattle.run_join.proofs.Joined.{length-new}
+use Rattle.run_parts.specs.Join.{newField, newFields, joinedText, Joins}
+use Rattle.run_parts.proofs.Joined.{length-new}
 
 getD-new : (x : List ℕ) (l : Line) (k v n i : ℕ) → i < n → getD (newFields x l k v n) i unset ≡ newField x l k v i
 unfolding newFields

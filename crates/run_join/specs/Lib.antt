@@ -1,3 +1,2 @@
 -- Fields joined, and assigned.
-pub mod Join
 pub mod Stores

@@ -15,8 +15,6 @@ ghost use Rattle.run_room.specs.Room.{slotAt, lineOf, fieldsOf, Lined};
 ghost use Rattle.run_room.specs.Held.{Did};
 ghost use Rattle.run_lines.specs.Records.{ofsSlot, Safe, InForce, Becomes};
 ghost use Rattle.run_join.specs.Stores.{Assigns, Stores};
-use crate::joining;
-use crate::measuring;
 use edition::Edition;
 use run_records::Begun;
 use run_room::Line;
@@ -51,14 +49,14 @@ pub fn set_field(
     let n = run_room::show(work, run_lines::OFS);
     let all = run_lines::split_all(work, t, kind, edition, line);
     let count = field_count(all.known, k);
-    if measuring::too_long(work, all, k, v, count, n) {
+    if run_parts::too_long(work, all, k, v, count, n) {
         return Begun {
             outcome: 14,
             line: all,
         };
     }
     let from = run_lines::OFS * run_room::SLOT + run_room::HEAD;
-    let at = joining::join_all(work, all, k, v, count, from, n);
+    let at = run_parts::join_all(work, all, k, v, count, from, n);
     Begun {
         outcome: 0,
         line: Line {

@@ -1,0 +1,91 @@
+-- `join_all` meets its contract: so many fields have been joined.
+use native.Mathlib.Omega.{arith}
+use lib.ListN.{length}
+use Rattle.buffer.specs.Parts.{part}
+use mathlib.Core.Path.{_≡_, refl, sym, subst}
+use mathlib.Core.List.{List}
+use Prim.Native.Nat.{ℕ, suc, _-_, _≤_}
+use native.Mathlib.Numerals.{add-one}
+use Rattle.run_parts.specs.Join.{Turned, Joins}
+use Rattle.run_parts.proofs.Joined.{joins-none, join-bound, joins-more, joined-below, between-same}
+use Rattle.run_parts.proofs.joining.join_all.Statement.{statement}
+use Rattle.run_parts.proofs.joining.join_all.Tie as tie
+use Rattle.run_parts.proofs.joining.join_all.Reads as reads
+use Rattle.run_parts.proofs.joining.join_all.Lts as lts
+use Rattle.run_parts.proofs.joining.join_one.Reads as join-one-reads
+
+abbrev Inv-loop : tie.InvT-loop
+Inv-loop work₀ line k v count from n i₀ at₀ work i at = (i ≤ count) × (Joins work₀ work line k v (part from n work₀) i at)
+
+abbrev μ-loop : tie.MeasureT-loop
+μ-loop work₀ line k v count from n i₀ at₀ work i at = count - i
+
+-- src/joining.rt:87:5
+loop-holds : tie.Need-loop-holds Inv-loop μ-loop
+loop-holds c = let a = c .before .args in (omega arith, joins-none (a .work .now) (a .line) (a .k) (a .v) (part (a .from) (a .n) (a .work .now)))
+
+-- src/joining.rt:88:9
+join-one-requires : tie.Need-join-one-requires Inv-loop μ-loop
+join-one-requires c κs =
+    let a = c .before .before .before .before .args in
+    let p = c .before .before .before .before .pre in
+    let b = part (a .from) (a .n) (a .work .now) in (
+      omega (arith, c .before .before .loop .inv .1 .outside .size, p .0),
+      p .1,
+      omega (arith, c .before .loop-test .taken, p .2),
+      p .3,
+      p .4,
+      p .5,
+      join-bound (a .work .now) (c .before .before .loop .work) (a .line) (a .k) (a .v) b (c .before .before .loop .i) (c .before .before .loop .at) (p .0) (p .1) (p .3) (omega (arith, c .before .loop-test .taken, p .2)) (c .before .before .loop .inv .1) (a .from) (a .n) (a .count) refl (omega (arith, p .5)) (c .before .loop-test .taken) (p .6),
+    )
+
+-- src/joining.rt:89:9
+add-i : tie.Need-add-i Inv-loop μ-loop
+add-i c = omega arith
+
+-- src/joining.rt:87:5
+loop-less : tie.Need-loop-less Inv-loop μ-loop
+loop-less c = omega (arith, c .before .before .before .before .loop-test .taken)
+
+-- src/joining.rt:87:5
+loop-again : tie.Need-loop-again Inv-loop μ-loop
+loop-again c =
+    let a = c .before .before .before .before .before .before .before .args in
+    let p = c .before .before .before .before .before .before .before .pre in
+    let b = part (a .from) (a .n) (a .work .now) in
+    let z = c .before .before .join-one .last .0 in
+    let o =
+    subst (Turned (c .before .before .before .before .before .loop .work) z (a .line) (a .k) (a .v) (c .before .before .before .before .before .loop .i) (c .before .before .before .before .before .loop .at) (c .before .before .join-one .result))
+    (between-same (a .work .now) (c .before .before .before .before .before .loop .work) (a .line) (a .k) (a .v) b (c .before .before .before .before .before .loop .i) (c .before .before .before .before .before .loop .at) (p .0) (p .1) (p .3) (omega (arith, c .before .before .before .before .loop-test .taken, p .2)) (c .before .before .before .before .before .loop .inv .1) (a .from) (a .n) (omega (arith, p .5))) (c .before .before .join-one .ensures) in
+    let most = joined-below (a .work .now) (a .line) (a .k) (a .v) b (suc (c .before .before .before .before .before .loop .i)) (a .count) (c .before .before .before .before .loop-test .taken) in (
+      omega (arith, c .before .before .before .before .loop-test .taken),
+      subst (λ (m : ℕ). Joins (a .work .now) z (a .line) (a .k) (a .v) b m (c .before .before .join-one .result)) (sym (add-one (c .before .before .before .before .before .loop .i)))
+          (joins-more (a .work .now) (c .before .before .before .before .before .loop .work) (a .line) (a .k) (a .v) b (c .before .before .before .before .before .loop .i) (c .before .before .before .before .before .loop .at) (p .0) (p .1) (p .3) (omega (arith, c .before .before .before .before .loop-test .taken, p .2)) (c .before .before .before .before .before .loop .inv .1) _ (c .before .before .join-one .result) (omega (arith, most, p .6)) o),
+    )
+
+-- src/joining.rt:80:1
+same-length : tie.Need-same-length Inv-loop μ-loop
+same-length c = c .before .loop .inv .1 .outside .size
+
+-- src/joining.rt:80:1
+returns : tie.Need-returns Inv-loop μ-loop
+returns c =
+    let a = c .before .before .before .args in
+    let p = c .before .before .before .pre in
+    let b = part (a .from) (a .n) (a .work .now) in
+    let e : c .before .loop .i ≡ a .count = omega (arith, c .loop-test .left, c .before .loop .inv .0) in
+    subst (λ (m : ℕ). Joins (a .work .now) (c .before .loop .work) (a .line) (a .k) (a .v) b m (c .before .loop .at)) e (c .before .loop .inv .1)
+
+pub join-all-spec : {M : Type 1} → statement M
+join-all-spec =
+    tie.close
+    (tie.spec
+    Inv-loop
+    μ-loop
+    loop-holds
+    join-one-requires
+    add-i
+    loop-less
+    loop-again
+    same-length
+    returns)

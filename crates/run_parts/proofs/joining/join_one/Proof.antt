@@ -1,0 +1,85 @@
+-- `join_one` meets its contract.
+use native.Mathlib.Omega.{arith}
+use lib.ListN.{length}
+use Rattle.buffer.specs.Parts.{part}
+use mathlib.Core.Path.{ap, refl}
+use Prim.Native.Nat.{_-_}
+use Rattle.values.specs.Value.{Value, textOf}
+use Rattle.run_parts.proofs.Grown.{value-kept, one-joined}
+use borrow.Author.Needs.{needs}
+use Rattle.run_parts.proofs.joining.join_one.Statement.{statement}
+use Rattle.run_parts.proofs.joining.join_one.Tie as tie
+use Rattle.run_parts.proofs.joining.join_one.Reads as reads
+use Rattle.run_parts.proofs.joining.join_one.Lts as lts
+use Rattle.run_parts.proofs.joining.put_gap.Reads as put-gap-reads
+use Rattle.run_parts.proofs.joining.put_text.Reads as put-text-reads
+use Rattle.run_parts.proofs.parts.field_part.Reads as field-part-reads
+use Rattle.run_room.proofs.put_entry.Reads as put-entry-reads
+
+-- src/joining.rt:65:16
+sub-side : tie.Need-sub-side
+sub-side c = search needs
+
+-- src/joining.rt:66:9
+field-part-requires : tie.Need-field-part-requires
+field-part-requires c κs = search needs
+
+-- src/joining.rt:67:9
+put-gap-requires : tie.Need-put-gap-requires
+put-gap-requires c κs = search needs
+
+-- src/joining.rt:68:9
+put-text-requires : tie.Need-put-text-requires
+put-text-requires c κs =
+    let a = c .before .before .before .before .before .before .before .before .before .args in
+    let p = c .before .before .before .before .before .before .before .before .before .pre in
+    let side = 1 - a .line .side in
+    let part-of = c .before .before .before .before .before .field-part .ensures .1 side (omega (arith, p .1 .side)) in
+    let e = ap (λ (q : Value). length (textOf q)) (value-kept (a .work .now) _ side (a .at) _ (c .before .before .before .before .before .field-part .result) part-of (c .before .before .before .put-gap .ensures .1) _ (c .before .before .before .before .before .field-part .ensures .0)) in
+    (omega (arith, p .0, c .before .before .before .put-gap .ensures .1 .outside .size), omega (arith, p .1 .side), part-of, omega (arith, e, c .before .before .before .put-gap .ensures .0, p .6))
+
+-- src/joining.rt:75:5
+put-entry-requires : tie.Need-put-entry-requires
+put-entry-requires c κs =
+    let a = c .before .before .before .before .before .before .before .before .before .before .before .before .before .args in
+    let p = c .before .before .before .before .before .before .before .before .before .before .before .before .before .pre in
+    let side = 1 - a .line .side in
+    let part-of = c .before .before .before .before .before .before .before .before .before .field-part .ensures .1 side (omega (arith, p .1 .side)) in
+    let e = ap (λ (q : Value). length (textOf q)) (value-kept (a .work .now) _ side (a .at) _ (c .before .before .before .before .before .before .before .before .before .field-part .result) part-of (c .before .before .before .before .before .before .before .put-gap .ensures .1) _ (c .before .before .before .before .before .before .before .before .before .field-part .ensures .0)) in
+    (omega (arith, p .0, c .before .before .before .before .before .before .before .put-gap .ensures .1 .outside .size, c .before .before .before .put-text .ensures .1 .outside .size), p .2, omega (arith, c .before .before .before .before .before .before .before .put-gap .ensures .0, p .6), omega (arith, e, c .before .before .before .put-text .ensures .0, p .6))
+
+-- src/joining.rt:76:5
+add-result : tie.Need-add-result
+add-result c =
+    let a = c .before .before .before .before .before .before .before .before .before .before .before .before .before .before .before .before .args in
+    let p = c .before .before .before .before .before .before .before .before .before .before .before .before .before .before .before .before .pre in
+    let side = 1 - a .line .side in
+    let part-of = c .before .before .before .before .before .before .before .before .before .before .before .before .field-part .ensures .1 side (omega (arith, p .1 .side)) in
+    let e = ap (λ (q : Value). length (textOf q)) (value-kept (a .work .now) _ side (a .at) _ (c .before .before .before .before .before .before .before .before .before .before .before .before .field-part .result) part-of (c .before .before .before .before .before .before .before .before .before .before .put-gap .ensures .1) _ (c .before .before .before .before .before .before .before .before .before .before .before .before .field-part .ensures .0)) in
+    omega (arith, e, c .before .before .before .before .before .before .before .before .before .before .put-gap .ensures .0, c .before .before .before .before .before .before .put-text .ensures .0, p .6)
+
+-- src/joining.rt:60:1
+same-length : tie.Need-same-length
+same-length c = search needs
+
+-- src/joining.rt:60:1
+returns : tie.Need-returns
+returns c =
+    let a = c .before .before .before .before .before .before .before .before .before .before .before .before .before .before .before .before .args in
+    let p = c .before .before .before .before .before .before .before .before .before .before .before .before .before .before .before .before .pre in
+    one-joined (a .work .now) _ _ _ (a .line) (a .k) (a .v) (a .i) (a .at) (c .before .before .before .before .before .before .before .before .before .before .put-gap .result) (c .before .before .before .before .before .before .put-text .result) (c .before .before .before .before .before .before .before .before .before .before .before .before .field-part .result)
+    (part (a .from) (a .n) (a .work .now)) (c .before .before .before .before .before .before .before .before .before .before .before .before .field-part .ensures .1 (1 - a .line .side) (omega (arith, p .1 .side))) (c .before .before .before .before .before .before .before .before .before .before .before .before .field-part .ensures .0)
+    (c .before .before .before .before .before .before .before .before .before .before .put-gap .ensures .0) (c .before .before .before .before .before .before .before .before .before .before .put-gap .ensures .1) (c .before .before .before .before .before .before .put-text .ensures .0) (c .before .before .before .before .before .before .put-text .ensures .1) _ (refl, refl, refl, refl) (c .before .before .put-entry .ensures)
+
+pub join-one-spec : {M : Type 1} → statement M
+join-one-spec =
+    tie.close
+    (tie.spec
+    sub-side
+    field-part-requires
+    put-gap-requires
+    put-text-requires
+    put-entry-requires
+    add-result
+    same-length
+    returns)
