@@ -22,14 +22,15 @@ use Rattle.program_reader.specs.Programs.{readProgram}
 use Rattle.program_parser.specs.Reading.{Good as InText}
 use Rattle.program_parser.proofs.Tokens.{good-at}
 use Rattle.program_exact.specs.Machine.{plain, pattern as pattern-of, State, start, done as done-state, after as after-state, step, stepIn, run}
+use Rattle.program_exact.specs.Claims.{Accepted}
 use Rattle.program_exact.proofs.Facts.{run-none, run-append}
-use Rattle.program_exact.proofs.Sentences.{not-viable}
-use Rattle.program_exact.proofs.Viability.{run-viable, viable-run}
+use Rattle.program_exact.proofs.Sentences.{sentence-run, not-viable}
+use Rattle.program_exact.proofs.Viability.{run-viable, viable-run, run-sentence}
 use Rattle.program_exact.proofs.Walks.{Live, Next, read-again, as-it-is, Walk, stay as rest, go as walks, taken, Here, walk-in, after-in, operand-in, operand-after-in, onward-after, onward-operand}
 use Rattle.program_exact.proofs.Readings.{ere-start, Refusal as Refused}
-use Rattle.program_exact.proofs.Exactly.{Place, place, viable-more, end-step, Sooner, compare, no-level, answer}
+use Rattle.program_exact.proofs.Exactly.{Place, place, viable-more, end-step, Sooner, compare, no-level, answer, reads-exactly}
 use Rattle.program_levels.specs.Levels.{openedBy}
-use Rattle.program_levels.specs.Claims.{Within, OpensTooMany, SameLevels, LevelExactly}
+use Rattle.program_levels.specs.Claims.{Within, OpensTooMany, SameLevels, LevelExactly, ReadsWithin}
 use Rattle.program_levels.proofs.Count.{Count, between, Move, moves, expects, move, travel, trace}
 use Rattle.program_levels.proofs.Derivations.{trace-append}
 use Rattle.program_levels.proofs.Sentences.{sentence-went}
@@ -296,31 +297,57 @@ module _ (edition : ℕ) where
         too-late b l u t (past-level o p e (go-on v)) z (own .0)) h))
         (compare edition s l b t u a (m .here .reached))
 
-    all-read : (l : List Kind) (t : Token) → Reached edition s l t → OpensTooMany edition l (t .kind) → (q : Program) (u : Token) → readProgram edition s ≡ ok q u → ⊥
-    unfolding run
-    all-read l t a x q u e =
-        let f = answer edition s (ok q u) e in
-        let c = counts (ok q u) e in
-        let m = meets (f .0) u (c .0) u (f .1) (c .1) refl in
-        let b : List Kind = m .here .before in
-        let own = opens-to l (t .kind) x in
-        ⊎-elim
-        (λ h.
-        let level : levelAt l (t .kind) ≡ levelAt b (u .kind) = ap (λ (z : Place). levelAt (z .before) (z .token .kind)) h in
-        let none-opened : levelAt b (u .kind) ≡ 0 = ap (λ (k : Kind). levelAt b k) (f .2) ∙ (ap (λ (z : Count). move edition z text-end .level) (m .counted) ∙ end-level edition (f .0) (c .0) done-state (m .near) (f .3)) in
-        omega (arith, own .1, level, none-opened))
-        (λ h. ⊎-elim (λ z. too-late l b t u (own .1) z (m .within))
-        (λ z.
-        let i = viable-run edition (l ++ ((t .kind) ∷ [])) (x .viable) in
-        let ended : run edition (b ++ ((u .kind) ∷ [])) (some start) ≡ some done-state =
-        run-append edition b ((u .kind) ∷ []) (some start) ∙ (ap (λ o. stepIn edition o (u .kind)) (m .here .ran) ∙ (ap (step edition (f .0)) (f .2) ∙ f .3)) in
+    -- a token after the text's end
+    too-far : (l b : List Kind) (t u : Token) → Viable edition (l ++ ((t .kind) ∷ [])) → run edition (b ++ ((u .kind) ∷ [])) (some start) ≡ some done-state → Sooner edition s (place b u) (place l t) → ⊥
+    too-far l b t u v ended z =
+        let i = viable-run edition (l ++ ((t .kind) ∷ [])) v in
         let whole : l ++ ((t .kind) ∷ []) ≡ (b ++ ((u .kind) ∷ [])) ++ (z .0 ++ ((t .kind) ∷ [])) =
         ap (λ (y : List Kind). y ++ ((t .kind) ∷ [])) (z .1) ∙ append-assoc (b ++ ((u .kind) ∷ [])) (z .0) ((t .kind) ∷ []) in
         let stuck : run edition (l ++ ((t .kind) ∷ [])) (some start) ≡ none =
         ap (λ (y : List Kind). run edition y (some start)) whole ∙ (run-append edition (b ++ ((u .kind) ∷ [])) (z .0 ++ ((t .kind) ∷ [])) (some start)
         ∙ (ap (run edition (z .0 ++ ((t .kind) ∷ []))) ended ∙ done-none (z .0) (t .kind))) in
-        none-some (sym stuck ∙ i .1)) h)
-        (compare edition s l b t u a (m .here .reached))
+        none-some (sym stuck ∙ i .1)
+
+    -- where the reader reads all
+    module _ (q : Program) (u : Token) (e : readProgram edition s ≡ ok q u) where
+      read : (y : State) × (Walk edition s start (asOperand edition s (tokenAt edition s 0)) y u) × (u .kind ≡ text-end) × (step edition y text-end ≡ some done-state)
+      read = answer edition s (ok q u) e
+
+      counted-read : (y : Count) × (Steps edition s between (asOperand edition s (tokenAt edition s 0)) y u) × (u .kind ≡ text-end)
+      counted-read = counts (ok q u) e
+
+      met-end : Meets (read .0) u (counted-read .0) u
+      met-end = meets (read .0) u (counted-read .0) u (read .1) (counted-read .1) refl
+
+      all-before : List Kind
+      all-before = met-end .here .before
+
+      end-ran : run edition (all-before ++ ((u .kind) ∷ [])) (some start) ≡ some done-state
+      unfolding all-before run
+      end-ran =
+          run-append edition (met-end .here .before) ((u .kind) ∷ []) (some start) ∙ (ap (λ o. stepIn edition o (u .kind)) (met-end .here .ran) ∙ (ap (step edition (read .0)) (read .2) ∙ read .3))
+
+      end-opens : levelAt all-before (u .kind) ≡ 0
+      unfolding all-before
+      end-opens =
+          ap (λ (k : Kind). levelAt (met-end .here .before) k) (read .2)
+          ∙ (ap (λ (z : Count). move edition z text-end .level) (met-end .counted) ∙ end-level edition (read .0) (counted-read .0) done-state (met-end .near) (read .3))
+
+      all-within : Within (trace edition all-before between)
+      unfolding all-before
+      all-within = met-end .within
+
+      all-reached : Reached edition s all-before u
+      unfolding all-before
+      all-reached = met-end .here .reached
+
+    all-read : (l : List Kind) (t : Token) → Reached edition s l t → OpensTooMany edition l (t .kind) → (q : Program) (u : Token) → readProgram edition s ≡ ok q u → ⊥
+    all-read l t a x q u e =
+        let b : List Kind = all-before q u e in
+        let own = opens-to l (t .kind) x in
+        ⊎-elim
+        (λ h. let level : levelAt l (t .kind) ≡ levelAt b (u .kind) = ap (λ (z : Place). levelAt (z .before) (z .token .kind)) h in omega (arith, own .1, level, end-opens q u e))
+        (λ h. ⊎-elim (λ z. too-late l b t u (own .1) z (all-within q u e)) (λ z. too-far l b t u (x .viable) (end-ran q u e) z) h) (compare edition s l b t u a (all-reached q u e))
 
     -- "the first token that .. opens level 17 (6)"
     pub level-exactly : LevelExactly edition s
@@ -329,3 +356,38 @@ module _ (edition : ℕ) where
         decide : (l : List Kind) (t : Token) → Reached edition s l t → OpensTooMany edition l (t .kind) → (r : Read Program) → readProgram edition s ≡ r → readProgram edition s ≡ no sizePassed (t .start)
         decide l t a x (no o p) e = all-refused l t a x o p e
         decide l t a x (ok q u) e = absurd (all-read l t a x q u e)
+
+    -- in a program within the limit no token opens too many
+    none-past : (a : Accepted edition s) → Within (openedBy edition (a .sentence)) → (l : List Kind) (t : Token) → Reached edition s l t → OpensTooMany edition l (t .kind) → ⊥
+    none-past a w l t r x =
+        let b : List Kind = a .before in
+        let u : Token = a .last in
+        let k : u .kind ≡ text-end = a .at-end in
+        let own = opens-to l (t .kind) x in
+        let all : Within (trace edition b between ++ (levelAt b text-end ∷ [])) = subst Within (sym (sentence-went edition (b ++ (text-end ∷ [])) (a .sentence) .levels) ∙ trace-more b text-end between) w in
+        let ran : run edition (b ++ ((u .kind) ∷ [])) (some start) ≡ some done-state =
+        subst (λ (j : Kind). run edition (b ++ (j ∷ [])) (some start) ≡ some done-state) (sym k) (sentence-run edition (b ++ (text-end ∷ [])) (a .sentence)) in
+        ⊎-elim
+        (λ h.
+        let level : levelAt l (t .kind) ≡ levelAt b (u .kind) = ap (λ (z : Place). levelAt (z .before) (z .token .kind)) h in
+        let last : levelAt b (u .kind) ≡ levelAt b text-end = ap (λ (j : Kind). levelAt b j) k in
+        omega (arith, own .1, level, last, within-at (trace edition b between) (levelAt b text-end) [] all))
+        (λ h. ⊎-elim (λ z. too-late l b t u (own .1) z (within-left (trace edition b between) (levelAt b text-end ∷ []) all)) (λ z. too-far l b t u (x .viable) ran z) h)
+        (compare edition s l b t u r (a .reached))
+
+    -- "Nesting": a text is read exactly if its tokens are a program that opens no level past the limit
+    pub reads-within : ReadsWithin edition s
+    reads-within = record { only = within; all = read-all }
+      where
+        within : (q : Program) (u : Token) → readProgram edition s ≡ ok q u → (a : Accepted edition s) × (Within (openedBy edition (a .sentence)))
+        within q u e =
+            let b : List Kind = all-before q u e in
+            let k : u .kind ≡ text-end = read q u e .2 in
+            let a : Sentence edition (b ++ (text-end ∷ [])) = run-sentence edition (b ++ (text-end ∷ [])) (subst (λ (j : Kind). run edition (b ++ (j ∷ [])) (some start) ≡ some done-state) k (end-ran q u e)) in
+            let level : levelAt b text-end ≡ 0 = subst (λ (j : Kind). levelAt b j ≡ 0) k (end-opens q u e) in (
+              record { before = b; last = u; reached = all-reached q u e; at-end = k; sentence = a },
+              subst Within (sym (trace-more b text-end between) ∙ sentence-went edition (b ++ (text-end ∷ [])) a .levels) (within-more (trace edition b between) (levelAt b text-end) (all-within q u e) (omega (arith, level))),
+            )
+
+        read-all : (a : Accepted edition s) → Within (openedBy edition (a .sentence)) → (q : Program) × (u : Token) × (readProgram edition s ≡ ok q u)
+        read-all a w = ⊎-elim (λ z. z) (λ z. let d = only (z .0) (z .1) in absurd (none-past a w (d .0) (d .1) (d .2) (d .3))) (reads-exactly edition s .all a)

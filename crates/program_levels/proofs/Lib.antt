@@ -8,3 +8,4 @@ pub mod Expressions
 pub mod Statements
 pub mod Programs
 pub mod Exactly
+pub mod Examples

@@ -8,10 +8,11 @@ use Rattle.edition.specs.Limits.{nestingDepth}
 use Rattle.edition.specs.Outcomes.{sizePassed}
 use Rattle.program_tokens.specs.Kinds.{Kind}
 use Rattle.program_tokens.specs.Tokens.{Token}
-use Rattle.program_grammar.specs.Grammar.{Sentence}
+use Rattle.program_tree.specs.Tree.{Program}
 use Rattle.program_grammar.specs.Viable.{Viable, Reached}
-use Rattle.program_reader.specs.Read.{no}
+use Rattle.program_reader.specs.Read.{ok, no}
 use Rattle.program_reader.specs.Programs.{readProgram}
+use Rattle.program_exact.specs.Claims.{Accepted}
 use Rattle.program_levels.specs.Levels.{openedBy}
 
 -- no level past the limit
@@ -43,3 +44,10 @@ pub record LevelExactly (edition : ℕ) (s : List ℕ) : Type 0 where
       × (place ≡ t .start)
   pub all : (before : List Kind) (t : Token) → Reached edition s before t → OpensTooMany edition before (t .kind)
       → readProgram edition s ≡ no sizePassed (t .start)
+
+-- a text is read exactly if its tokens are a program that opens no level past the limit
+pub record ReadsWithin (edition : ℕ) (s : List ℕ) : Type 0 where
+  pub only : (p : Program) (t : Token) → readProgram edition s ≡ ok p t
+      → (a : Accepted edition s) × (Within (openedBy edition (a .sentence)))
+  pub all : (a : Accepted edition s) → Within (openedBy edition (a .sentence))
+      → (p : Program) × (t : Token) × (readProgram edition s ≡ ok p t)
