@@ -182,7 +182,7 @@ module _ (edition : ℕ) where
     unfolding rank
     line-end t g h = ap (λ (k : Kind). same k newline) (same-is (t .kind) text-end (at-end edition s t g h))
 
-    newline-operand : (t : Token) → is newline t ≡ true → asOperand edition s t ≡ t
+    pub newline-operand : (t : Token) → is newline t ≡ true → asOperand edition s t ≡ t
     unfolding among rank
     newline-operand t e = operand-still edition s t (ap (among Slashes) (same-is (t .kind) newline e))
 

@@ -366,7 +366,7 @@ module _ (edition : ℕ) where
   separators-run l no-separator = refl
   separators-run l (separator-more {k = k} {l = r} o h) = rw (one-of o) (separators-run r h)
 
-  idle-item : (k : Kind) → among enders k ≡ true → itemStep edition k ≡ none
+  pub idle-item : (k : Kind) → among enders k ≡ true → itemStep edition k ≡ none
   unfolding itemStep among rank
   idle-item k h =
       each (λ k. itemStep edition k ≡ none) enders (idle-operand edition fresh pattern newline refl, (idle-operand edition fresh pattern semicolon refl, tt)) k h

@@ -185,7 +185,7 @@ module _ (edition : ℕ) where
           fact = (k, f .1, f .2, f .3, stops-more n k c (u .kind) (λ z. eqb-false (tierOf edition p (u .kind)) (suc n) q (sym (ap (λ b. tierOf edition b (u .kind)) pc) ∙ z)) (f .4));
         })
 
-    no-end : (p : Bool) (k : Kind) (n : ℕ) → tierOf edition p k ≡ suc n → same k text-end ≡ false
+    pub no-end : (p : Bool) (k : Kind) (n : ℕ) → tierOf edition p k ≡ suc n → same k text-end ≡ false
     unfolding among rank
     no-end p k n e = decide (same k text-end) refl
       where

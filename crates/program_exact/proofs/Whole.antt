@@ -167,12 +167,12 @@ module _ (edition : ℕ) (s : List ℕ) where
       ))
       (λ q. (stay between (asOperand edition s t), operand-in edition s t g, omega arith, operand-enders t ∙ q))
 
-  past-still : (n : ℕ) (t : Token) → isOneOf enders t ≡ false → pastIn edition s enders n t ≡ t
+  pub past-still : (n : ℕ) (t : Token) → isOneOf enders t ≡ false → pastIn edition s enders n t ≡ t
   unfolding pastIn
   past-still zero t q = refl
   past-still (suc n) t q = rw q
 
-  past-turn : (n : ℕ) (t : Token) → isOneOf enders t ≡ true → pastIn edition s enders (suc n) t ≡ pastIn edition s enders n (tokenAfter edition s t)
+  pub past-turn : (n : ℕ) (t : Token) → isOneOf enders t ≡ true → pastIn edition s enders (suc n) t ≡ pastIn edition s enders n (tokenAfter edition s t)
   unfolding pastIn
   past-turn n t q = rw q
 

@@ -3,14 +3,14 @@ use mathlib.Core.Path.{_≡_, refl, sym, ap, subst, _∙_}
 use mathlib.Core.Bool.{Bool, true, false, not, cond, _&&_}
 use mathlib.Core.List.{List, [], _∷_}
 use mathlib.Core.Option.{Option, some, none}
-use mathlib.Core.Logic.{_⊎_, inl, inr, ⊎-elim}
+use mathlib.Core.Logic.{_⊎_, inl, inr}
 use Prim.Native.Nat.{ℕ, zero, suc}
 use native.Mathlib.Omega.{arith}
 use lib.ListN.{length}
 use lib.Dec.{eqb, leb}
 use borrow.Author.Tests.{eqb-true}
 use Rattle.lists.proofs.Tests.{clash, and-true}
-use Rattle.lists.proofs.Options.{none-some, some-one}
+use Rattle.lists.proofs.Options.{none-some}
 use Rattle.program_tokens.specs.Kinds.{Kind, text-end, newline, NUMBER, STRING, ERE, fixed-variable, BEGIN, END, IF, ELSE, WHILE, PRINT, NEXT, EXIT, open-brace, close-brace, open-paren, close-paren, comma, semicolon, greater, tilde, dollar, assign, no-match, same, among, rank}
 use Rattle.program_tokens.proofs.Ranks.{same-is}
 use Rattle.program_tree.specs.Functions.{Shape, an-expression, an-ere, Function, functionOf}
@@ -18,9 +18,10 @@ use Rattle.program_grammar.specs.Sets.{names, targets, prefixes, enders, starts
 use Rattle.program_reader.specs.Operators.{fields, concatenations, compared, conjunctions, tierOf}
 use Rattle.program_exact.specs.Machine.{Mode, fresh, plain, Blocks, action as action-blocks, nested as nested-blocks, Context, group, call, condition as condition-of, value, listed, pattern as pattern-of, State, start, between as between-state, done as done-state, action-next as action-state, operand as operand-state, operand-line, operand-field, ere-next, after as after-state, open-next, ere-argument, argument-line, argument-end, condition-next as condition-state, body as body-state, print-next as print-state, finished, list as list-state, settle, isFresh, isTested, tierAfter, printed, mainOf, closed as closed-state, elseStep, opened, argumentEnd, finishedStep, exit, callStep, primaryStep, fieldStep, operandStep, operatorStep, otherStep, afterStep, argumentStep, beginStep, listStep, itemStep, step}
 use Rattle.program_exact.proofs.Facts.{each, by-test, quiet, no-function, idle-operand, quiet-starts}
+use Rattle.program_exact.proofs.Sentences.{idle-item}
 use Rattle.program_exact.proofs.Readings.{ere-operand, ere-line, ere-field, ere-body, ere-list, ere-print, ere-start, ere-between, ere-next-takes, ere-argument-takes, ere-argument-line, argument-end-ere, open-ere, condition-ere, finished-ere, after-ere}
 use Rattle.program_exact.proofs.Operands.{tier-after-is}
-use Rattle.program_levels.proofs.Count.{Braces, action, nested, Around, paren, condition, statement, pattern, Count, between, done, action-next, operand, calling, after, condition-next, body, print-next, list, Move, moves, levelOf, closed, raise, expects, leave, elseMove, operandMove, otherMove, afterMove, beginMove, listMove, itemMove, move}
+use Rattle.program_levels.proofs.Count.{Braces, action, nested, Around, paren, condition, statement, pattern, Count, between, done, action-next, operand, calling, after, condition-next, body, print-next, list, Move, moves, levelOf, closed, raise, expects, leave, elseMove, operandMove, afterMove, beginMove, listMove, itemMove, move}
 use Rattle.program_levels.proofs.Derivations.{token-move, function-move, prefix-move, paren-move, binary-move, join-move, match-move, assign-move, quiet-move}
 use Rattle.program_levels.proofs.Sentences.{apart}
 
@@ -280,11 +281,6 @@ module _ (edition : ℕ) where
       (λ q2. both-test (same k open-brace) _ _ _ _ (λ q. at-list [] false (action-blocks true) action (in-action true))
       (λ q3. operand-beside fresh pattern-of 0 0 pattern k in-pattern)))
 
-  idle-item : (k : Kind) → among enders k ≡ true → itemStep edition k ≡ none
-  unfolding itemStep among rank
-  idle-item k h =
-      each (λ k. itemStep edition k ≡ none) enders (idle-operand edition fresh pattern-of newline refl, (idle-operand edition fresh pattern-of semicolon refl, tt)) k h
-
   opened-beside : (l : List Shape) (m : Mode) (c : Context) (d e : ℕ) (a : Around) → BesideContext c a → Kept (opened l m c) (moves (suc d) (operand (suc d) (suc d) (paren (suc d) e a)))
   opened-beside [] m c d e a h = tt
   opened-beside (an-expression ∷ l) m c d e a h = at-operand fresh (call l m c) (suc d) (suc d) (paren (suc d) e a) (in-call l m c (suc d) e a h)
@@ -304,7 +300,7 @@ module _ (edition : ℕ) where
   beside x n k at-start =
       by-test (λ o. Kept o (move edition between k)) (same k newline) _ _
       (λ q. to-move (some start) (move edition between k) (moves 0 between) (ap (move edition between) (same-is k newline q)) at-start)
-      (λ q. by-test (λ m. Kept (itemStep edition k) m) (among enders k) _ _ (λ r. subst (λ (o : Option State). Kept o (moves 0 between)) (sym (idle-item k r)) tt) (λ r. item-beside k))
+      (λ q. by-test (λ m. Kept (itemStep edition k) m) (among enders k) _ _ (λ r. subst (λ (o : Option State). Kept o (moves 0 between)) (sym (idle-item edition k r)) tt) (λ r. item-beside k))
   beside x n k at-between = both-test (among enders k) _ _ _ _ (λ q. at-between) (λ q. item-beside k)
   beside x n k at-done = tt
   beside x n k at-action = by-test (λ o. Kept o (moves 1 (list [] false action))) (same k open-brace) _ _ (λ q. at-list [] false (action-blocks false) action (in-action false)) (λ q. tt)

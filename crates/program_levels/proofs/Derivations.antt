@@ -1,24 +1,22 @@
 -- The count opens the levels that each derivation says.
-use mathlib.Core.Path.{_≡_, refl, sym, ap, subst, _∙_}
-use mathlib.Core.Bool.{Bool, true, false, not, cond, _&&_}
+use mathlib.Core.Path.{_≡_, refl, sym, ap, _∙_}
+use mathlib.Core.Bool.{Bool, true, false}
 use mathlib.Core.List.{List, [], _∷_, _++_}
 use mathlib.Core.Option.{Option, some, none}
-use mathlib.Core.Logic.{_⊎_, inl, inr, ⊎-elim}
+use mathlib.Core.Logic.{_⊎_, ⊎-elim}
 use Prim.Native.Nat.{ℕ, suc}
 use lib.Dec.{eqb}
-use Rattle.lists.proofs.Tests.{clash, or-false}
 use Rattle.lists.proofs.Options.{none-some}
-use Rattle.program_tokens.specs.Kinds.{Kind, text-end, newline, NUMBER, STRING, ERE, BEGIN, END, IF, ELSE, WHILE, PRINT, NEXT, EXIT, open-brace, close-brace, open-paren, close-paren, comma, semicolon, dollar, tilde, no-match, assign, or-or, and-and, plus, minus, star, slash, percent, same, among, rank}
-use Rattle.program_tokens.proofs.Ranks.{same-is}
+use Rattle.program_tokens.specs.Kinds.{Kind, newline, NUMBER, STRING, ERE, open-paren, close-paren, comma, dollar, tilde, no-match, assign, or-or, and-and, same, among, rank}
 use Rattle.program_tree.specs.Functions.{Function, functionOf}
-use Rattle.program_grammar.specs.Sets.{names, targets, prefixes, comparisons, enders, isFunction, startsExpression}
-use Rattle.program_grammar.specs.Grammar.{OneOf, Newlines, none as no-newline, more as newline-more, Separators, none as no-separator, more as separator-more, Place, in-print, elsewhere, Compares, any, no-greater, Part, expression, disjunction, conjunction, matching, comparison, concatenation, sum, product, prefixed, field, primary, argument, arguments, Form, to-name, to-field, value as value-form, or, no-or, and, no-and, match, no-ere, compare, no-compare, join, no-join, add, no-add, multiply, no-multiply, prefix, no-prefix, of-field, no-field, one-token, parentheses, call as call-form, last-argument, next-argument, expression-argument, ere-argument as ere-form, PrintList, last as last-element, next as next-element, End, needs-end, ended, Else, takes-else, whole, BeforeElse, newlines, ending-newline, one-semicolon, value as value-statement, print, print-list, if, if-else, while, block, next, exit as exit-statement, empty, Block, braces, none as no-statement, blank-line, after-ended, after-end, last, Item, begin, end, pattern as pattern-block, always, Items, none as no-item, item, pattern as pattern-item, last-pattern, Sentence, program}
+use Rattle.program_grammar.specs.Sets.{names, targets, prefixes, startsExpression}
+use Rattle.program_grammar.specs.Grammar.{Newlines, none as no-newline, more as newline-more, Place, in-print, elsewhere, Compares, any, no-greater, Part, expression, disjunction, conjunction, matching, comparison, concatenation, sum, product, prefixed, field, primary, argument, arguments, Form, to-name, to-field, value as value-form, or, no-or, and, no-and, match, no-ere, compare, no-compare, join, no-join, add, no-add, multiply, no-multiply, prefix, no-prefix, of-field, no-field, one-token, parentheses, call as call-form, last-argument, next-argument, expression-argument, ere-argument as ere-form}
 use Rattle.program_reader.specs.Operators.{tierOf}
 use Rattle.program_exact.specs.Machine.{State, fresh, plain, action as action-blocks, Context, listed, pattern as pattern-context, operandStep, run}
-use Rattle.program_exact.proofs.Facts.{each, by-test, words, quiet, idle, no-function, function-word, tier-product, tier-sum, tier-and, tier-or, tier-compared, tier-quiet, tier-other, run-none, from, idle-operand, operand-starts, joins}
+use Rattle.program_exact.proofs.Facts.{each, words, quiet, idle, no-function, function-word, tier-product, tier-sum, tier-and, tier-or, tier-compared, tier-quiet, tier-other, run-none, from, idle-operand, operand-starts, joins}
 use Rattle.program_exact.proofs.Forms.{one-of, runs}
 use Rattle.program_levels.specs.Levels.{still, opened}
-use Rattle.program_levels.proofs.Count.{Braces, action, nested, Around, paren, condition, statement, pattern, Count, between, done, action-next, operand, calling, after, condition-next, body, print-next, list, Move, moves, levelOf, closed, raise, leave, operandMove, otherMove, afterMove, beginMove, listMove, itemMove, move, travel, trace}
+use Rattle.program_levels.proofs.Count.{Around, paren, Count, operand, calling, after, Move, moves, leave, operandMove, otherMove, afterMove, move, travel, trace}
 
 abbrev pub AtFirst : (Kind → Type 0) → List Kind → Type 0
 AtFirst P [] = Unit
@@ -259,11 +257,11 @@ module _ (edition : ℕ) where
       (went-step (after e c) k 0 (operand e e c) (n ++ r) (still n ++ ms) (after e c) (after-is e c k ∙ h)
       (went-then (operand e e c) n r (still n) ms (operand e e c) (after e c) (lines-went e e c n i) (went-operand e e c r ms (after e c) b)))
 
-  close-paren-move : (f a e : ℕ) (c : Around) → move edition (after f (paren a e c)) close-paren ≡ moves 0 (after e c)
+  pub close-paren-move : (f a e : ℕ) (c : Around) → move edition (after f (paren a e c)) close-paren ≡ moves 0 (after e c)
   unfolding leave among rank
   close-paren-move f a e c = after-is f (paren a e c) close-paren ∙ quiet-move f (paren a e c) close-paren refl
 
-  comma-move : (f a e : ℕ) (c : Around) → move edition (after f (paren a e c)) comma ≡ moves 0 (operand a a (paren a e c))
+  pub comma-move : (f a e : ℕ) (c : Around) → move edition (after f (paren a e c)) comma ≡ moves 0 (operand a a (paren a e c))
   unfolding leave among rank
   comma-move f a e c = after-is f (paren a e c) comma ∙ quiet-move f (paren a e c) comma refl
 
@@ -275,7 +273,7 @@ module _ (edition : ℕ) where
       went-then (operand (suc d) (suc d) x) l (close-paren ∷ []) ns (0 ∷ []) (after f x) (after e c) (went-operand (suc d) (suc d) x l ns (after f x) h)
       (went-step (after f x) close-paren 0 (after e c) [] [] (after e c) (close-paren-move f (suc d) e c) (went-nil (after e c)))
 
-  calling-is : (d e : ℕ) (c : Around) → move edition (calling d e c) open-paren ≡ moves (suc d) (operand (suc d) (suc d) (paren (suc d) e c))
+  pub calling-is : (d e : ℕ) (c : Around) → move edition (calling d e c) open-paren ≡ moves (suc d) (operand (suc d) (suc d) (paren (suc d) e c))
   unfolding move
   calling-is d e c = refl
 

@@ -1,14 +1,13 @@
 -- 6 is answered exactly at the first token that opens a level past the limit, by document 01's list.
 use mathlib.Core.Path.{_≡_, refl, sym, ap, subst, _∙_}
 use mathlib.Core.Bool.{Bool, true, false, cond}
-use mathlib.Core.List.{List, [], _∷_, _++_, append-assoc, append-nil}
+use mathlib.Core.List.{List, [], _∷_, _++_, append-assoc}
 use mathlib.Core.Option.{Option, some, none}
-use mathlib.Core.Logic.{_⊎_, inl, inr, ⊎-elim}
-use Prim.Native.Nat.{ℕ, zero, suc, _≤_, _<_}
+use mathlib.Core.Logic.{_⊎_, ⊎-elim}
+use Prim.Native.Nat.{ℕ, _≤_, _<_}
 use native.Mathlib.Omega.{arith}
 use lib.ListN.{length}
 use Rattle.lists.proofs.Options.{none-some, some-one}
-use Rattle.lists.proofs.Tests.{clash}
 use Rattle.edition.specs.Limits.{nestingDepth}
 use Rattle.edition.specs.Outcomes.{sizePassed}
 use Rattle.program_tokens.specs.Kinds.{Kind, text-end, ERE, same}

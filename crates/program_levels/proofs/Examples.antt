@@ -4,7 +4,7 @@ use mathlib.Core.Bool.{true}
 use mathlib.Core.List.{List, [], _∷_}
 use Prim.Native.Nat.{ℕ}
 use Rattle.program_tokens.specs.Kinds.{Kind, NUMBER, user-name, IF, ELSE, open-brace, close-brace, open-paren, close-paren, semicolon, minus, dollar, assign, among, rank}
-use Rattle.program_grammar.specs.Grammar.{one, none as no-newline, newlines, elsewhere, expression, prefixed, field, Form, Expression, to-name, to-field, value as value-form, no-or, no-and, no-ere, no-compare, no-join, no-add, no-multiply, prefix, no-prefix, of-field, no-field, one-token, parentheses, value as value-statement, if, if-else, empty, block, Block, braces, none as no-statement, after-ended, last}
+use Rattle.program_grammar.specs.Grammar.{one, none as no-newline, newlines, prefixed, field, Form, Expression, to-name, to-field, value as value-form, no-or, no-and, no-ere, no-compare, no-join, no-add, no-multiply, prefix, no-prefix, of-field, no-field, one-token, parentheses, value as value-statement, if, if-else, empty, block, Block, braces, none as no-statement, after-ended, last}
 use Rattle.program_levels.specs.Levels.{opened, openedByBlock}
 
 module _ (edition : ℕ) where

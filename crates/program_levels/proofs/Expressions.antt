@@ -3,29 +3,29 @@ use mathlib.Core.Path.{_≡_, refl, sym, ap, subst, _∙_}
 use mathlib.Core.Bool.{Bool, true, false, cond, _&&_}
 use mathlib.Core.List.{List, [], _∷_}
 use mathlib.Core.Option.{Option, some, none}
-use mathlib.Core.Logic.{_⊎_, inl, inr}
-use Prim.Native.Nat.{ℕ, zero, suc, _+_, _≤_, _<_}
+use Prim.Native.Nat.{ℕ, zero, suc, _+_, _<_}
 use native.Mathlib.Omega.{arith}
-use lib.ListN.{length}
 use lib.Dec.{eqb, leb}
 use borrow.Author.Tests.{eqb-true, ne-eqb}
 use Rattle.lists.proofs.Tests.{clash}
 use Rattle.edition.specs.Limits.{nestingDepth}
 use Rattle.image_format.specs.Image.{number, text}
-use Rattle.program_tokens.specs.Kinds.{Kind, text-end, newline, NUMBER, STRING, ERE, open-paren, close-paren, comma, semicolon, ELSE, tilde, dollar, assign as assign-kind, no-match as no-match-kind, same, among, rank}
-use Rattle.program_tokens.specs.Tokens.{Token, is, isOneOf, tokenAfter, asOperand, spelling, numberIn, stringIn, ereIn}
+use Rattle.program_tokens.specs.Kinds.{Kind, text-end, newline, NUMBER, STRING, ERE, open-paren, close-paren, comma, tilde, dollar, assign as assign-kind, no-match as no-match-kind, same, among, rank}
+use Rattle.program_tokens.specs.Tokens.{Token, is, isOneOf, tokenAfter, spelling, numberIn, stringIn, ereIn}
 use Rattle.program_tokens.proofs.Ranks.{same-is}
 use Rattle.program_tree.specs.Tree.{Expression, constant, ere, variable, parentheses, field, prefix, matches, no-match}
 use Rattle.program_tree.specs.Functions.{Shape, an-expression, an-ere, Call, Function, functions, functionIn, functionOf}
 use Rattle.program_grammar.specs.Sets.{names, prefixes}
-use Rattle.program_reader.specs.Read.{Read, ok, no, map, bind, refuse, operandAfter, pastNewlines}
+use Rattle.program_reader.specs.Read.{Read, ok, no, map, refuse, operandAfter, pastNewlines}
 use Rattle.program_reader.specs.Operators.{fields, prefixed, concatenations, matched, conjunctions, expressions, tierOf, treeOf, prefixOf}
-use Rattle.program_reader.specs.Expressions.{Inner, assignTo, turns, closed, argument, arguments, call, calling, primary, fieldForm, prefixForm, rightOf, more, matchWith, matching, assigned, assignment, stepTier, tier, inside, expressionAt}
-use Rattle.program_exact.proofs.Facts.{each, by-test, words, quiet, no-function, function-word, tier-quiet}
-use Rattle.program_levels.proofs.Count.{Around, paren, Count, operand, calling as calling-count, after, Move, moves, raise, leave, operandMove, afterMove, move}
-use Rattle.program_levels.proofs.Derivations.{token-move, function-move, prefix-move, paren-move, binary-move, join-move, match-move, assign-move, quiet-move, after-is, operand-is}
+use Rattle.program_reader.specs.Expressions.{assignTo, turns, closed, argument, arguments, call, calling, primary, fieldForm, prefixForm, rightOf, more, matchWith, matching, assigned, assignment, stepTier, tier, inside, expressionAt}
+use Rattle.program_exact.proofs.Facts.{each, by-test, words, function-word}
+use Rattle.program_exact.proofs.Operands.{known}
+use Rattle.program_exact.proofs.Tiers.{no-end}
+use Rattle.program_levels.proofs.Count.{Around, paren, Count, operand, calling as calling-count, after, Move, moves, operandMove, afterMove, move}
+use Rattle.program_levels.proofs.Derivations.{token-move, function-move, prefix-move, paren-move, binary-move, join-move, match-move, assign-move, close-paren-move, comma-move, after-is, operand-is}
 use Rattle.program_levels.proofs.Beside.{tier-plain}
-use Rattle.program_levels.proofs.Steps.{Steps, stay, join, pass, quietly, Refusal, Reads, refused, too-deep, earlier, reads-map, reads-then, Like, likely, like-opens, passed, lines}
+use Rattle.program_levels.proofs.Steps.{Steps, stay, join, pass, quietly, Reads, refused, too-deep, earlier, reads-map, reads-then, Like, likely, like-opens, passed, lines}
 
 abbrev Room : ℕ → Type 0
 Room zero = ⊥
@@ -54,10 +54,6 @@ leads : (edition : ℕ) (k : Kind) (f : Function) → functionOf edition k ≡ s
 leads edition k f e = subst LeadsIn e (leads-in edition k functions (tt, (tt, (tt, (tt, tt)))))
 
 module _ (edition : ℕ) (s : List ℕ) where
-  -- a token of a known kind
-  pub known : (P : Kind → Type 0) (k j : Kind) → same k j ≡ true → P j → P k
-  known P k j e h = subst P (sym (same-is k j e)) h
-
   -- after an operand; after a whole expression, which may have opened levels with `=`
   abbrev After : ℕ → Around → Expression → Token → Count → Type 0
   After e c a u y = y ≡ after e c
@@ -78,21 +74,13 @@ module _ (edition : ℕ) (s : List ℕ) where
 
   -- ---- what a `)` has to follow
 
-  close-move : (f a e : ℕ) (c : Around) → move edition (after f (paren a e c)) close-paren ≡ moves 0 (after e c)
-  unfolding leave among rank
-  close-move f a e c = after-is edition f (paren a e c) close-paren ∙ quiet-move edition f (paren a e c) close-paren refl
-
-  comma-move : (f a e : ℕ) (c : Around) → move edition (after f (paren a e c)) comma ≡ moves 0 (operand a a (paren a e c))
-  unfolding leave among rank
-  comma-move f a e c = after-is edition f (paren a e c) comma ∙ quiet-move edition f (paren a e c) comma refl
-
   closed-reads : (a e : ℕ) (c : Around) (x : Count) (o : Token) (r : Read Expression) → Reads edition s (Whole (paren a e c)) x o r → Reads edition s (After e c) x o (closed edition s r)
   unfolding closed rank
   closed-reads a e c x o (no outcome place) g = g
   closed-reads a e c x o (ok z t) g =
       earlier edition s (After e c) x o (g .0) t (cond (is close-paren t) (ok z (tokenAfter edition s t)) (refuse t)) (g .1)
       (by-test (Reads edition s (After e c) (g .0) t) (is close-paren t) (ok z (tokenAfter edition s t)) (refuse t)
-      (λ q. (after e c, quietly edition s (g .0) t close-paren (after e c) q refl (ap (λ (y : Count). move edition y close-paren) (g .2 .1) ∙ close-move (g .2 .0) a e c), refl))
+      (λ q. (after e c, quietly edition s (g .0) t close-paren (after e c) q refl (ap (λ (y : Count). move edition y close-paren) (g .2 .1) ∙ close-paren-move edition (g .2 .0) a e c), refl))
       (λ q. refused edition s (g .0) t))
 
   operand-line : (d e : ℕ) (c : Around) → move edition (operand d e c) newline ≡ moves 0 (operand d e c)
@@ -111,6 +99,7 @@ module _ (edition : ℕ) (s : List ℕ) where
 
   -- ---- forms of one level
 
+  -- one token that is an operand
   token-reads : (x : Count) (t : Token) (d e : ℕ) (c : Around) (a : Expression) → among (NUMBER ∷ STRING ∷ ERE ∷ names) (t .kind) ≡ true → Like edition s x (t .kind) (operandMove edition d e c (t .kind))
       → Reads edition s (After e c) x t (ok a (tokenAfter edition s t))
   unfolding among rank
@@ -150,13 +139,9 @@ module _ (edition : ℕ) (s : List ℕ) where
       let r : Read Expression = argument edition s (inside edition s levels) o z l g t rest in
       by-test (Reads edition s (Whole P) y v) (is comma v) r (refuse v)
       (λ q. earlier edition s (Whole P) y v (operand (suc d) (suc d) P) t r
-      (to-line y v comma (suc d) (suc d) P q refl (ap (λ (x : Count). move edition x comma) (h .1) ∙ comma-move (h .0) (suc d) e c))
+      (to-line y v comma (suc d) (suc d) P q refl (ap (λ (x : Count). move edition x comma) (h .1) ∙ comma-move edition (h .0) (suc d) e c))
       (argument-reads levels d i room e c o z l g t rest (λ f w x k. arguments-read levels d i room e c o l f w x k)))
       (λ q. refused edition s y v)
-
-  calling-is : (d e : ℕ) (c : Around) (k : Kind) → move edition (calling-count d e c) k ≡ moves (suc d) (operand (suc d) (suc d) (paren (suc d) e c))
-  unfolding move
-  calling-is d e c k = refl
 
   -- from the `(` on
   opened-reads : (levels d : ℕ) → InnerReads levels d → d + levels ≡ nestingDepth → (e : ℕ) (c : Around) (l : List Shape) (f : Call l) (u : Token) → Leads l → same (u .kind) text-end ≡ false
@@ -176,7 +161,7 @@ module _ (edition : ℕ) (s : List ℕ) where
   call-reads levels d i n e c f u h =
       by-test (Reads edition s (After e c) (calling-count d e c) u) (is open-paren u) (closed edition s (arguments edition s (inside edition s levels) u true (f .shapes) (f .tree) u)) (refuse u)
       (λ q. closed-reads (suc d) e c (calling-count d e c) u (arguments edition s (inside edition s levels) u true (f .shapes) (f .tree) u)
-      (opened-reads levels d i n e c (f .shapes) (f .tree) u h (known (λ k. same k text-end ≡ false) (u .kind) open-paren q refl)))
+      (opened-reads levels d i n e c (f .shapes) (f .tree) u h (known edition s (λ k. same k text-end ≡ false) (u .kind) open-paren q refl)))
       (λ q. refused edition s (calling-count d e c) u)
 
   -- ---- primaries, `$`, prefixes
@@ -189,7 +174,7 @@ module _ (edition : ℕ) (s : List ℕ) where
   primary-reads levels d i n x t e c h =
       let R : Read Expression → Type 0 = Reads edition s (After e c) x t in
       let one : (j : Kind) (a : Expression) → is j t ≡ true → among (NUMBER ∷ STRING ∷ ERE ∷ names) j ≡ true → R (ok a (tokenAfter edition s t)) =
-      λ j a q m. token-reads x t d e c a (known (λ k. among (NUMBER ∷ STRING ∷ ERE ∷ names) k ≡ true) (t .kind) j q m) h in
+      λ j a q m. token-reads x t d e c a (known edition s (λ k. among (NUMBER ∷ STRING ∷ ERE ∷ names) k ≡ true) (t .kind) j q m) h in
       by-test R (is NUMBER t) _ _ (λ q. one NUMBER (constant (number (numberIn s t))) q refl)
       (λ q1. by-test R (is STRING t) _ _ (λ q. one STRING (constant (text (stringIn s t))) q refl)
       (λ q2. by-test R (is ERE t) _ _ (λ q. one ERE (ere (ereIn s t)) q refl)
@@ -201,7 +186,7 @@ module _ (edition : ℕ) (s : List ℕ) where
       reads-map edition s (After e c) (After e c) parentheses x t (closed edition s r) (λ a u y z. z)
       (closed-reads (suc d) e c x t r (i .whole false x t (paren (suc d) e c)
       (like-opens edition s x (t .kind) (operandMove edition d e c (t .kind)) d (operand (suc d) (suc d) (paren (suc d) e c)) h (ap (operandMove edition d e c) (same-is (t .kind) open-paren q) ∙ paren-move edition d e c))
-      (known (λ k. same k text-end ≡ false) (t .kind) open-paren q refl))))
+      (known edition s (λ k. same k text-end ≡ false) (t .kind) open-paren q refl))))
       (λ q5. called (functionOf edition (t .kind)) refl)))))
     where
       called : (o : Option Function) → functionOf edition (t .kind) ≡ o → Reads edition s (After e c) x t (calling edition s (inside edition s levels) t o)
@@ -217,32 +202,25 @@ module _ (edition : ℕ) (s : List ℕ) where
   field-reads levels d i n x t e c h =
       by-test (Reads edition s (After e c) x t) (is dollar t) (map field (inside edition s levels false fields t (operandAfter edition s t))) (primary edition s (inside edition s levels) t)
       (λ q. reads-map edition s (After e c) (After e c) field x t (inside edition s levels false fields t (operandAfter edition s t)) (λ a u y z. z)
-      (i .field-part x t e c (like-opens edition s x (t .kind) (operandMove edition d e c (t .kind)) d (operand (suc d) e c) h (prefix-move edition d e c (t .kind) (known (λ k. among (dollar ∷ prefixes) k ≡ true) (t .kind) dollar q refl)))
-      (known (λ k. same k text-end ≡ false) (t .kind) dollar q refl)))
+      (i .field-part x t e c (like-opens edition s x (t .kind) (operandMove edition d e c (t .kind)) d (operand (suc d) e c) h (prefix-move edition d e c (t .kind) (known edition s (λ k. among (dollar ∷ prefixes) k ≡ true) (t .kind) dollar q refl)))
+      (known edition s (λ k. same k text-end ≡ false) (t .kind) dollar q refl)))
       (λ q. primary-reads levels d i n x t e c h)
 
-  prefix-reads : (levels d : ℕ) → InnerReads levels d → (below : Token → Read Expression) → FormReads below d → FormReads (prefixForm edition s (inside edition s levels) below) d
+  prefix-reads : (levels d : ℕ) → InnerReads levels d → (below : Token → Read Expression) (x : Count) (t : Token) (e : ℕ) (c : Around) → Like edition s x (t .kind) (operandMove edition d e c (t .kind))
+      → Reads edition s (After e c) x t (below t) → Reads edition s (After e c) x t (prefixForm edition s (inside edition s levels) below t)
   unfolding prefixForm among rank
-  prefix-reads levels d i below b x t e c h =
+  prefix-reads levels d i below x t e c h b =
       by-test (Reads edition s (After e c) x t) (isOneOf prefixes t) (map (prefix (prefixOf (t .kind))) (inside edition s levels false prefixed t (operandAfter edition s t))) (below t)
       (λ q. reads-map edition s (After e c) (After e c) (prefix (prefixOf (t .kind))) x t (inside edition s levels false prefixed t (operandAfter edition s t)) (λ a u y z. z)
       (i .prefix-part x t e c (like-opens edition s x (t .kind) (operandMove edition d e c (t .kind)) d (operand (suc d) e c) h
       (prefix-move edition d e c (t .kind) (each (λ k. among (dollar ∷ prefixes) k ≡ true) prefixes (refl, (refl, (refl, tt))) (t .kind) q)))
       (each (λ k. same k text-end ≡ false) prefixes (refl, (refl, (refl, tt))) (t .kind) q)))
-      (λ q. b x t e c h)
+      (λ q. b)
 
   -- ---- operators: from here on the operand is at its expression's level
 
   abbrev TierReads : (Token → Read Expression) → ℕ → Type 0
   TierReads f e = (x : Count) (t : Token) (c : Around) → Like edition s x (t .kind) (operandMove edition e e c (t .kind)) → Reads edition s (After e c) x t (f t)
-
-  no-end : (p : Bool) (k : Kind) (n : ℕ) → tierOf edition p k ≡ suc n → same k text-end ≡ false
-  unfolding among rank
-  no-end p k n e = decide (same k text-end) refl
-    where
-      decide : (b : Bool) → same k text-end ≡ b → same k text-end ≡ false
-      decide false q = q
-      decide true q = let z : 0 ≡ suc n = sym (tier-quiet edition p text-end refl) ∙ (ap (tierOf edition p) (sym (same-is k text-end q)) ∙ e) in absurd (omega (arith, z))
 
   binary-step : (e : ℕ) (c : Around) (p : Bool) (k : Kind) (n : ℕ) → tierOf edition p k ≡ suc n → eqb (suc n) 4 ≡ false → move edition (after e c) k ≡ moves 0 (operand e e c)
   binary-step e c p k n h q = after-is edition e c k ∙ binary-move edition e c k (suc n) (tier-plain edition p k n h) q (ne-eqb (suc n) 0 (λ z. omega (arith, z)))
@@ -256,7 +234,7 @@ module _ (edition : ℕ) (s : List ℕ) where
       (λ q. b (after e c) u c (likely edition s (after e c) (u .kind) (operandMove edition e e c (u .kind))
       (after-is edition e c (u .kind) ∙ join-move edition e c (u .kind) (tier-plain edition p (u .kind) n h ∙ eqb-true (suc n) 4 q))))
       (λ q.
-      let to : Steps edition s (after e c) u (operand e e c) (operandAfter edition s u) = pass edition s (after e c) u 0 (operand e e c) (binary-step e c p (u .kind) n h q) (omega arith) (no-end p (u .kind) n h) in
+      let to : Steps edition s (after e c) u (operand e e c) (operandAfter edition s u) = pass edition s (after e c) u 0 (operand e e c) (binary-step e c p (u .kind) n h q) (omega arith) (no-end edition s p (u .kind) n h) in
       let v : Token = pastNewlines edition s (tokenAfter edition s u) in
       by-test R (leb conjunctions (suc n)) v (operandAfter edition s u)
       (λ r. earlier edition s (After e c) (after e c) u (operand e e c) v (below v)
@@ -299,17 +277,12 @@ module _ (edition : ℕ) (s : List ℕ) where
 
   tier-step : (levels e : ℕ) → InnerReads levels e → (p : Bool) (n : ℕ) → eqb (suc n) expressions ≡ false → TierReads (tier edition s (inside edition s levels) p n) e
       → TierReads (tier edition s (inside edition s levels) p (suc n)) e
-  unfolding tier stepTier prefixForm among rank
+  unfolding tier stepTier
   tier-step levels e i p n z b x t c h =
       let R : Read Expression → Type 0 = Reads edition s (After e c) x t in
       let below : Token → Read Expression = tier edition s (inside edition s levels) p n in
       by-test R (eqb (suc n) prefixed) (prefixForm edition s (inside edition s levels) below t) _
-      (λ q. by-test R (isOneOf prefixes t) (map (prefix (prefixOf (t .kind))) (inside edition s levels false prefixed t (operandAfter edition s t))) (below t)
-      (λ q. reads-map edition s (After e c) (After e c) (prefix (prefixOf (t .kind))) x t (inside edition s levels false prefixed t (operandAfter edition s t)) (λ a u y z. z)
-      (i .prefix-part x t e c (like-opens edition s x (t .kind) (operandMove edition e e c (t .kind)) e (operand (suc e) e c) h
-      (prefix-move edition e e c (t .kind) (each (λ k. among (dollar ∷ prefixes) k ≡ true) prefixes (refl, (refl, (refl, tt))) (t .kind) q)))
-      (each (λ k. same k text-end ≡ false) prefixes (refl, (refl, (refl, tt))) (t .kind) q)))
-      (λ q. b x t c h))
+      (λ q. prefix-reads levels e i below x t e c h (b x t c h))
       (λ q. by-test R (eqb (suc n) matched) (matching edition s (below t)) _ (λ r. matching-reads e c x t (below t) (b x t c h))
       (λ r. by-test R (eqb (suc n) expressions) (assignment edition s (inside edition s levels) p (below t)) (more edition s p (suc n) below (turns s (suc n)) (below t))
       (λ u. absurd (clash (sym u ∙ z))) (λ u. more-reads p n e c below b (turns s (suc n)) x t (below t) (b x t c h))))
@@ -322,7 +295,7 @@ module _ (edition : ℕ) (s : List ℕ) where
   assigned-reads levels e i p c a t none q = (after e c, stay (after e c) t, (e, refl))
   assigned-reads levels e i p c a t (some f) q =
       reads-map edition s (Whole c) (Whole c) f (after e c) t (inside edition s levels p expressions t (operandAfter edition s t)) (λ a u y z. z)
-      (i .whole p (after e c) t c (after-is edition e c (t .kind) ∙ (ap (afterMove edition e c) (same-is (t .kind) assign-kind q) ∙ assign-move edition e c)) (known (λ k. same k text-end ≡ false) (t .kind) assign-kind q refl))
+      (i .whole p (after e c) t c (after-is edition e c (t .kind) ∙ (ap (afterMove edition e c) (same-is (t .kind) assign-kind q) ∙ assign-move edition e c)) (known edition s (λ k. same k text-end ≡ false) (t .kind) assign-kind q refl))
 
   assignment-reads : (levels e : ℕ) → InnerReads levels e → (p : Bool) (c : Around) (x : Count) (t : Token) (r : Read Expression) → Reads edition s (After e c) x t r
       → Reads edition s (Whole c) x t (assignment edition s (inside edition s levels) p r)
@@ -368,7 +341,8 @@ module _ (edition : ℕ) (s : List ℕ) where
             (whole-reads levels (suc d) i m p (operand (suc d) (suc d) c) (operandAfter edition s o) c (like-operand (suc d) (suc d) c (operandAfter edition s o .kind)));
         prefix-part = λ x o e c h z. earlier edition s (After e c) x o (operand (suc d) e c) (operandAfter edition s o) (prefixForm edition s (inside edition s levels) (fieldForm edition s (inside edition s levels)) (operandAfter edition s o))
             (pass edition s x o (suc d) (operand (suc d) e c) h (omega (arith, m)) z)
-            (prefix-reads levels (suc d) i (fieldForm edition s (inside edition s levels)) (field-reads levels (suc d) i m) (operand (suc d) e c) (operandAfter edition s o) e c (like-operand (suc d) e c (operandAfter edition s o .kind)));
+            (prefix-reads levels (suc d) i (fieldForm edition s (inside edition s levels)) (operand (suc d) e c) (operandAfter edition s o) e c (like-operand (suc d) e c (operandAfter edition s o .kind))
+            (field-reads levels (suc d) i m (operand (suc d) e c) (operandAfter edition s o) e c (like-operand (suc d) e c (operandAfter edition s o .kind))));
         field-part = λ x o e c h z. earlier edition s (After e c) x o (operand (suc d) e c) (operandAfter edition s o) (fieldForm edition s (inside edition s levels) (operandAfter edition s o))
             (pass edition s x o (suc d) (operand (suc d) e c) h (omega (arith, m)) z)
             (field-reads levels (suc d) i m (operand (suc d) e c) (operandAfter edition s o) e c (like-operand (suc d) e c (operandAfter edition s o .kind)));

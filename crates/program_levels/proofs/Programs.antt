@@ -1,6 +1,6 @@
 -- The reader of items and whole programs, beside the count of levels.
 use mathlib.Core.Path.{_≡_, refl, sym, ap, subst, _∙_}
-use mathlib.Core.Bool.{Bool, true, false, cond, _||_}
+use mathlib.Core.Bool.{Bool, true, false}
 use mathlib.Core.List.{List, [], _∷_}
 use mathlib.Core.Option.{some, none}
 use mathlib.Core.Logic.{_⊎_, inl, inr, ⊎-elim}
@@ -23,12 +23,14 @@ use Rattle.program_parser.proofs.Tokens.{Slashes}
 use Rattle.program_exact.proofs.Facts.{each, by-test}
 use Rattle.program_exact.proofs.Walks.{operand-still}
 use Rattle.program_exact.proofs.Bodies.{unread}
-use Rattle.program_levels.proofs.Count.{action, pattern, Count, between, action-next, after, list, Move, moves, leave, operandMove, itemMove, move}
+use Rattle.program_exact.proofs.Operands.{known}
+use Rattle.program_exact.proofs.Whole.{past-still, past-turn}
+use Rattle.program_levels.proofs.Count.{action, pattern, Count, between, action-next, after, list, moves, leave, operandMove, itemMove, move}
 use Rattle.program_levels.proofs.Derivations.{quiet-move, after-is}
 use Rattle.program_levels.proofs.Sentences.{between-item, between-ender, pattern-ender}
 use Rattle.program_levels.proofs.Steps.{Steps, stay, join, pass, Refusal, Reads, refused, later, Like, likely, like-opens, like-to, passed, lines}
-use Rattle.program_levels.proofs.Expressions.{known, Whole, expression-reads}
-use Rattle.program_levels.proofs.Statements.{dead-tier, Pauses, pauses-map, action-reads}
+use Rattle.program_levels.proofs.Expressions.{Whole, expression-reads}
+use Rattle.program_levels.proofs.Statements.{dead-tier, Pauses, action-reads}
 
 module _ (edition : ℕ) (s : List ℕ) where
   -- ---- an action
@@ -150,15 +152,6 @@ module _ (edition : ℕ) (s : List ℕ) where
       decide true q = inl q
       decide false q = inr (inr (likely edition s between (t .kind) (itemMove edition (t .kind)) (between-item edition (t .kind) q)))
 
-  past-turn : (n : ℕ) (t : Token) → isOneOf enders t ≡ true → pastIn edition s enders (suc n) t ≡ pastIn edition s enders n (tokenAfter edition s t)
-  unfolding pastIn
-  past-turn n t q = rw q
-
-  past-still : (n : ℕ) (t : Token) → isOneOf enders t ≡ false → pastIn edition s enders n t ≡ t
-  unfolding pastIn
-  past-still zero t q = refl
-  past-still (suc n) t q = rw q
-
   past-none : (t : Token) → pastIn edition s enders zero t ≡ t
   unfolding pastIn
   past-none t = refl
@@ -175,7 +168,7 @@ module _ (edition : ℕ) (s : List ℕ) where
       subst (λ (w : Token). Finishes (after f pattern) u (items edition s i w)) (sym (ap (asOperand edition s) (past-none u) ∙ ender-operand u q .0)) (rest (after f pattern) u (inl q))
   alone-past i rest f u q (suc n) =
       let v : Token = asOperand edition s (pastIn edition s enders n (tokenAfter edition s u)) in
-      subst (λ (w : Token). Finishes (after f pattern) u (items edition s i (asOperand edition s w))) (sym (past-turn n u q))
+      subst (λ (w : Token). Finishes (after f pattern) u (items edition s i (asOperand edition s w))) (sym (past-turn edition s n u q))
       (finishes-earlier (after f pattern) u between v (items edition s i v)
       (join edition s (after f pattern) u between (operandAfter edition s u) between v (pass edition s (after f pattern) u 0 between (pattern-ender edition f (u .kind) q) (omega arith) (ender-operand u q .1)) (past-reads n (tokenAfter edition s u)))
       (rest between v (ready-between v)))
@@ -184,7 +177,7 @@ module _ (edition : ℕ) (s : List ℕ) where
   unfolding among
   alone-reads i rest f u h =
       ⊎-elim
-      (λ q. subst (λ (w : Token). Finishes (after f pattern) u (items edition s i w)) (sym (ap (asOperand edition s) (past-still (length s) u (end-not u q .0)) ∙ end-not u q .1)) (rest (after f pattern) u (inr (inl q))))
+      (λ q. subst (λ (w : Token). Finishes (after f pattern) u (items edition s i w)) (sym (ap (asOperand edition s) (past-still edition s (length s) u (end-not u q .0)) ∙ end-not u q .1)) (rest (after f pattern) u (inr (inl q))))
       (λ q. alone-past i rest f u q (length s)) (or-cases (same (u .kind) text-end) (among enders (u .kind)) h)
 
   after-item : (i : ℕ) → ItemsRead i → (x : Count) (o : Token) (r : Read Item) → ItemReads x o r → Finishes x o (bind r (λ a u. map (λ p. a ∷ p) (items edition s i (asOperand edition s (past edition s enders u)))))

@@ -1,6 +1,6 @@
 -- The count opens the levels that each derivation says: statements, items, programs.
 use mathlib.Core.Path.{_≡_, refl, sym, ap, subst, _∙_}
-use mathlib.Core.Bool.{Bool, true, false, not, cond, _&&_}
+use mathlib.Core.Bool.{Bool, true, false, cond}
 use mathlib.Core.List.{List, [], _∷_, _++_}
 use mathlib.Core.Logic.{_⊎_, inl, inr, ⊎-elim}
 use Prim.Native.Nat.{ℕ, suc}
@@ -9,10 +9,10 @@ use Rattle.program_tokens.specs.Kinds.{Kind, text-end, newline, BEGIN, END, IF,
 use Rattle.program_tokens.proofs.Ranks.{same-is}
 use Rattle.program_grammar.specs.Sets.{enders}
 use Rattle.program_grammar.specs.Grammar.{Newlines, none as no-newline, more as newline-more, Separators, none as no-separator, more as separator-more, elsewhere, in-print, expression, Form, PrintList, last as last-element, next as next-element, End, needs-end, ended, Else, takes-else, whole, BeforeElse, newlines, ending-newline, one-semicolon, Statement, value as value-statement, print, print-list, if, if-else, while, block, next, exit as exit-statement, empty, Block, braces, Statements, none as no-statement, blank-line, after-ended, after-end, last, Item, begin, end, pattern as pattern-block, always, Items, none as no-item, item, pattern as pattern-item, last-pattern, Sentence, program}
-use Rattle.program_exact.proofs.Facts.{each, by-test, quiet, idle, quiet-starts}
+use Rattle.program_exact.proofs.Facts.{each, quiet, idle, quiet-starts}
 use Rattle.program_exact.proofs.Forms.{one-of}
 use Rattle.program_exact.proofs.Sentences.{stops, stop-quiet}
-use Rattle.program_levels.specs.Levels.{still, opening, atLeast, bodied, conditioned, alternated, braced, opened, openedInList, openedByBlock, openedByItem, openedByItems, openedBy}
+use Rattle.program_levels.specs.Levels.{still, opening, bodied, conditioned, alternated, braced, opened, openedInList, openedByBlock, openedByItem, openedByItems, openedBy}
 use Rattle.program_levels.proofs.Count.{Braces, action, nested, Around, condition, statement, pattern, Count, between, done, action-next, operand, after, condition-next, body, print-next, list, Move, moves, levelOf, closed, raise, leave, operandMove, beginMove, listMove, itemMove, move, travel, trace}
 use Rattle.program_levels.proofs.Derivations.{AtFirst, at-first, Went, Goes, went-nil, went-then, goes-then, went-step, goes-step, swapped, went-first, went-operand, lines-went, quiet-move, after-is, Begins, expression-begins, passes}
 

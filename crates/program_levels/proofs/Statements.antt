@@ -1,6 +1,6 @@
 -- The reader of statements, beside the count of levels.
 use mathlib.Core.Path.{_≡_, refl, sym, ap, subst, _∙_}
-use mathlib.Core.Bool.{Bool, true, false, not, cond, _&&_, _||_}
+use mathlib.Core.Bool.{Bool, true, false, not, cond, _&&_}
 use mathlib.Core.List.{List, [], _∷_, _++_}
 use mathlib.Core.Option.{Option, some, none}
 use mathlib.Core.Logic.{_⊎_, inl, inr, ⊎-elim}
@@ -11,7 +11,6 @@ use lib.Dec.{eqb}
 use Rattle.lists.proofs.Tests.{clash, and-true, and-false}
 use Rattle.lists.proofs.Options.{none-some, some-one}
 use Rattle.edition.specs.Limits.{nestingDepth}
-use Rattle.edition.specs.Outcomes.{sizePassed}
 use Rattle.ere_meaning.specs.Tree.{Class, Ere}
 use Rattle.ere_grammar.specs.Read.{readEre}
 use Rattle.program_tokens.specs.Kinds.{Kind, text-end, newline, NUMBER, STRING, ERE, IF, ELSE, WHILE, PRINT, NEXT, EXIT, open-brace, close-brace, open-paren, close-paren, comma, semicolon, dollar, same, among, rank}
@@ -26,16 +25,18 @@ use Rattle.program_reader.specs.Expressions.{Inner, turns, closed, primary, cal
 use Rattle.program_reader.specs.Statements.{ended, noBody, listed, printAt, conditionAt, elseAfter, bodyAt, elseAt, thenAt, ifAt, whileAt, statementOf, followed, statements, blockOf, statementAt}
 use Rattle.program_parser.specs.Reading.{refusedBy}
 use Rattle.program_parser.proofs.Tokens.{Slashes}
-use Rattle.program_exact.proofs.Facts.{each, by-test, words, quiet, no-function, quiet-starts}
+use Rattle.program_exact.proofs.Facts.{each, by-test, words, no-function, quiet-starts}
 use Rattle.program_exact.proofs.Sentences.{stops}
 use Rattle.program_exact.proofs.Walks.{operand-test}
 use Rattle.program_exact.proofs.Bodies.{unread}
 use Rattle.program_levels.specs.Levels.{atLeast}
-use Rattle.program_levels.proofs.Count.{Braces, action, nested, Around, condition, statement, Count, operand, after, condition-next, body, print-next, list, Move, moves, levelOf, closed as closed-count, raise, expects, leave, operandMove, beginMove, listMove, move}
+use Rattle.program_exact.proofs.Operands.{known}
+use Rattle.program_exact.proofs.Exactly.{no-level}
+use Rattle.program_levels.proofs.Count.{Braces, action, nested, Around, condition, statement, Count, operand, after, condition-next, body, print-next, list, Move, moves, levelOf, closed as closed-count, expects, leave, operandMove, beginMove, listMove, move}
 use Rattle.program_levels.proofs.Derivations.{quiet-move, after-is, operand-is, plain-move}
 use Rattle.program_levels.proofs.Sentences.{finish, stands-value, stands-print, list-first, lone, body-first}
-use Rattle.program_levels.proofs.Steps.{no-level, Steps, stay, join, pass, quietly, Refusal, Reads, refused, too-deep, later, earlier, reads-map, Like, likely, like-opens, like-to, passed, lines}
-use Rattle.program_levels.proofs.Expressions.{known, Whole, to-line, inside-reads, expression-reads}
+use Rattle.program_levels.proofs.Steps.{Steps, stay, join, pass, quietly, Refusal, Reads, refused, too-deep, later, earlier, reads-map, Like, likely, like-opens, like-to, passed, lines}
+use Rattle.program_levels.proofs.Expressions.{Whole, to-line, inside-reads, expression-reads}
 
 module _ (edition : ℕ) where
   -- ---- what begins a statement
@@ -418,7 +419,7 @@ module _ (edition : ℕ) where
 
     -- a token that is refused as it was before it was read again
     pub refused-again : (x : Count) (o : Token) (y : Count) (t : Token) → Steps edition s x o y (asOperand edition s t) → Refusal edition s x o (refusedBy t) (t .start)
-    refused-again x o y t w = record { state = y; token = asOperand edition s t; steps = w; at = sym (operand-at t); why = λ e. absurd (no-level t e) }
+    refused-again x o y t w = record { state = y; token = asOperand edition s t; steps = w; at = sym (operand-at t); why = λ e. absurd (no-level edition s t e) }
 
     closing : (y : Count) (t : Token) (b : Braces) → is close-brace t ≡ true → move edition y close-brace ≡ moves 0 (closed-count b) → Steps edition s y t (closed-count b) (operandAfter edition s t)
     unfolding rank

@@ -8,22 +8,16 @@ use Prim.Native.Nat.{ℕ, zero, suc, _≤_, _<_}
 use native.Mathlib.Omega.{arith}
 use lib.ListN.{length}
 use Rattle.edition.specs.Limits.{nestingDepth}
-use Rattle.edition.specs.Outcomes.{badToken, misplacedToken, badEre, sizePassed}
-use Rattle.program_tokens.specs.Kinds.{Kind, text-end, newline, bad, bad-ere, same, among, rank}
+use Rattle.edition.specs.Outcomes.{sizePassed}
+use Rattle.program_tokens.specs.Kinds.{Kind, text-end, newline, same, rank}
 use Rattle.program_tokens.specs.Tokens.{Token, is, isOneOf, tokenAfter, asOperand}
 use Rattle.program_tokens.proofs.Ranks.{same-is}
 use Rattle.program_reader.specs.Read.{Read, ok, no, map, bind, operandAfter, pastIn, pastNewlines}
 use Rattle.program_parser.specs.Reading.{refusedBy}
-use Rattle.program_parser.proofs.Tokens.{Slashes}
 use Rattle.program_exact.proofs.Facts.{by-test}
-use Rattle.program_exact.proofs.Walks.{operand-still}
-use Rattle.program_exact.proofs.Readings.{single}
-use Rattle.program_levels.proofs.Count.{Around, Count, operand, body, Move, moves, raise, expects, move, operandMove}
-
-pub no-level : (t : Token) → refusedBy t ≡ sizePassed → ⊥
-no-level t =
-    by-test (λ (n : ℕ). n ≡ sizePassed → ⊥) (is bad t) badToken (cond (is bad-ere t) badEre misplacedToken) (λ q e. omega (arith, e))
-    (λ q. by-test (λ (n : ℕ). n ≡ sizePassed → ⊥) (is bad-ere t) badEre misplacedToken (λ q e. omega (arith, e)) (λ q e. omega (arith, e)))
+use Rattle.program_exact.proofs.Readings.{newline-operand, single}
+use Rattle.program_exact.proofs.Exactly.{no-level}
+use Rattle.program_levels.proofs.Count.{Count, Move, moves, raise, expects, move}
 
 raise-none : (m : Move) → raise 0 m ≡ m
 raise-none m = by (m .level) refl
@@ -69,7 +63,7 @@ module _ (edition : ℕ) (s : List ℕ) where
   Reads Q x t (no outcome place) = Refusal x t outcome place
 
   pub refused : (x : Count) (t : Token) → Refusal x t (refusedBy t) (t .start)
-  refused x t = record { state = x; token = t; steps = stay x t; at = refl; why = λ e. absurd (no-level t e) }
+  refused x t = record { state = x; token = t; steps = stay x t; at = refl; why = λ e. absurd (no-level edition s t e) }
 
   pub too-deep : (x : Count) (t : Token) → nestingDepth < move edition x (t .kind) .level → Refusal x t sizePassed (t .start)
   too-deep x t h = record { state = x; token = t; steps = stay x t; at = refl; why = λ e. h }
@@ -114,10 +108,6 @@ module _ (edition : ℕ) (s : List ℕ) where
 
   -- ---- newlines that may follow
 
-  newline-operand : (t : Token) → is newline t ≡ true → asOperand edition s t ≡ t
-  unfolding among rank
-  newline-operand t e = operand-still edition s t (ap (among Slashes) (same-is (t .kind) newline e))
-
   lines-in : (x : Count) → expects x ≡ true → move edition x newline ≡ moves 0 x → (n : ℕ) (t : Token)
       → Steps x (asOperand edition s t) x (asOperand edition s (pastIn edition s (newline ∷ []) n t))
   unfolding pastIn rank
@@ -128,7 +118,7 @@ module _ (edition : ℕ) (s : List ℕ) where
       (λ q.
       let f : is newline t ≡ true = sym (single edition s (t .kind) newline) ∙ q in
       let v : Token = asOperand edition s (pastIn edition s (newline ∷ []) n (tokenAfter edition s t)) in
-      subst (λ (w : Token). Steps x w x v) (sym (newline-operand t f))
+      subst (λ (w : Token). Steps x w x v) (sym (newline-operand edition s t f))
       (join x t x (nextIn x t) x v (quietly x t newline x f refl h) (subst (λ (c : Bool). Steps x (cond c (operandAfter edition s t) (tokenAfter edition s t)) x v) (sym b) r)))
       (λ q. stay x (asOperand edition s t))
 
