@@ -1,8 +1,9 @@
 -- The table of codes has each operation at its code, in edition 1.
-use mathlib.Core.Path.{_≡_, refl}
+use mathlib.Core.Path.{_≡_, refl, subst}
 use mathlib.Core.Option.{some}
 use Rattle.lists.specs.Elements.{nth}
-use Rattle.image_format.specs.Codes.{codes, codeCount, codeOf, Operation, action, flow, add, subtract, multiply, divide, remainder, less, at-most, equal, different, greater, at-least, constant, get, set, field, set-field, drop, arithmetic, negate, to-number, negation, compare, join, matches, match, length-of, index, substr, print, section-end, jump, jump-if-false, next, exit}
+use Rattle.lists.proofs.Options.{some-one}
+use Rattle.image_format.specs.Codes.{Code, codes, codeCount, codeOf, Operation, action, flow, add, subtract, multiply, divide, remainder, less, at-most, equal, different, greater, at-least, constant, get, set, field, set-field, drop, arithmetic, negate, to-number, negation, compare, join, matches, match, length-of, index, substr, print, section-end, jump, jump-if-false, next, exit}
 use Rattle.semantics.proofs.Tables.{rowOf}
 use Rattle.program_code.specs.Emitted.{opcode, actionCode, flowCode, arithmeticCode, comparisonCode}
 
@@ -40,3 +41,33 @@ opcode-row (flow jump) = refl
 opcode-row (flow jump-if-false) = refl
 opcode-row (flow next) = refl
 opcode-row (flow exit) = refl
+
+-- the row of an operation has that operation
+row-operation : (o : Operation) → rowOf o .operation ≡ o
+row-operation (action constant) = refl
+row-operation (action get) = refl
+row-operation (action set) = refl
+row-operation (action field) = refl
+row-operation (action set-field) = refl
+row-operation (action drop) = refl
+row-operation (action (arithmetic o)) = refl
+row-operation (action negate) = refl
+row-operation (action to-number) = refl
+row-operation (action negation) = refl
+row-operation (action (compare o)) = refl
+row-operation (action join) = refl
+row-operation (action matches) = refl
+row-operation (action match) = refl
+row-operation (action length-of) = refl
+row-operation (action index) = refl
+row-operation (action substr) = refl
+row-operation (action print) = refl
+row-operation (flow section-end) = refl
+row-operation (flow jump) = refl
+row-operation (flow jump-if-false) = refl
+row-operation (flow next) = refl
+row-operation (flow exit) = refl
+
+-- so the table has the operation o at its code
+pub opcode-operation : (o : Operation) {k : Code} → codeOf 1 (opcode o) ≡ some k → k .operation ≡ o
+opcode-operation o h = subst (λ (x : Code). x .operation ≡ o) (some-one (opcode-row o) h) (row-operation o)

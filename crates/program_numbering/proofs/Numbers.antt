@@ -138,6 +138,14 @@ unfolding sameConstant
 constant-same (number n) = eqb-same n
 constant-same (text l) = bytes-same l
 
+-- constants that are told to be the same are equal
+pub constant-equal : (c d : Constant) → sameConstant c d ≡ true → c ≡ d
+unfolding sameConstant
+constant-equal (number a) (number b) h = ap number (eqb-true a b h)
+constant-equal (number a) (text m) h = absurd (true≢false (sym h))
+constant-equal (text l) (number b) h = absurd (true≢false (sym h))
+constant-equal (text l) (text m) h = ap text (same-equal l m h)
+
 -- element n of a list has what each has
 pub each-at : {A : Type 0} (P : A → Type 0) (l : List A) (n : ℕ) (a : A) → Each P l → nth l n ≡ some a → P a
 unfolding nth

@@ -1,6 +1,7 @@
--- Document 01, "Tokens and grammar": "Operators from loosest ..", computed: a text's tokens are read from left to
--- right. (The same as a relation, to be read beside 01: program_grammar.) "Nesting": each level further in is a call of
--- the reader of that level, with the levels that are left.
+-- Internal: cited by private contracts only. Document 01, "Tokens and grammar": "Operators from loosest ..", computed:
+-- a text's tokens are read from left to right. "Nesting": each level further in is a call of the reader of that level,
+-- with the levels that are left. What a reader has to believe is the grammar (program_grammar), what its derivations
+-- say (program_says) and the levels that they open (program_levels).
 use mathlib.Core.Bool.{Bool, true, false, cond}
 use mathlib.Core.List.{List, [], _∷_}
 use mathlib.Core.Option.{Option, some, none}

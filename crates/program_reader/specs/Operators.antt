@@ -88,6 +88,30 @@ treeIn (some o) a b = (o .tree) a b
 unfoldable pub treeOf : Kind → Expression → Expression → Expression
 treeOf k a b = treeIn (operatorIn k binary) a b
 
+-- the same trees without the tiers: a kind between two operands, and what it makes of them; where none is listed, they
+-- are joined
+abbrev pub trees : List (Kind × (Expression → Expression → Expression))
+trees =
+    (or-or, either)
+    ∷ (and-and, both)
+    ∷ (less, compare lessThan)
+    ∷ (at-most, compare atMost)
+    ∷ (equal, compare equalTo)
+    ∷ (different, compare differentFrom)
+    ∷ (greater, compare greaterThan)
+    ∷ (at-least, compare atLeast)
+    ∷ (plus, arithmetic add)
+    ∷ (minus, arithmetic subtract)
+    ∷ (star, arithmetic multiply)
+    ∷ (slash, arithmetic divide)
+    ∷ (percent, arithmetic remainder)
+    ∷ []
+
+abbrev pub treeAmong : Kind → List (Kind × (Expression → Expression → Expression))
+    → Expression → Expression → Expression
+treeAmong k [] a b = join a b
+treeAmong k (x ∷ l) a b = cond (same k (x .0)) ((x .1) a b) (treeAmong k l a b)
+
 -- "prefix `! + -`"
 unfoldable pub prefixOf : Kind → Prefix
 prefixOf k = cond (same k bang) negation (cond (same k plus) to-number negate)

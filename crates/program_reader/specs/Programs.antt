@@ -1,4 +1,6 @@
--- Document 01, "Tokens and grammar": "Items: ..", computed.
+-- Internal: cited by private contracts only. Document 01, "Tokens and grammar": "Items: ..", computed. `trees-exactly`
+-- of program_says, `refused-exactly` of program_exact and `level-exactly` of program_levels say what is read and what
+-- is refused.
 use mathlib.Core.Bool.{Bool, true, false, cond}
 use mathlib.Core.List.{List, [], _∷_}
 use mathlib.Core.Option.{some, none}

@@ -1,5 +1,5 @@
--- Document 01, "Tokens and grammar": "Statements: ..", computed. "Nesting": "A body's level opens with its first
--- token".
+-- Internal: cited by private contracts only. Document 01, "Tokens and grammar": "Statements: ..", computed. "Nesting":
+-- "A body's level opens with its first token".
 use mathlib.Core.Bool.{Bool, true, false, not, cond, _&&_}
 use mathlib.Core.List.{List, [], _∷_, _++_}
 use mathlib.Core.Option.{Option, some, none}
