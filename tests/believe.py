@@ -84,14 +84,15 @@ EXPLAINED = {
     ('program_code', 'Expressions', 'size'): (('program_code', 'Expressions', ['compile']), 'size-length'),
     ('program_code', 'Sections', 'sizeAll'): (('program_code', 'Sections', ['compileAll']), 'all-length'),
     ('program_code', 'Sections', 'sizeOf'): (('program_code', 'Sections', ['compileStatement']), 'statement-length'),
-    # To switch on once these are proved; the lines are what the count then loses:
-    # the tree that is read is the one that each derivation says (`trees-exactly`, proved), and 6 is answered exactly at the token that opens level 17. In
-    # the section of demands `program_says::trees-exactly` and the theorem on levels take the place of `program_exact::reads-exactly`:
-    # ('program_reader', 'Programs', 'readProgram'): (('program_says', 'Trees', ['saidBy']), 'trees-exactly refused-exactly level-exactly'),
-    # 41: the row at `opcode o` has the operation o (`opcode-row` says which row it is, by `rowOf`):
-    # ('program_code', 'Emitted', 'opcode'): (('image_format', 'Codes', ['codeOf']), 'opcode-row opcode-operation'),
-    # 5: constants that are told to be the same are equal (`constant-same` is the other way):
-    # ('program_numbering', 'Numbering', 'sameConstant'): (('program_numbering', 'Numbering', []), 'constant-same constant-equal'),
+    # the tree that is read is the one that each derivation says (`trees-exactly`); a refusal is 4 exactly at the first token that can't go on, and 6
+    # exactly at the one that opens level 17
+    ('program_reader', 'Programs', 'readProgram'): (('program_says', 'Trees', ['saidBy']), 'trees-exactly refused-exactly level-exactly'),
+    # the tree of two operands, by the table without tiers
+    ('program_reader', 'Operators', 'treeOf'): (('program_reader', 'Operators', ['trees', 'treeAmong']), 'tree-listed'),
+    # the code of an operation, by the table that has it there
+    ('program_code', 'Emitted', 'opcode'): (('image_format', 'Codes', ['codeOf']), 'opcode-row opcode-operation'),
+    ('program_numbering', 'Numbering', 'sameConstant'): (('program_numbering', 'Numbering', []), 'constant-same constant-equal'),
+    # To switch on, as a matter of taste:
     # 17: the names of a tree, by a walk over the text's tokens (proved; it is a matter of taste which of the two is easier to believe):
     # ('program_numbering', 'Names', 'namesInProgram'): (('program_names', 'Walk', ['namesInText']), 'names-in-order'),
 }
@@ -128,12 +129,12 @@ BOOK = os.path.join(ROOT, 'docs', 'BELIEVE.md')
 STATEMENTS = {
     ('program_exact', 'Claims'): ['Deep', 'TooDeep', 'ReadsExactly', 'RefusedExactly', 'SlashExactly'],
     ('program_says', 'Claims'): None,
-    ('program_levels', 'Claims'): None,
+    ('program_levels', 'Claims'): ['SameLevels', 'LevelExactly', 'ReadsWithin'],
     ('sound', 'Demand'): None,
 }
 
 # crates of claims about the whole and of computed tables, of which no file is asked for its mark
-TO_COME = {'sound', 'sound_cases', 'program_says', 'program_levels'}
+TO_COME = {'sound', 'sound_cases'}
 
 NAME = r"[^\s(){};,.λ\"⌜⌝⟦⟧]+"
 USE = re.compile(r"^\s*(?:ghost )?use Rattle·([a-z_]+)(?:·specs\.specs|\.specs)\.([A-Za-z]+)(?:\.\{([^}]*)\}|\s+as\s+\S+)?;?\s*$")
