@@ -113,15 +113,16 @@ CHAPTERS = [
      [('semantics', ['Variables', 'Feed', 'World', 'Operations', 'Moves', 'Run']), ('runner', ['Report'])]),
     ('The check, and where a run is stuck', 'The clauses of the check as a statement; one constructor for each way to be stuck.',
      [('semantics', ['Check', 'Checked', 'Stuck']), ('image_check', ['Verdict'])]),
-    ('Filter texts', 'Tokens, trees, the grammar as a relation on kinds of tokens, where a text is refused, and the reader.',
+    ('Filter texts', 'Tokens, trees, the grammar as a relation on kinds of tokens, where a text is refused, what a derivation says, and the levels that its tokens open.',
      [('program_tokens', ['Kinds', 'Words', 'Tokens']), ('program_tree', ['Tree', 'Functions']), ('program_grammar', ['Sets', 'Grammar', 'Viable']),
       ('program_reader', ['Read', 'Operators', 'Expressions', 'Statements', 'Programs']), ('program_exact', ['Trees']), ('program_says', ['Trees']),
       ('program_levels', ['Levels'])]),
     ('Translation', 'From a tree to code by names, from names to numbers, and the outcomes of a translation.',
      [('program_code', ['Emitted', 'Expressions', 'Sections']), ('program_numbering', ['Names', 'Numbering', 'Sizes']), ('translation', ['Translation']),
       ('program_writer', ['Answer'])]),
-    ('What is claimed of the whole', 'Statements of theorems: that texts are read and refused exactly as the grammar says, and demand 3, from bytes. They are proved, so '
-     'nobody has to believe them; this is what they say.', [('program_exact', ['Claims']), ('program_says', ['Claims']), ('program_levels', ['Claims']), ('sound', ['Demand'])]),
+    ('What is claimed of the whole', 'Statements of theorems, and the notions that only they speak of: that texts are read and refused exactly as the grammar says, and '
+     'demand 3, from bytes. The statements are proved, so nobody has to believe them; this is what they say.',
+     [('program_exact', ['Claims']), ('program_says', ['Claims']), ('program_levels', ['Claims']), ('sound', ['Demand'])]),
 ]
 BOOK = os.path.join(ROOT, 'docs', 'BELIEVE.md')
 
