@@ -356,6 +356,8 @@ def prose(comment):
     text = ' '.join(line.strip()[2:].strip() for line in comment).replace(MARK[3:], '').strip()
     heading = re.match(r'^---- (.*)$', text)
     text = heading.group(1) if heading else text
+    if re.match(r'^(a (?!is )|[a-z]{2,}[ ,])', text):
+        text = text[0].upper() + text[1:]
     return '\n'.join(textwrap.wrap(text + ('' if text.endswith(('.', ':', '."')) or not text else '.'), 120, break_long_words=False, break_on_hyphens=False))
 
 
