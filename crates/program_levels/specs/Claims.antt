@@ -22,7 +22,9 @@ Within (n ∷ l) = (n ≤ nestingDepth) × (Within l)
 
 -- a token after some others "opens level 17", and none before it does: so in a program that they begin
 pub record OpensTooMany (edition : ℕ) (before : List Kind) (k : Kind) : Type 0 where
+  -- some tokens complete them to a program
   pub viable : Viable edition (before ++ (k ∷ []))
+  -- the levels that open in it at the tokens before this one, at this one, and after it
   pub outer : List ℕ
   pub level : ℕ
   pub inner : List ℕ
