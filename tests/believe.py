@@ -89,8 +89,8 @@ EXPLAINED = {
     ('program_reader', 'Programs', 'readProgram'): (('program_says', 'Trees', ['saidBy']), 'trees-exactly refused-exactly level-exactly'),
     # the tree of two operands, by the table without tiers
     ('program_reader', 'Operators', 'treeOf'): (('program_reader', 'Operators', ['trees', 'treeAmong']), 'tree-listed'),
-    # the code of an operation, by the table that has it there
-    ('program_code', 'Emitted', 'opcode'): (('image_format', 'Codes', ['codeOf']), 'opcode-row opcode-operation'),
+    # the code of an operation, by the table, which has it there and nowhere else
+    ('program_code', 'Emitted', 'opcode'): (('image_format', 'Codes', ['codeOf']), 'opcode-operation operation-opcode'),
     ('program_numbering', 'Numbering', 'sameConstant'): (('program_numbering', 'Numbering', []), 'constant-same constant-equal'),
     # To switch on, as a matter of taste:
     # 17: the names of a tree, by a walk over the text's tokens (proved; it is a matter of taste which of the two is easier to believe):

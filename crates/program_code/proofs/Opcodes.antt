@@ -1,9 +1,13 @@
 -- The table of codes has each operation at its code, in edition 1.
 use mathlib.Core.Path.{_≡_, refl, subst}
+use mathlib.Core.List.{List, [], _∷_}
 use mathlib.Core.Option.{some}
+use Prim.Native.Nat.{ℕ, zero, suc, _+_}
+use native.Mathlib.Omega.{arith}
 use Rattle.lists.specs.Elements.{nth}
-use Rattle.lists.proofs.Options.{some-one}
+use Rattle.lists.proofs.Options.{some-one, none-some}
 use Rattle.image_format.specs.Codes.{Code, codes, codeCount, codeOf, Operation, action, flow, add, subtract, multiply, divide, remainder, less, at-most, equal, different, greater, at-least, constant, get, set, field, set-field, drop, arithmetic, negate, to-number, negation, compare, join, matches, match, length-of, index, substr, print, section-end, jump, jump-if-false, next, exit}
+use Rattle.image_format.proofs.Codes.{code-row}
 use Rattle.semantics.proofs.Tables.{rowOf}
 use Rattle.program_code.specs.Emitted.{opcode, actionCode, flowCode, arithmeticCode, comparisonCode}
 
@@ -71,3 +75,23 @@ row-operation (flow exit) = refl
 -- so the table has the operation o at its code
 pub opcode-operation : (o : Operation) {k : Code} → codeOf 1 (opcode o) ≡ some k → k .operation ≡ o
 opcode-operation o h = subst (λ (x : Code). x .operation ≡ o) (some-one (opcode-row o) h) (row-operation o)
+
+-- the codes of a table's operations count up from n
+data Counts : ℕ → List Code → Type 0 where
+  ends : {n : ℕ} → Counts n []
+  goes : {n : ℕ} {k : Code} {l : List Code} → opcode (k .operation) ≡ n → Counts (suc n) l → Counts n (k ∷ l)
+
+counts-at : (l : List Code) (m n : ℕ) {k : Code} → Counts m l → nth l n ≡ some k → opcode (k .operation) ≡ m + n
+unfolding nth
+counts-at [] m n ends e = absurd (none-some e)
+counts-at (j ∷ l) m zero (goes h c) e =
+    subst (λ (x : Code). opcode (x .operation) ≡ m + 0) (some-one refl e) (omega (arith, h))
+counts-at (j ∷ l) m (suc n) (goes h c) e = omega (arith, counts-at l (suc m) n c e)
+
+codes-count : Counts 0 codes
+unfolding codes opcode actionCode flowCode arithmeticCode comparisonCode
+codes-count = search (goes, ends) depth 80 fits 2000
+
+-- and at no other code
+pub operation-opcode : (n : ℕ) {k : Code} → codeOf 1 n ≡ some k → opcode (k .operation) ≡ n
+operation-opcode n h = omega (arith, counts-at codes 0 n codes-count (code-row 1 n h))
