@@ -97,9 +97,10 @@ uint64_t flowawk_translate(const uint8_t *text, size_t text_length, uint8_t *ima
  * *steps, *records and *bytes are stored on every call: the instructions executed, the records begun, and the bytes written to the front of the output. The output's
  * bytes beyond them are as they were. The working room may hold anything before the call; what it holds after a run that began is left open.
  *
- * The lines are all there are: a last one counts without a newline too. For `~` each of the image's EREs gets a finite automaton, made once a run, as long
- * as there is room: 7,663 words for all, the first EREs first. An ERE that gets none, and each ERE of match(), is walked over a table. The image's first ERE
- * has a table of its own; the others share one, which is compiled where another of them is asked for: that is slower. A call uses under 64 KiB of stack.
+ * The lines are all there are: a last one counts without a newline too. When BEGIN, the record section or END is entered, the EREs that its instructions ask for
+ * get finite automata: one for `~`, two for match(), as long as there is room: 13,279 words for all, those of `~` first, and each in the order of the EREs. An ERE
+ * that gets none is walked over a table, which all such EREs share, and which is compiled where another of them is asked for: that is slower. A call uses under
+ * 64 KiB of stack.
  */
 uint64_t flowawk_run(const uint8_t *image, size_t image_length, const uint8_t *lines, size_t lines_length, uint8_t *output, size_t output_length,
                      uint8_t *work, size_t work_length, uint64_t budget, uint64_t *steps, uint64_t *records, uint64_t *bytes);

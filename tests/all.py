@@ -4,7 +4,7 @@
     tests/all.py [--cases N] [--seed S] [--quick]
 
 N (default 100,000) is the number of random cases of each script that calls the archive; the scripts by which the prover computes take theirs from
-their own defaults, take over an hour together, and are left out with --quick. Needs a C compiler and `objdump`. The status is 1 if a script failed, or if tests/vectors.py writes other bytes than those that
+their own defaults, take over an hour together, and are left out with --quick. Needs a C compiler, `objdump` and `valgrind`. The status is 1 if a script failed, or if tests/vectors.py writes other bytes than those that
 are there.
 """
 import argparse
@@ -18,7 +18,7 @@ import building
 RANDOM = ['match', 'split', 'images', 'translate', 'run', 'ways']
 # over other archives than capi's
 OTHER_ARCHIVES = ['exists', 'tokens']
-OTHERS = ['frames', 'believe', 'sentences', 'documents', 'edits']
+OTHERS = ['frames', 'pool', 'believe', 'sentences', 'documents', 'edits']
 # over the program ./flowawk, which they build if it is missing
 PROGRAM = ['cli', 'install']
 COMPUTED = ['semantics', 'translation', 'grammar', 'wrong_definitions', 'wrong_grammar']

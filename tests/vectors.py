@@ -880,13 +880,18 @@ def run_case(image, lines, room, budget):
 
 @group
 def runs():
-    """Runs of filters, and of images that no translator writes: every outcome of a run, budgets and output rooms at the edges of what it needs."""
+    """Runs of filters, and of images that no translator writes: every outcome of a run, budgets and output rooms at the edges of what it needs; many EREs, with
+    automata and without."""
     r = random.Random('runs')
     cases = []
     while len(cases) < 3000:
         image, lines, room, work, budget = whole_runs.draw(r, gen, ref)
         if work >= 49152:
             cases.append((image, lines, min(room, 4096), budget))
+    r = random.Random('EREs of runs')
+    for _ in range(60):
+        image, lines, room, work, budget = whole_runs.draw_eres(r, ref)
+        cases.append((image, lines, 4096, budget))
     return [p for p in (run_case(*case) for case in unique(cases)) if len(p) <= 4096]
 
 

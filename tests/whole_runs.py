@@ -29,6 +29,11 @@ FILTERS = [
     b'NR == 2 { next } NR == 4 { exit } { print } END { print "end", NR, $0 }',
 ]
 
+# EREs that each section may ask for: usual ones; and ones that get no automaton, since they have too many states, and are walked over the shared table
+USUAL_ERES = [b'a+', b'^x', b'[0-9]+$', b'(a|b)c', b'1', b'.', b'zz*', b'\\.', b'p[0-9]+', b'(tcp|udp) (443|80)$', b'^$', b'x*', b'a.*b.*c', b'^raw$|scaled', b'[^a]b*',
+              b'(ab)+c?', b'$', b'^a|b$', b'[a-c]x?[0-9]', b'raw|scaled|tcp', b'-', b'ab|abc|bca', b'(a|b)*abb', b'..$']
+LARGE_ERES = [b'(a|b)*a' + b'(a|b)' * 7, b'.*b' + b'.' * 8 + b'$', b'[ab]*b' + b'[ab]' * 9 + b'(c|$)']
+
 
 # ---- images that no translator writes
 
@@ -86,6 +91,37 @@ def assembled(r, gen):
                 made = None
         sections.append(made)
     return image_cases.assembled(users, constants, eres, sections)
+
+
+# ---- many EREs
+
+def asked(r, ere, text):
+    """What a filter does with an ERE and a text: `~`, match() or both, and what it writes of it."""
+    return r.choice([b'print (%s ~ /%s/)', b'print match(%s, /%s/), RSTART, RLENGTH', b'if (%s ~ /%s/) n = n + 1; print n']) % (text, ere)
+
+
+def ere_filter(r):
+    """A filter of up to 16 EREs, each asked for in any section, once or in turns with the others."""
+    eres = r.sample(USUAL_ERES, r.choice([1, 2, 4, 8, 13])) + r.sample(LARGE_ERES, r.randrange(4))
+    r.shuffle(eres)
+    sections = []
+    for text in (b'"abbabab tcp 80"', b'$0', b'$0'):
+        asks = [asked(r, ere, text) for ere in eres for _ in range(r.choice([0, 1, 1, 2]))]
+        r.shuffle(asks)
+        sections.append(b'; '.join(asks) or b'n = 0')
+    return b'BEGIN { %s } { %s } END { %s }' % tuple(sections)
+
+
+def ere_lines(r):
+    parts = [b'a', b'b', b'ab', b'abb', b'c', b'x', b'zz', b'.', b'17', b'p01', b'tcp 443', b'udp 80', b'raw', b'scaled', b' ', b'-', b'babababbab']
+    return b''.join(b''.join(r.choices(parts, k=r.choice([0, 1, 3, 8, 20]))) + b'\n' for _ in range(r.randrange(1, 5)))
+
+
+def draw_eres(r, ref):
+    while True:
+        outcome, _, made = ref.translate(ere_filter(r))
+        if outcome == 0:
+            return made, ere_lines(r), 20000, 49152, 20000
 
 
 # ---- whole runs
