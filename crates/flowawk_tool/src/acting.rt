@@ -1,14 +1,11 @@
 // What the words of the command line ask for.
-use crate::contents;
-use crate::images;
-use crate::images::Made;
-use crate::running;
 use front_files::Filled;
 use front_options::Action;
 use front_options::Budget;
 use front_options::Options;
 use front_options::actions;
 use front_options::options;
+use front_runs::Made;
 use libc::STDERR_FILENO;
 use libc::STDOUT_FILENO;
 
@@ -54,27 +51,39 @@ fn help() -> u64 {
     front_choices::IO_FAILED
 }
 
+// Prints the program's name and edition, and returns the status.
+fn version() -> u64 {
+    if front_io::print(b"flowawk, edition 1\n") {
+        return 0;
+    }
+    front_choices::IO_FAILED
+}
+
 // Makes the image that is to be run or written: of the filter in a word, of a filter file, or of an image file.
 fn make(a: Action, block: &[u8], o: Options, text: &mut [u8], image: &mut [u8]) -> Made {
     let given = o.given;
     let filter = given[actions::FILTER];
     match a {
-        Action::RunImage => images::load_checked(
+        Action::RunImage => front_runs::load_checked(
             front_choices::word(block, given[actions::IMAGE]),
             image,
         ),
-        Action::RunFile => images::translate_file(front_choices::word(block, filter), text, image),
+        Action::RunFile => front_runs::translate_file(
+            front_choices::word(block, filter),
+            text,
+            image,
+        ),
         Action::TranslateFile => {
-            images::translate_file(front_choices::word(block, filter), text, image)
+            front_runs::translate_file(front_choices::word(block, filter), text, image)
         }
-        _ => images::translate(b"filter", front_choices::word(block, o.operand), image),
+        _ => front_runs::translate(b"filter", front_choices::word(block, o.operand), image),
     }
 }
 
 // Checks an image file, and returns the status.
 fn check(block: &[u8], o: Options, image: &mut [u8]) -> u64 {
     let given = o.given;
-    let m = images::load_checked(front_choices::word(block, given[actions::CHECK]), image);
+    let m = front_runs::load_checked(front_choices::word(block, given[actions::CHECK]), image);
     match m {
         Made::Image(_) => 0,
         Made::Status(s) => s,
@@ -87,7 +96,7 @@ fn write(block: &[u8], o: Options, image: &[u8], n: usize) -> u64 {
         return front_choices::IO_FAILED;
     }
     let given = o.given;
-    images::write(
+    front_runs::write(
         front_choices::word(block, given[actions::OUTPUT]),
         &image[0..n],
     )
@@ -119,11 +128,10 @@ fn run_image(
     }
     let given = o.given;
     let first = front_choices::first_file(a, o.operand);
-    running::run_files(
+    front_runs::run_files(
         &image[0..n],
         block,
         first,
-        os::arg_count(),
         lines,
         output,
         work,
@@ -175,9 +183,9 @@ fn act(
     match a {
         Action::Usage => refuse_words(block, o),
         Action::Help => help(),
-        Action::Version => front_io::print(b"flowawk, edition 1\n"),
+        Action::Version => version(),
         Action::Check => check(block, o, image),
-        Action::Content => contents::print(
+        Action::Content => front_runs::print_content(
             front_choices::word(block, given[actions::CONTENT]),
             image,
             content,

@@ -1,7 +1,4 @@
 // The program over rooms that are lent: its answer is an exit status, for a host that can give one.
 mod acting;
-mod contents;
-mod images;
-mod running;
 
 pub use acting::tool;

@@ -51,6 +51,15 @@ pub fn load(name: &[u8], room: &mut [u8], from: usize) -> Loaded
     r
 }
 
+// Returns where word k of a block starts, and the block's length for 0 and where there are fewer words.
+fn first_place(block: &[u8], k: usize) -> usize {
+    if k == 0 {
+        return block.len();
+    }
+    let w = front_words::find_word(block, k - 1);
+    w.start
+}
+
 // Reads one more file after the first `at` bytes of a room, from a new line on.
 fn join(name: &[u8], room: &mut [u8], at: usize) -> Loaded
     ensures { λ r. ⌜ Loads (length (now (room .entry))) r ⌝ }
@@ -65,25 +74,24 @@ fn join(name: &[u8], room: &mut [u8], at: usize) -> Loaded
     load(name, room, from)
 }
 
-// Reads the files that the words from number `first` up to `stop` name, joined; standard input where there are none.
-pub fn load_lines(block: &[u8], first: usize, stop: usize, room: &mut [u8]) -> Loaded
+// Reads the files that the words of a block from number `first` on name, joined; standard input where there are none.
+pub fn load_lines(block: &[u8], first: usize, room: &mut [u8]) -> Loaded
     ensures { λ r. ⌜ Loads (length (now (room .entry))) r ⌝ }
 {
-    if first == 0 {
-        return load(b"-", room, 0);
-    }
-    if stop <= first {
+    let mut place = first_place(block, first);
+    if block.len() <= place {
         return load(b"-", room, 0);
     }
     let mut at: usize = 0;
-    let mut k = first;
-    while k < stop {
-        let f = join(front_choices::word(block, k), room, at);
+    while place < block.len() {
+        let w = front_words::word_at(block, place);
+        let end = w.end;
+        let f = join(&block[place..end], room, at);
         let Loaded::To(n) = f else {
             return f;
         };
         at = n;
-        k += 1;
+        place = w.next;
     }
     Loaded::To(at)
 }

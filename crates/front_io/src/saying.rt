@@ -1,6 +1,4 @@
 // What the program writes: its results to standard output, and what it says to standard error.
-ghost use Prim.Native.Nat.{_≤_};
-ghost use Rattle.front_io.specs.Loading.{MOST};
 use libc::STDERR_FILENO;
 use libc::STDOUT_FILENO;
 
@@ -23,15 +21,13 @@ pub fn fail(name: &[u8]) {
     }
 }
 
-// Writes bytes to standard output, all of them, and returns the status.
-pub fn print(bytes: &[u8]) -> u64
-    ensures { λ r. ⌜ r ≤ MOST ⌝ }
-{
+// Writes bytes to standard output, all of them. False where a call failed, which is said.
+pub fn print(bytes: &[u8]) -> bool {
     if front_files::write_whole(STDOUT_FILENO, bytes) {
-        return 0;
+        return true;
     }
     fail(b"standard output");
-    front_choices::IO_FAILED
+    false
 }
 
 // Says why a filter is refused: the place, the outcome, the line and a caret under the place.

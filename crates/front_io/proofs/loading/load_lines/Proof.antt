@@ -9,10 +9,13 @@ use Rattle.front_io.proofs.loading.load_lines.Statement.{statement}
 use Rattle.front_io.proofs.loading.load_lines.Tie as tie
 
 abbrev Inv-loop : tie.InvT-loop
-Inv-loop block first stop room₀ at₀ k₀ room at k = (length room ≡ length room₀) × (at ≤ length room₀)
+Inv-loop block first room₀ place₀ at₀ room place at = (length room ≡ length room₀) × (at ≤ length room₀)
 
 abbrev μ-loop : tie.MeasureT-loop
-μ-loop block first stop room₀ at₀ k₀ room at k = stop - k
+μ-loop block first room₀ place₀ at₀ room place at = length block - place
+
+first-place-requires : tie.Need-first-place-requires Inv-loop μ-loop
+first-place-requires c κs = search needs
 
 slice-aggregate-load : tie.Need-slice-aggregate-load Inv-loop μ-loop
 slice-aggregate-load c = search needs
@@ -26,23 +29,20 @@ same-length c = search needs
 returns : tie.Need-returns Inv-loop μ-loop
 returns c = search needs
 
-slice-aggregate-load-2 : tie.Need-slice-aggregate-load-2 Inv-loop μ-loop
-slice-aggregate-load-2 c = search needs
-
-load-requires-2 : tie.Need-load-requires-2 Inv-loop μ-loop
-load-requires-2 c κs = search needs
-
-same-length-2 : tie.Need-same-length-2 Inv-loop μ-loop
-same-length-2 c = search needs
-
-returns-2 : tie.Need-returns-2 Inv-loop μ-loop
-returns-2 c = search needs
-
 loop-holds : tie.Need-loop-holds Inv-loop μ-loop
 loop-holds c = search needs
 
-word-requires : tie.Need-word-requires Inv-loop μ-loop
-word-requires c κs = search needs
+word-at-requires : tie.Need-word-at-requires Inv-loop μ-loop
+word-at-requires c κs = search needs
+
+sub-join : tie.Need-sub-join Inv-loop μ-loop
+sub-join c = omega (arith, c .word-at .ensures .order, c .word-at .ensures .inside)
+
+part-join-start : tie.Need-part-join-start Inv-loop μ-loop
+part-join-start c = omega (arith, c .word-at .ensures .order, c .word-at .ensures .inside)
+
+part-join-end : tie.Need-part-join-end Inv-loop μ-loop
+part-join-end c = omega (arith, c .word-at .ensures .order, c .word-at .ensures .inside)
 
 join-requires : tie.Need-join-requires Inv-loop μ-loop
 join-requires c κs = search needs
@@ -50,26 +50,23 @@ join-requires c κs = search needs
 enum-known-f : tie.Need-enum-known-f Inv-loop μ-loop
 enum-known-f c = search needs
 
-same-length-3 : tie.Need-same-length-3 Inv-loop μ-loop
-same-length-3 c = search needs
+same-length-2 : tie.Need-same-length-2 Inv-loop μ-loop
+same-length-2 c = search needs
 
-returns-3 : tie.Need-returns-3 Inv-loop μ-loop
-returns-3 c = loaded-as (c .before .before .before .join .ensures) (omega arith)
-
-add-k : tie.Need-add-k Inv-loop μ-loop
-add-k c = omega arith
+returns-2 : tie.Need-returns-2 Inv-loop μ-loop
+returns-2 c = loaded-as (c .before .before .before .join .ensures) (omega arith)
 
 loop-less : tie.Need-loop-less Inv-loop μ-loop
-loop-less c = omega arith
+loop-less c = omega (arith, c .before .before .before .before .before .before .before .before .word-at .ensures .further, c .before .before .before .before .before .before .before .before .word-at .ensures .within)
 
 loop-again : tie.Need-loop-again Inv-loop μ-loop
 loop-again c = (search needs, omega (arith, loaded-to (c .before .before .before .before .before .join .ensures) (c .before .f .given .1)))
 
-same-length-4 : tie.Need-same-length-4 Inv-loop μ-loop
-same-length-4 c = search needs
+same-length-3 : tie.Need-same-length-3 Inv-loop μ-loop
+same-length-3 c = search needs
 
-returns-4 : tie.Need-returns-4 Inv-loop μ-loop
-returns-4 c = search needs
+returns-3 : tie.Need-returns-3 Inv-loop μ-loop
+returns-3 c = search needs
 
 pub load-lines-spec : {M : Type 1} → statement M
 load-lines-spec =
@@ -77,22 +74,21 @@ load-lines-spec =
     (tie.spec
     Inv-loop
     μ-loop
+    first-place-requires
     slice-aggregate-load
     load-requires
     same-length
     returns
-    slice-aggregate-load-2
-    load-requires-2
-    same-length-2
-    returns-2
     loop-holds
-    word-requires
+    word-at-requires
+    sub-join
+    part-join-start
+    part-join-end
     join-requires
     enum-known-f
-    same-length-3
-    returns-3
-    add-k
+    same-length-2
+    returns-2
     loop-less
     loop-again
-    same-length-4
-    returns-4)
+    same-length-3
+    returns-3)

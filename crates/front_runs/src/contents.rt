@@ -38,7 +38,10 @@ fn print_words(words: &[u64], n: usize, lines: &mut [u8]) -> u64 {
     if lines.len() < end {
         return front_choices::IO_FAILED;
     }
-    front_io::print(&lines[0..end])
+    if front_io::print(&lines[0..end]) {
+        return 0;
+    }
+    front_choices::IO_FAILED
 }
 
 // Refuses an image with an outcome, which is said, and returns the status.
@@ -48,7 +51,7 @@ fn refuse(name: &[u8], outcome: u64) -> u64 {
 }
 
 // Prints the content of an image file, and returns the status. A refusal is said.
-pub fn print(name: &[u8], image: &mut [u8], words: &mut [u64], lines: &mut [u8]) -> u64 {
+pub fn print_content(name: &[u8], image: &mut [u8], words: &mut [u64], lines: &mut [u8]) -> u64 {
     let m = images::load(name, image);
     match m {
         Made::Status(s) => s,

@@ -4,8 +4,8 @@ use native.Mathlib.Omega.{arith}
 use mathlib.Core.Path.{_≡_}
 use Prim.Native.Nat.{_-_, _≤_}
 use lib.ListN.{length}
-use Rattle.flowawk_tool.proofs.contents.put_words.Statement.{statement}
-use Rattle.flowawk_tool.proofs.contents.put_words.Tie as tie
+use Rattle.front_runs.proofs.contents.put_words.Statement.{statement}
+use Rattle.front_runs.proofs.contents.put_words.Tie as tie
 
 abbrev Inv-loop : tie.InvT-loop
 Inv-loop room₀ words size k₀ i₀ room k i = (length room ≡ length room₀) × (k ≤ size)

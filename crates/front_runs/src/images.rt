@@ -1,4 +1,7 @@
 // Images: made of a filter's text, read from a file and checked, written to a file.
+ghost use Rattle.edition.specs.Limits.{firstEdition};
+ghost use Rattle.translation.specs.Translation.{translateOf};
+ghost use Rattle.front_runs.specs.Images.{TranslatedTo};
 use edition::Outcome;
 use front_io::Loaded;
 use image_check::Verdict;
@@ -10,7 +13,9 @@ pub enum Made {
 }
 
 // Translates a filter's text. A refusal is said.
-pub fn translate(name: &[u8], text: &[u8], image: &mut [u8]) -> Made {
+pub fn translate(name: &[u8], text: &[u8], image: &mut [u8]) -> Made
+    ensures { λ r. ⌜ TranslatedTo (translateOf firstEdition (now (text .entry)) (now (image .entry))) (now (image .exit)) r ⌝ }
+{
     let t = translator::translate(text, image);
     if t.outcome != Outcome::DONE {
         front_io::refuse_filter(name, text, t.place, t.outcome);

@@ -1,0 +1,3 @@
+-- What the contracts on images and runs cite.
+pub mod Images
+pub mod Runs
