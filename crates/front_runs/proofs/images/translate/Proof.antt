@@ -4,8 +4,8 @@ use mathlib.Core.List.{List}
 use Prim.Native.Nat.{ℕ}
 use Rattle.edition.specs.Outcomes.{done}
 use Rattle.translation.specs.Translation.{Translation}
-use Rattle.translator.specs.Answer.{translationOf}
-use Rattle.translator.specs.declared.writing.Translation.{Translation as Answer}
+use Rattle.program_writer.specs.Answer.{translationOf}
+use Rattle.program_writer.specs.declared.writing.Translation.{Translation as Answer}
 use Rattle.front_choices.specs.Statuses.{statusOf}
 use borrow.Author.Needs.{needs}
 use Rattle.front_runs.proofs.images.translate.Statement.{statement}
