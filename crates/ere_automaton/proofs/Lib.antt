@@ -7,3 +7,4 @@ pub mod Skips
 pub mod States
 pub mod Left
 pub mod Spent
+pub mod Spelling

@@ -35,7 +35,7 @@ bare-join a s z =
     (ap (λ (w : ℕ). bitOr w (getD s 2 0)) (z .2))
 
 module _ (t : List ℕ) where
-  bare-step : (s : List ℕ) → Bare s → (b : ℕ) → step t s b ≡ noPlace
+  pub bare-step : (s : List ℕ) → Bare s → (b : ℕ) → step t s b ≡ noPlace
   bare-step s z b = step-none t s b (λ p h. ap (λ (x : Bool). x && acceptsAt t p b) (none p h))
     where
       word : (k : ℕ) → k < 2 → getD s k 0 ≡ 0

@@ -10,7 +10,8 @@ use Rattle.ere_table.specs.Wiring.{stopIn}
 use Rattle.ere_search.specs.Walk.{step}
 use Rattle.ere_automaton.specs.Sets.{collapsed, after, spent}
 use Rattle.ere_automaton.specs.Layout.{classCount, firstState, laterState, acceptedState, pairsWord, reachWord}
-use Rattle.ere_automaton.specs.Layout.{rowsAt, classIn, State, nextIn, pairIn, endWord}
+use Rattle.ere_automaton.specs.Words.{Word}
+use Rattle.ere_automaton.specs.Layout.{wordLength, rowsAt, classIn, State, nextIn, pairIn, endWord}
 
 -- each word that is a state is one, each class has its words
 pub record Ranged (d : List ℕ) : Type 0 where
@@ -41,6 +42,8 @@ pub record Hull (t d : List ℕ) : Type 0 where
   pub none-ends : (b c : ℕ) → b < 256 → c < 256 → secondByte d c ≡ false → stopIn (step t (row t 1) b) false ≡ false
   -- each match ends at the text's end, and has fewer bytes than the word says
   pub reach : (n : ℕ) → reachWord d ≡ suc n → (spent t (suc n) (row t 0)) × (spent t (suc n) (row t 1))
+  -- the ERE is the word whose length and bytes are there
+  pub word : eqb (wordLength d) 0 ≡ false → Word t d
 
 -- each state stands for a set, and each entry for the step of that set
 pub record Drives (t d : List ℕ) : Type 0 where

@@ -34,8 +34,16 @@ skipsWord d = getD d 5 0
 abbrev pub reachWord : List ℕ → ℕ
 reachWord d = getD d 14 0
 
+-- the length of the word that the ERE is, of at most 8 bytes; 0 if it is none
+abbrev pub wordLength : List ℕ → ℕ
+wordLength d = getD d 15 0
+
+-- its bytes
+abbrev pub wordsAt : ℕ
+wordsAt = 16
+
 abbrev pub classesAt : ℕ
-classesAt = 16
+classesAt = 24
 
 abbrev pub rowsAt : ℕ
 rowsAt = classesAt + 256

@@ -2,6 +2,7 @@
 -- ties them to the table of an ERE.
 pub mod Sets
 pub mod Layout
+pub mod Words
 pub mod Automaton
 pub mod Follows
 pub mod Scan

@@ -12,6 +12,7 @@ ghost use Rattle.ere_automaton.specs.Scan.{Ready, runs, rangesOf, Skippe
 use crate::blocks;
 use crate::layout;
 use crate::layout::BLOCK;
+use crate::words;
 
 // Returns the state after 16 bytes.
 fn block(d: &[u16], k: usize, pairs: bool, x: &[u8], i: usize, s: usize) -> usize
@@ -98,11 +99,16 @@ fn to_end(d: &[u16], x: &[u8], i: usize) -> usize
     blocks::by_bytes(d, x, from, x.len(), s)
 }
 
-// Tells whether a match is in the text: by its last bytes, if each match ends there and has no more.
+// Tells whether a match is in the text: a word by where it stands, and by the last bytes, if each match ends there and
+// has no more.
 pub fn exists(d: &[u16], text: &[u8]) -> bool
     requires { ⌜ Ranged (now d) × (length (now text) < 2 ^ 63) ⌝ }
     ensures { λ r. ⌜ ((t : List ℕ) → Drives t (now (d .entry)) → Exists t (now (text .entry)) r) ⌝ }
 {
+    let n = d[layout::WORD_LENGTH] as usize;
+    if (0 < n) & ((n <= layout::MOST_WORD) & (n + BLOCK <= text.len())) {
+        return words::is_in(d, text, n - 1);
+    }
     let reach = d[layout::REACH] as usize;
     if (0 < reach) & (reach <= text.len()) {
         let s = to_end(d, text, text.len() + 1 - reach);

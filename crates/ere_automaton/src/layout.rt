@@ -29,8 +29,15 @@ pub const LENGTH: usize = 10;
 pub const EMPTY: usize = 11;
 // Not 0 if each match ends at the text's end: one more than the bytes of the longest.
 pub const REACH: usize = 14;
+// The length of the word that the ERE is, of at most 8 bytes; 0 if it is none.
+pub const WORD_LENGTH: usize = 15;
+// Where the bytes of the word start.
+pub const WORD: usize = 16;
 // Where the classes of the bytes start.
-pub const CLASSES: usize = 16;
+pub const CLASSES: usize = 24;
 
 // The bytes that a search takes at a time.
 pub const BLOCK: usize = 16;
+
+// The bytes of a word at most.
+pub const MOST_WORD: usize = 8;

@@ -2,6 +2,7 @@
 mod any;
 mod blocks;
 mod layout;
+mod words;
 
 pub use any::exists;
 pub use any::next_block;

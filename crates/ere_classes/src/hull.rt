@@ -14,6 +14,7 @@ use crate::layout;
 use crate::layout::CLASSES;
 use crate::reach;
 use crate::sets;
+use crate::word;
 use ere_table::PLACES;
 
 // A set of classes with all there are.
@@ -31,7 +32,7 @@ fn with_class(out: u64, x: [u64; 3], c: usize) -> u64
 }
 
 // The classes of the bytes that lead from the set s to something.
-fn led(t: &[u64], bytes: &[u8], k: usize, s: [u64; 3], start: u64) -> u64
+pub fn led(t: &[u64], bytes: &[u8], k: usize, s: [u64; 3], start: u64) -> u64
     requires { ⌜ (length (now t) ≡ tableWords) × (k ≤ 64) × (k ≤ length (now bytes)) ⌝ }
     ensures { λ r. ⌜ Led (now (t .entry)) (now (bytes .entry)) k s start r ⌝ }
 {
@@ -80,7 +81,7 @@ fn has_class(d: &[u16], set: u64, b: usize) -> bool
 }
 
 // The first byte whose class is in a set; 256 if there is none.
-fn lowest(d: &[u16], set: u64) -> usize
+pub fn lowest(d: &[u16], set: u64) -> usize
     requires { ⌜ (rowsAt ≤ length (now d)) × (Below64 (now d)) ⌝ }
     ensures { λ r. ⌜ (r ≤ 256) × ((b : ℕ) → b < r → bit set (classIn (now (d .entry)) b) ≡ false) ⌝ }
 {
@@ -95,7 +96,7 @@ fn lowest(d: &[u16], set: u64) -> usize
 }
 
 // The byte after the last whose class is in a set; 0 if there is none.
-fn highest(d: &[u16], set: u64) -> usize
+pub fn highest(d: &[u16], set: u64) -> usize
     requires { ⌜ (rowsAt ≤ length (now d)) × (Below64 (now d)) ⌝ }
     ensures { λ r. ⌜ (r ≤ 256) × ((b : ℕ) → r ≤ b → b < 256 → bit set (classIn (now (d .entry)) b) ≡ false) ⌝ }
 {
@@ -126,7 +127,7 @@ fn put_range(d: &mut [u16], at: usize, set: u64) -> usize
     high - low
 }
 
-// Stores both ranges, and whether to look at them; and how far matches reach.
+// Stores both ranges, and whether to look at them; how far matches reach; and the word that the ERE is.
 pub fn put_hull(t: &[u64], bytes: &[u8], k: usize, d: &mut [u16])
     requires { ⌜ (length (now t) ≡ tableWords) × (k ≤ length (now bytes)) × (rowsAt ≤ length (now d))
         × (Classified (now t) (now bytes) k (now d)) ⌝ }
@@ -137,4 +138,5 @@ pub fn put_hull(t: &[u64], bytes: &[u8], k: usize, d: &mut [u16])
     let m = put_range(d, layout::NEXT_LOW, seconds(t, bytes, k));
     d[layout::SKIPS] = if n * m <= 16384 { 1 } else { 0 };
     d[layout::REACH] = reach::reach(t, bytes, k) as u16;
+    word::put_word(t, bytes, k, d);
 }

@@ -5,6 +5,7 @@ mod hull;
 mod layout;
 mod reach;
 mod sets;
+mod word;
 
 pub use classes::put_classes;
 pub use hull::put_hull;

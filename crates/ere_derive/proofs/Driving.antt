@@ -145,7 +145,7 @@ module _ (mode : ℕ) (t bytes : List ℕ) (k : ℕ) (a : List ℕ) (n stride pa
   sets-at q i e = let z : q - rowsAt ≡ stride * i = omega arith in ap (λ (x : ℕ). row a (x / stride)) z ∙ ap (row a) (number-of i)
 
   class-at : (b : ℕ) → b < 256 → classIn D b ≡ classIn d b
-  class-at b h = at (16 + b) (omega arith)
+  class-at b h = at (24 + b) (omega arith)
 
   -- the word of a row
   word : (q : ℕ) (s : RowOf n stride q) (c : ℕ) → c < stride → getD D (q + c) 0 ≡ getD d (rowsAt + stride * s .number + c) 0
@@ -224,7 +224,7 @@ module _ (mode : ℕ) (t bytes : List ℕ) (k : ℕ) (a : List ℕ) (n stride pa
   }
 
   pub built-hull : Hull t D
-  built-hull = hull-on D (λ i l m. at i (omega arith)) (at 14 (omega arith)) (B .hull)
+  built-hull = hull-on D (λ i l m. at i (omega arith)) (at 14 (omega arith)) (λ i l m. at i (omega arith)) (B .hull)
 
 -- ---- from the pieces
 
@@ -274,8 +274,9 @@ module _ (mode : ℕ) (t bytes : List ℕ) (k : ℕ) (a₀ a : List ℕ) (most n
     rows = λ i h. row-on d3 (R .rows l i h) (grows-none a n) (λ x g. proper i x h g);
     composed = composed;
     fair = R .grows l .fair (G .fair l₀);
-    classes = classified-on d3 (λ b h. kept (16 + b) (omega arith) (omega arith)) C;
-    hull = hull-on d3 (λ i g h. kept i (omega arith) (omega arith)) (kept 14 (omega arith) (omega arith)) H;
+    classes = classified-on d3 (λ b h. kept (24 + b) (omega arith) (omega arith)) C;
+    hull = hull-on d3 (λ i g h. kept i (omega arith) (omega arith)) (kept 14 (omega arith) (omega arith))
+        (λ i g h. kept i (omega arith) (omega arith)) H;
   }
 
   pub attempted : Attempted mode t d (rowsAt + stride * n) d3
@@ -297,10 +298,11 @@ module _ (mode : ℕ) (t bytes : List ℕ) (k m : ℕ) (d : List ℕ) (h : rowsA
   front-size = length-take-le m d l
 
   pub front-classified : Classified t bytes k d → Classified t bytes k (take m d)
-  front-classified = classified-on (take m d) (λ b g. getD-take m d (16 + b) 0 (omega arith))
+  front-classified = classified-on (take m d) (λ b g. getD-take m d (24 + b) 0 (omega arith))
 
   pub front-hull : Hull t d → Hull t (take m d)
   front-hull = hull-on (take m d) (λ i g o. getD-take m d i 0 (omega arith)) (getD-take m d 14 0 (omega arith))
+      (λ i g o. getD-take m d i 0 (omega arith))
 
   pub front-attempted : (r : ℕ) (f : List ℕ) → Attempted mode t (take m d) r f → Attempted mode t d r (f ++ drop m d)
   front-attempted r f A = record {

@@ -85,7 +85,7 @@ headed-both t n d room = record {
 
 module _ (d d' : List ℕ) (f : Frame 10 13 d d') where
   class-is : (b : ℕ) → classIn d' b ≡ classIn d b
-  class-is b = f .above (16 + b) (omega arith)
+  class-is b = f .above (24 + b) (omega arith)
 
   count-is : classCount d' ≡ classCount d
   count-is = f .below 0 (omega arith)
@@ -273,6 +273,7 @@ module _ (t d : List ℕ) (n : ℕ) (d1 : List ℕ) (D : DerivedBy 1 t d n d1) (
             (follows-one t (follows-on (take n d1) (take n d2) front-frame (D .follows some)))
             (follows-pending t (E .follows more))
             (hull-on (take n d2) (λ i g h. front-frame .below i (omega arith)) (front-frame .above 14 (omega arith))
+            (λ i g h. front-frame .above i (omega arith))
             (D .hull some))
             (E .hull more) N
             (word2 11 (omega arith) ∙ H .empty-first) (word2 12 (omega arith) ∙ H .empty-later)

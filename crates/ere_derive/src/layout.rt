@@ -17,7 +17,7 @@ pub const LENGTH: usize = 10;
 
 pub const EMPTY: usize = 11;
 
-pub const CLASSES: usize = 16;
+pub const CLASSES: usize = 24;
 
 pub const ROWS: usize = CLASSES + 256;
 // At most so many states.

@@ -59,7 +59,7 @@ shared-slice-read-s-2 : tie.Need-shared-slice-read-s-2 Inv-loop μ-loop
 shared-slice-read-s-2 c = omega (arith, c .before .before .before .before .pre .0 .head, small (c .before))
 
 cast-s-2 : tie.Need-cast-s-2 Inv-loop μ-loop
-cast-s-2 c = omega (arith, c .shared-slice-known2 .given (16 + byte (c .before)))
+cast-s-2 c = omega (arith, c .shared-slice-known2 .given (24 + byte (c .before)))
 
 add-s-2 : tie.Need-add-s-2 Inv-loop μ-loop
 add-s-2 c = omega (arith, inside (c .before))

@@ -31,7 +31,7 @@ shared-slice-read-y : tie.Need-shared-slice-read-y
 shared-slice-read-y c = search needs
 
 cast-y : tie.Need-cast-y
-cast-y c = omega (arith, c .shared-slice-known .given (16 + c .before .args .b))
+cast-y c = omega (arith, c .shared-slice-known .given (24 + c .before .args .b))
 
 mul-y-2 : tie.Need-mul-y-2
 mul-y-2 c = let h = inside (c .before) in omega arith
@@ -46,7 +46,7 @@ shared-slice-read-y-2 : tie.Need-shared-slice-read-y-2
 shared-slice-read-y-2 c = search needs
 
 cast-y-2 : tie.Need-cast-y-2
-cast-y-2 c = omega (arith, c .shared-slice-known2 .given (16 + c .before .before .args .c))
+cast-y-2 c = omega (arith, c .shared-slice-known2 .given (24 + c .before .before .args .c))
 
 add-y-3 : tie.Need-add-y-3
 add-y-3 c = let h = inside (c .before .before) in omega arith

@@ -5,7 +5,7 @@ use lib.ListN.{set, length-set, getD}
 use mathlib.Core.List.{List}
 use native.Mathlib.Nat.{mul-le-mul}
 use Rattle.ere_search.specs.Walk.{step}
-use Rattle.ere_classes.proofs.Bounded.{hull-put}
+use Rattle.ere_classes.proofs.Bounded.{reached-classes, hull-put}
 use borrow.Author.Needs.{needs}
 use Rattle.ere_classes.proofs.hull.put_hull.Statement.{statement}
 use Rattle.ere_classes.proofs.hull.put_hull.Tie as tie
@@ -27,7 +27,7 @@ put-range-requires-2 c κs =
     let C = c .before .before .before .before .before .before .before .before .before .before .before .pre .3 in
     let R = c .before .before .before .before .put-range .ensures in
     let p = c .before .before .before .before .before .before .before .before .before .before .before .pre in
-    (omega arith, omega (arith, R .frame .size), λ b h. omega (arith, C .is b h, C .few, R .frame .above (16 + b) (omega arith)))
+    (omega arith, omega (arith, R .frame .size), λ b h. omega (arith, C .is b h, C .few, R .frame .above (24 + b) (omega arith)))
 
 mul-if1 : tie.Need-mul-if1
 mul-if1 c = let z = mul-le-mul (c .before .before .before .before .before .before .before .put-range .ensures .few) (c .before .before .put-range2 .ensures .few) in omega arith
@@ -44,25 +44,43 @@ cast-d c = omega (arith, c .reach .ensures .0)
 slice-write-d-2 : tie.Need-slice-write-d-2
 slice-write-d-2 c = simp length-set (omega (arith, c .before .before .before .before .before .before .before .before .before .before .before .before .before .before .before .before .pre .2, c .before .before .before .before .before .before .before .before .before .put-range .ensures .frame .size, c .before .before .before .before .put-range2 .ensures .frame .size))
 
+put-word-requires : tie.Need-put-word-requires
+put-word-requires c κs =
+    let p = c .before .before .before .before .before .before .before .before .before .before .before .before .before .before .before .before .before .pre in
+    let t = c .before .before .before .before .before .before .before .before .before .before .before .before .before .before .before .before .before .args .t .now in
+    let bytes = c .before .before .before .before .before .before .before .before .before .before .before .before .before .before .before .before .before .args .bytes .now in
+    let d = c .before .before .before .before .before .before .before .before .before .before .before .before .before .before .before .before .before .args .d .now in
+    let C = p .3 in (
+      p .0,
+      p .1,
+      simp length-set (omega (arith, p .2, c .before .before .before .before .before .before .before .before .before .before .put-range .ensures .frame .size, c .before .before .before .before .before .put-range2 .ensures .frame .size)),
+      reached-classes t bytes (c .before .before .before .before .before .before .before .before .before .before .before .before .before .before .before .before .before .args .k) d (c .before .before .before .before .before .before .before .before .before .before .before .before .led .result) (c .before .before .before .before .before .before .seconds .result) _ _ _ _ C
+          (λ x h f.
+          ap (λ (s : List ℕ). step t s (getD bytes x 0)) (sym (c .before .before .before .before .before .before .before .before .before .before .before .before .before .set-at .ensures)) ∙ c .before .before .before .before .before .before .before .before .before .before .before .before .led .ensures .none x h f)
+          (c .before .before .before .before .before .before .seconds .ensures) (c .before .before .before .before .before .before .before .before .before .before .put-range .ensures) (c .before .before .before .before .before .put-range2 .ensures) (c .before .before .if1 .d) (c .before .reach .result) (p .2)
+          (c .before .reach .ensures .1 d C),
+    )
+
 same-length : tie.Need-same-length
 same-length c =
-    let last = c .before .before .before .before .put-range2 .last .0 in
-    length-set (set last 5 (c .before .if1 .d)) 14 (c .reach .result)
-    ∙ length-set last 5 (c .before .if1 .d)
-    ∙ c .before .before .before .before .put-range2 .ensures .frame .size
-    ∙ c .before .before .before .before .before .before .before .before .before .put-range .ensures .frame .size
+    let last = c .before .before .before .before .before .before .before .before .put-range2 .last .0 in
+    c .before .before .put-word .ensures .frame .size
+    ∙ length-set (set last 5 (c .before .before .before .before .before .if1 .d)) 14 (c .before .before .before .before .reach .result)
+    ∙ length-set last 5 (c .before .before .before .before .before .if1 .d)
+    ∙ c .before .before .before .before .before .before .before .before .put-range2 .ensures .frame .size
+    ∙ c .before .before .before .before .before .before .before .before .before .before .before .before .before .put-range .ensures .frame .size
 
 returns : tie.Need-returns
 returns c =
-    let e = c .before .before .before .before .before .before .before .before .before .before .before .before .before .before .before .before .args in
-    let t = e .t .now in
-    let bytes = e .bytes .now in
-    let d = e .d .now in
-    let C = c .before .before .before .before .before .before .before .before .before .before .before .before .before .before .before .before .pre .3 in
-    hull-put t bytes (e .k) d (c .before .before .before .before .before .before .before .before .before .before .before .led .result) (c .before .before .before .before .before .seconds .result) _ _ _ _ C
-    (λ x h f. ap (λ (s : List ℕ). step t s (getD bytes x 0)) (sym (c .before .before .before .before .before .before .before .before .before .before .before .before .set-at .ensures)) ∙ c .before .before .before .before .before .before .before .before .before .before .before .led .ensures .none x h f)
-    (c .before .before .before .before .before .seconds .ensures) (c .before .before .before .before .before .before .before .before .before .put-range .ensures) (c .before .before .before .before .put-range2 .ensures) (c .before .if1 .d) (c .reach .result) (c .before .before .before .before .before .before .before .before .before .before .before .before .before .before .before .before .pre .2)
-    (c .reach .ensures .1 d C)
+    let p = c .before .before .before .before .before .before .before .before .before .before .before .before .before .before .before .before .before .before .before .before .pre in
+    let t = c .before .before .before .before .before .before .before .before .before .before .before .before .before .before .before .before .before .before .before .before .args .t .now in
+    let bytes = c .before .before .before .before .before .before .before .before .before .before .before .before .before .before .before .before .before .before .before .before .args .bytes .now in
+    let d = c .before .before .before .before .before .before .before .before .before .before .before .before .before .before .before .before .before .before .before .before .args .d .now in
+    let C = p .3 in
+    hull-put t bytes (c .before .before .before .before .before .before .before .before .before .before .before .before .before .before .before .before .before .before .before .before .args .k) d (c .before .before .before .before .before .before .before .before .before .before .before .before .before .before .before .led .result) (c .before .before .before .before .before .before .before .before .before .seconds .result) _ _ _ _ C
+    (λ x h f. ap (λ (s : List ℕ). step t s (getD bytes x 0)) (sym (c .before .before .before .before .before .before .before .before .before .before .before .before .before .before .before .before .set-at .ensures)) ∙ c .before .before .before .before .before .before .before .before .before .before .before .before .before .before .before .led .ensures .none x h f)
+    (c .before .before .before .before .before .before .before .before .before .seconds .ensures) (c .before .before .before .before .before .before .before .before .before .before .before .before .before .put-range .ensures) (c .before .before .before .before .before .before .before .before .put-range2 .ensures) (c .before .before .before .before .before .if1 .d) (c .before .before .before .before .reach .result) (p .2)
+    (c .before .before .before .before .reach .ensures .1 d C) _ (c .before .before .put-word .ensures)
 
 pub put-hull-spec : {M : Type 1} → statement M
 put-hull-spec =
@@ -78,5 +96,6 @@ put-hull-spec =
     reach-requires
     cast-d
     slice-write-d-2
+    put-word-requires
     same-length
     returns)

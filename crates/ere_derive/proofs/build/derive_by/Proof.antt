@@ -50,8 +50,9 @@ attempt-requires c κs =
       omega (arith, K .few, C .byteSize),
       omega (arith, C .size, H .size),
       omega (arith, C .size, H .size),
-      classified-on _ (λ b h. A .kept (16 + b) (omega arith) (omega arith)) (H .classified),
-      hull-on _ (λ i g h. A .kept i (omega arith) (omega arith)) (A .kept 14 (omega arith) (omega arith)) (H .hull),
+      classified-on _ (λ b h. A .kept (24 + b) (omega arith) (omega arith)) (H .classified),
+      hull-on _ (λ i g h. A .kept i (omega arith) (omega arith)) (A .kept 14 (omega arith) (omega arith))
+          (λ i g h. A .kept i (omega arith) (omega arith)) (H .hull),
     )
 
 same-length-3 : tie.Need-same-length-3

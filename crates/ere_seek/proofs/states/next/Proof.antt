@@ -28,7 +28,7 @@ shared-slice-read-result : tie.Need-shared-slice-read-result
 shared-slice-read-result c = search needs
 
 cast-result : tie.Need-cast-result
-cast-result c = omega (arith, c .shared-slice-known .given (16 + c .before .args .b))
+cast-result c = omega (arith, c .shared-slice-known .given (24 + c .before .args .b))
 
 add-result-2 : tie.Need-add-result-2
 add-result-2 c = omega (arith, inside (c .before))
