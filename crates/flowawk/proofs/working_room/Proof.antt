@@ -1,0 +1,12 @@
+-- `working_room`, by the law on lists of one value and not by counting.
+use mathlib.Core.Path.{sym}
+use Prim.Native.Nat.{ℕ}
+use lib.ListN.{length-replicate}
+use Rattle.flowawk.proofs.working_room.Statement.{statement}
+use Rattle.flowawk.proofs.working_room.Tie as tie
+
+returns : tie.Need-returns
+returns c = sym (length-replicate {0} {A = ℕ} 49152 0)
+
+pub working-room-spec : {M : Type 1} → statement M
+working-room-spec = tie.close (tie.spec returns)
