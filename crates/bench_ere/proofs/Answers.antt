@@ -11,7 +11,7 @@ use Rattle.ere_meaning.specs.Tree.{Class, accepts, Ere}
 use Rattle.ere_meaning.specs.Search.{bestOf}
 use Rattle.ere_grammar.specs.Read.{readEre}
 use Rattle.ere_table.specs.Table.{tableWords}
-use Rattle.ere_search.specs.Any.{Exists}
+use Rattle.ere_exists.specs.Any.{Exists}
 use Rattle.ere_search.specs.Find.{matchOf, Inside, Finds}
 use Rattle.ere_search.specs.declared.search.Found.{Found}
 use Rattle.ere_search.specs.declared.search.Found.the-variants.{At, Nowhere}

@@ -11,7 +11,7 @@ use Rattle.ere_meaning.specs.Meaning.{Match, found, nowhere}
 use Rattle.ere_meaning.specs.Search.{bestOf}
 use Rattle.ere_grammar.specs.Read.{readEre}
 use Rattle.ere_table.specs.Table.{tableWords}
-use Rattle.ere_search.specs.Any.{isMatch}
+use Rattle.ere_exists.specs.Any.{isMatch}
 use Rattle.ere.specs.Answer.{Serves}
 
 -- The table was t₀ and is t. 1: the bytes are an ERE, and the table serves it; 0: they are none, or the table has another size, and is as it was.

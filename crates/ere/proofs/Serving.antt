@@ -14,7 +14,7 @@ use Rattle.ere_meaning.specs.Search.{bestFrom, bestOf}
 use Rattle.ere_meaning.proofs.Moving.{repeated-move, same-answer}
 use Rattle.ere_table.specs.Table.{acceptsAt}
 use Rattle.ere_search.specs.Find.{matchOf, Finds}
-use Rattle.ere_search.specs.Any.{isMatch, Exists}
+use Rattle.ere_exists.specs.Any.{isMatch, Exists}
 use Rattle.ere_search.specs.declared.search.Found.{Found}
 use Rattle.ere_search.proofs.Answers.{answer}
 use Rattle.ere_parser.specs.Built.{Agrees, at-place, at-bol, at-eol, in-cat, in-alt, in-star, in-plus, in-opt}

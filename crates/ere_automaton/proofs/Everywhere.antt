@@ -14,9 +14,9 @@ use borrow.Author.Tests.{ne-eqb}
 use Rattle.ere_table.specs.Table.{row, join}
 use Rattle.ere_table.specs.Wiring.{stopIn}
 use Rattle.ere_search.specs.Walk.{step}
-use Rattle.ere_search.specs.Any.{Exists}
-use Rattle.ere_search.proofs.Anywhere.{pending, allAt, ends}
-use Rattle.ere_search.proofs.Anywhere.{yes as stops-early}
+use Rattle.ere_exists.specs.Any.{Exists}
+use Rattle.ere_exists.proofs.Anywhere.{pending, allAt, ends}
+use Rattle.ere_exists.proofs.Anywhere.{yes as stops-early}
 use Rattle.ere_automaton.specs.Sets.{collapsed, after, walk, answer}
 use Rattle.ere_automaton.proofs.Absorbing.{collapsed-stops, collapsed-open, after-ended, after-open, absorbing}
 use Rattle.ere_automaton.proofs.Joins.{join-none}

@@ -11,7 +11,7 @@ use lib.Dec.{eqb}
 use lib.Seq.{drop-cons}
 use Rattle.ere_table.specs.Table.{row}
 use Rattle.ere_table.specs.Wiring.{stopIn}
-use Rattle.ere_search.specs.Any.{Exists}
+use Rattle.ere_exists.specs.Any.{Exists}
 use Rattle.ere_automaton.specs.Sets.{collapsed, after, walk}
 use Rattle.ere_automaton.specs.Layout.{State, firstState, laterState, acceptedState, skipsWord, endWord}
 use Rattle.ere_automaton.specs.Automaton.{Drives}

@@ -15,9 +15,9 @@ use Rattle.ere_table.specs.Table.{mem, row, noPlace}
 use Rattle.ere_table.specs.Wiring.{stopIn}
 use Rattle.ere_table.proofs.Sets.{mem-none}
 use Rattle.ere_search.specs.Walk.{step, liveAt, entryRow}
-use Rattle.ere_search.specs.Any.{Exists}
-use Rattle.ere_search.proofs.Anywhere.{allAt, all-in, all-out, ends}
-use Rattle.ere_search.proofs.Anywhere.{yes as stops-early}
+use Rattle.ere_exists.specs.Any.{Exists}
+use Rattle.ere_exists.proofs.Anywhere.{allAt, all-in, all-out, ends}
+use Rattle.ere_exists.proofs.Anywhere.{yes as stops-early}
 use Rattle.ere_automaton.specs.Layout.{wordLength}
 use Rattle.ere_automaton.specs.Words.{wordByte, spelled, Spells, Word, isByte, stands, standsIn, Looked}
 use Rattle.ere_automaton.proofs.Spent.{bare-none, bare-step}

@@ -5,7 +5,7 @@ ghost use mathlib.Core.List.{List};
 ghost use Prim.Native.Nat.{ℕ, _+_, _-_, _≤_, _<_, _^_};
 ghost use lib.ListN.{length};
 ghost use lib.Dec.{eqb};
-ghost use Rattle.ere_search.specs.Any.{Exists};
+ghost use Rattle.ere_exists.specs.Any.{Exists};
 ghost use Rattle.ere_automaton.specs.Layout.{laterState, pairsWord, rowsAt};
 ghost use Rattle.ere_automaton.specs.Automaton.{Ranged, Drives};
 ghost use Rattle.ere_automaton.specs.Scan.{Ready, runs, rangesOf, Skipped, NearEnd};

@@ -1,9 +1,7 @@
--- The laws of the walk.
+-- Laws. The leftmost longest match of an ERE in a text, by walking its table.
 pub mod Answers
-pub mod Anywhere
 pub mod Finds
 pub mod Meets
-pub mod Passing
 pub mod Skips
 pub mod Steps
 pub mod Trailing

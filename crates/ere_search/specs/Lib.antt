@@ -1,4 +1,3 @@
--- What a walk over the table of an ERE does, and what it finds.
+-- The leftmost longest match of an ERE in a text, by walking its table.
 pub mod Walk
 pub mod Find
-pub mod Any

@@ -15,7 +15,7 @@ use Rattle.splitting.specs.Separator.{Separator}
 use Rattle.ere_meaning.specs.Tree.{Class, accepts, Ere}
 use Rattle.ere_meaning.specs.Meaning.{Match, found, nowhere}
 use Rattle.ere_meaning.specs.Search.{bestFrom, bestOf}
-use Rattle.ere_search.specs.Any.{isMatch, Exists}
+use Rattle.ere_exists.specs.Any.{isMatch, Exists}
 use Rattle.ere_search.specs.Find.{matchOf, Inside, Finds}
 use Rattle.ere_search.specs.declared.search.Found.{Found}
 use Rattle.ere_search.specs.declared.search.Found.the-variants.{At, Nowhere}

@@ -8,7 +8,7 @@ use lib.IntN.{pos, negsuc}
 use Rattle.edition.specs.Limits.{operandDepth}
 use Rattle.ere_meaning.specs.Tree.{Class, Ere}
 use Rattle.ere_meaning.specs.Meaning.{Match, found, nowhere}
-use Rattle.ere_search.specs.Any.{Exists}
+use Rattle.ere_exists.specs.Any.{Exists}
 use Rattle.ere_search.specs.Find.{Inside, Finds}
 use Rattle.ere_search.specs.declared.search.Found.{Found}
 use Rattle.ere_automaton.specs.Automaton.{Drives}

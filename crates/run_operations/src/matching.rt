@@ -11,7 +11,7 @@ ghost use Rattle.run_room.specs.declared.lines.Line.{Line};
 ghost use Rattle.ere_meaning.specs.Tree.{Class, accepts, Ere};
 ghost use Rattle.ere_meaning.specs.Search.{bestOf};
 ghost use Rattle.ere_table.specs.Table.{tableWords};
-ghost use Rattle.ere_search.specs.Any.{isMatch};
+ghost use Rattle.ere_exists.specs.Any.{isMatch};
 ghost use Rattle.ere_automaton.specs.Automaton.{Ranged};
 ghost use Rattle.ere_automaton.specs.Follows.{SeekRanged};
 ghost use Rattle.values.specs.Value.{textOf, truthValue};
@@ -25,7 +25,7 @@ fn has_match(d: &[u16], t: &[u64], text: &[u8]) -> bool
     ensures { λ r. ⌜ Told (now (d .entry)) (now (t .entry)) (now (text .entry)) r ⌝ }
 {
     if d.len() == 0 {
-        return ere_search::exists(t, text);
+        return ere_exists::exists(t, text);
     }
     ere_automaton::exists(d, text)
 }

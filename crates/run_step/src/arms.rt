@@ -7,7 +7,7 @@ ghost use lib.ListN.{length, take, drop, getD};
 ghost use Rattle.edition.specs.Limits.{operandDepth, numberBound, ereCount};
 ghost use Rattle.ere_meaning.specs.Tree.{Class, accepts, Ere};
 ghost use Rattle.ere_meaning.specs.Search.{bestOf};
-ghost use Rattle.ere_search.specs.Any.{isMatch};
+ghost use Rattle.ere_exists.specs.Any.{isMatch};
 ghost use Rattle.ere_table.specs.Table.{tableWords};
 ghost use Rattle.splitting.specs.Separator.{Separator};
 ghost use Rattle.separators.specs.Kinds.{Sized, Tells};

@@ -4,8 +4,8 @@ use mathlib.Core.Path.{ap}
 use lib.ListN.{getD}
 use borrow.Author.Tests.{eq-eqb, ne-eqb}
 use borrow.Author.Needs.{needs}
-use Rattle.ere_search.proofs.any.passed.Statement.{statement}
-use Rattle.ere_search.proofs.any.passed.Tie as tie
+use Rattle.ere_exists.proofs.any.passed.Statement.{statement}
+use Rattle.ere_exists.proofs.any.passed.Tie as tie
 
 dead-requires : tie.Need-dead-requires
 dead-requires c κs = search needs

@@ -7,10 +7,8 @@ ghost use Prim.Native.Nat.{_+_, _≤_, _<_, _^_};
 ghost use lib.ListN.{length, drop};
 ghost use Rattle.lists.specs.Elements.{leading};
 ghost use Rattle.ere_table.specs.Table.{tableWords, row, join};
 ghost use Rattle.ere_search.specs.Walk.{entryRow};
-ghost use Rattle.ere_search.specs.Any.{Exists, passes, noStart};
-use crate::search;
-use crate::words;
+ghost use Rattle.ere_exists.specs.Any.{Exists, passes, noStart};
 
 // Returns the set s with the places at which a match that starts at i begins.
 fn with_entry(t: &[u64], s: [u64; 3], i: usize) -> [u64; 3]
@@ -18,9 +16,9 @@ fn with_entry(t: &[u64], s: [u64; 3], i: usize) -> [u64; 3]
     ensures { λ r. ⌜ r ≡ join s (row (now (t .entry)) (entryRow i)) ⌝ }
 {
     if i == 0 {
-        return words::with_row(s, t, 0);
+        return ere_search::with_row(s, t, 0);
     }
-    words::with_row(s, t, 1)
+    ere_search::with_row(s, t, 1)
 }
 
 // Tells whether the set has nothing in it, no accept bit either, and no match begins with the byte b.
@@ -28,9 +26,9 @@ fn passed(t: &[u64], s: [u64; 3], b: u8, empty: bool) -> bool
     requires { ⌜ length (now t) ≡ tableWords ⌝ }
     ensures { λ r. ⌜ r ≡ passes (now (t .entry)) s b empty ⌝ }
 {
-    if search::dead(s) {
+    if ere_search::dead(s) {
         if s[2] == 0 {
-            return !search::may_begin(t, b, empty);
+            return !ere_search::may_begin(t, b, empty);
         }
     }
     false
@@ -44,7 +42,7 @@ fn next_start(t: &[u64], text: &[u8], from: usize, empty: bool) -> usize
 {
     let mut i = from;
     while i < text.len() {
-        if search::may_begin(t, text[i], empty) {
+        if ere_search::may_begin(t, text[i], empty) {
             return i;
         }
         i += 1;
@@ -58,7 +56,7 @@ pub fn exists(t: &[u64], text: &[u8]) -> bool
     requires { ⌜ (length (now t) ≡ tableWords) × (length (now text) < 2 ^ 63) ⌝ }
     ensures { λ r. ⌜ Exists (now (t .entry)) (now (text .entry)) r ⌝ }
 {
-    let empty = search::may_be_empty(t, 0);
+    let empty = ere_search::may_be_empty(t, 0);
     let mut live = [0u64; 3];
     let mut i: usize = 0;
     while i < text.len() {
@@ -67,14 +65,14 @@ pub fn exists(t: &[u64], text: &[u8]) -> bool
             i = next_start(t, text, i + 1, empty);
         } else {
             let all = with_entry(t, live, i);
-            if search::stops(all, false) {
+            if ere_search::stops(all, false) {
                 return true;
             }
-            let next = words::step(t, all, text[i]);
+            let next = ere_search::step(t, all, text[i]);
             live = next;
             i += 1;
         }
     }
     let all = with_entry(t, live, i);
-    search::stops(all, true)
+    ere_search::stops(all, true)
 }

@@ -7,13 +7,13 @@ use native.Mathlib.Omega.{arith}
 use lib.ListN.{length}
 use borrow.Author.Count.{below-more}
 use Rattle.ere_table.specs.Wiring.{stopIn, Sealed}
 use Rattle.ere_search.specs.Walk.{openTo}
-use Rattle.ere_search.proofs.Anywhere.{pending, allAt, ends, all-stop, turn}
-use Rattle.ere_search.proofs.Anywhere.{yes as stops-early}
-use Rattle.ere_search.proofs.Passing.{skip-within, skip-live, skip-stops}
+use Rattle.ere_exists.proofs.Anywhere.{pending, allAt, ends, all-stop, turn}
+use Rattle.ere_exists.proofs.Anywhere.{yes as stops-early}
+use Rattle.ere_exists.proofs.Passing.{skip-within, skip-live, skip-stops}
 use borrow.Author.Needs.{needs}
-use Rattle.ere_search.proofs.any.exists.Statement.{statement}
-use Rattle.ere_search.proofs.any.exists.Tie as tie
+use Rattle.ere_exists.proofs.any.exists.Statement.{statement}
+use Rattle.ere_exists.proofs.any.exists.Tie as tie
 
 abbrev Inv-loop : tie.InvT-loop
 Inv-loop t text empty live₀ i₀ live i =

@@ -12,9 +12,9 @@ use Rattle.lists.specs.Elements.{leading}
 use Rattle.lists.proofs.Leading.{leading-le, leading-more, leading-each}
 use Rattle.ere_table.specs.Table.{noPlace}
 use Rattle.ere_table.specs.Wiring.{stopIn, Sealed}
 use Rattle.ere_search.specs.Walk.{openTo}
-use Rattle.ere_search.specs.Any.{passes, noStart}
-use Rattle.ere_search.proofs.Anywhere.{pending, allAt, pass, pass-stop}
+use Rattle.ere_exists.specs.Any.{passes, noStart}
+use Rattle.ere_exists.proofs.Anywhere.{pending, allAt, pass, pass-stop}
 
 module _ (t text : List ℕ) (S : Sealed t) (empty : Bool) (he : empty ≡ openTo t 0) (bytes : (k : ℕ) → getD text k 0 < 256) where
   -- a byte that begins none is passed where nothing is live

@@ -6,10 +6,10 @@ use native.Mathlib.Omega.{arith}
 use lib.ListN.{length, drop}
 use Rattle.lists.specs.Elements.{leading}
 use Rattle.lists.proofs.Leading.{leading-more, leading-stop, leading-end}
-use Rattle.ere_search.specs.Any.{noStart}
+use Rattle.ere_exists.specs.Any.{noStart}
 use borrow.Author.Needs.{needs}
-use Rattle.ere_search.proofs.any.next_start.Statement.{statement}
-use Rattle.ere_search.proofs.any.next_start.Tie as tie
+use Rattle.ere_exists.proofs.any.next_start.Statement.{statement}
+use Rattle.ere_exists.proofs.any.next_start.Tie as tie
 
 abbrev Inv-loop : tie.InvT-loop
 Inv-loop t text from empty i₀ i = (i ≤ length text) × (from + leading (noStart t empty) (drop from text) ≡ i + leading (noStart t empty) (drop i text))

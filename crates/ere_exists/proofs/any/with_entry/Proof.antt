@@ -2,8 +2,8 @@
 use native.Mathlib.Omega.{arith}
 use borrow.Author.Tests.{eq-eqb, ne-eqb}
 use borrow.Author.Needs.{needs}
-use Rattle.ere_search.proofs.any.with_entry.Statement.{statement}
-use Rattle.ere_search.proofs.any.with_entry.Tie as tie
+use Rattle.ere_exists.proofs.any.with_entry.Statement.{statement}
+use Rattle.ere_exists.proofs.any.with_entry.Tie as tie
 
 with-row-requires : tie.Need-with-row-requires
 with-row-requires c κs = search needs

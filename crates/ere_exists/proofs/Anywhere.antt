@@ -22,10 +22,10 @@ use Rattle.ere_table.specs.Table.{mem, row, join, noPlace, acceptsAt, begins, e
 use Rattle.ere_table.specs.Wiring.{stopIn, Tabled, Sealed}
 use Rattle.ere_table.proofs.Sets.{mem-join, mem-none}
 use Rattle.ere_table.proofs.Begins.{begins-with, empty-out}
 use Rattle.ere_search.specs.Walk.{step, dead, liveAt, entryRow, openTo}
-use Rattle.ere_search.specs.Any.{isMatch, Exists, passes}
+use Rattle.ere_exists.specs.Any.{isMatch, Exists, passes}
 use Rattle.ere_search.proofs.Steps.{step-in, step-out, step-none}
 use Rattle.ere_search.proofs.Meets.{stop-leads, leads-stop}
 
 -- what may come next at i after the starts before i
 unfoldable pub pending : List ℕ → List ℕ → ℕ → List ℕ

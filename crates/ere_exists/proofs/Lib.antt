@@ -1,0 +1,3 @@
+-- The laws of the walk.
+pub mod Anywhere
+pub mod Passing
