@@ -9,12 +9,12 @@ use lib.ListN.{length, getD, set, length-set}
 use lib.Seq.{getD-set-same, getD-set-other}
 use Rattle.ere_table.specs.Table.{row}
 use Rattle.ere_automaton.specs.Layout.{rowsAt}
-use Rattle.ere_derive.specs.Growth.{Grows, Leads}
+use Rattle.ere_sets.specs.Growth.{Grows, Leads}
 use Rattle.ere_classes.specs.Frames.{Frame}
 use Rattle.ere_derive.specs.Layout.{Apart, RowAt, Rows, RowOf, Closed, Paired, PutPairs}
 use Rattle.ere_classes.proofs.Columns.{upTo, ordered}
 use Rattle.ere_classes.proofs.Framed.{frame-on, frame-wider}
-use Rattle.ere_derive.proofs.Grown.{leads-on}
+use Rattle.ere_sets.proofs.Grown.{leads-on}
 
 -- row j lies before row i
 pub rows-below : (stride j i : ℕ) → j < i → stride * j + stride ≤ stride * i

@@ -14,12 +14,12 @@ use Rattle.ere_table.specs.Table.{row}
 use Rattle.ere_automaton.specs.Layout.{State, classIn, nextIn, pairIn, endWord, rowsAt, strideBy, strideOf, stateCount}
 use Rattle.ere_automaton.specs.Automaton.{Ranged, Hull}
 use Rattle.ere_classes.specs.Column.{Classified}
-use Rattle.ere_derive.specs.Modes.{changeBy, firstBy, laterBy, lastBy, FollowsBy}
-use Rattle.ere_derive.specs.Growth.{Fair, Grows, Has, Leads}
+use Rattle.ere_sets.specs.Modes.{changeBy, firstBy, laterBy, lastBy, FollowsBy}
+use Rattle.ere_sets.specs.Growth.{Fair, Grows, Has, Leads}
 use Rattle.ere_classes.specs.Frames.{Frame}
 use Rattle.ere_derive.specs.Layout.{RowAt, Rows, RowOf, Closed, Paired, PutRows, PutPairs, Begins, Headed}
 use Rattle.ere_derive.specs.Derived.{DerivedBy, Attempted}
-use Rattle.ere_derive.proofs.Grown.{grows-none, has-on}
+use Rattle.ere_sets.proofs.Grown.{grows-none, has-on}
 use Rattle.ere_derive.proofs.Composed.{rows-below, square-below, row-on}
 use Rattle.ere_classes.proofs.Bounded.{classified-on, hull-on}
 use Rattle.ere_derive.proofs.Following.{change-same, fair-marks}

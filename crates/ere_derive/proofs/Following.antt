@@ -16,8 +16,8 @@ use Rattle.ere_automaton.specs.Sets.{collapsed, after}
 use Rattle.ere_automaton.specs.Layout.{State, skipsWord, endWord}
 use Rattle.ere_automaton.specs.Automaton.{Hull, Drives}
 use Rattle.ere_automaton.specs.Follows.{Follows, FollowsAll, FollowsOne, FollowsPending, pendingAfter}
-use Rattle.ere_derive.specs.Modes.{changeBy, firstBy, laterBy, lastBy, FollowsBy}
-use Rattle.ere_derive.specs.Growth.{Fair}
+use Rattle.ere_sets.specs.Modes.{changeBy, firstBy, laterBy, lastBy, FollowsBy}
+use Rattle.ere_sets.specs.Growth.{Fair}
 use Rattle.ere_derive.specs.Derived.{Derived, DerivedBy}
 
 after-same : (t s : List ℕ) (b c : ℕ) → step t s b ≡ step t s c → after t s b ≡ after t s c

@@ -1,5 +1,4 @@
 -- The laws of an automaton that is made from a table.
-pub mod Grown
 pub mod Composed
 pub mod Following
 pub mod Driving

@@ -19,7 +19,7 @@ use Rattle.ere_automaton.specs.Layout.{classCount, firstState, laterState, acce
 use Rattle.ere_automaton.specs.Layout.{strideBy, strideOf, stateCount, State, classIn, nextIn, pairIn, endWord}
 use Rattle.ere_automaton.specs.Automaton.{Ranged, Hull}
 use Rattle.ere_automaton.specs.Follows.{Follows, FollowsOne, FollowsPending, Seeks, oneLength, oneIn, pendingIn}
-use Rattle.ere_derive.specs.Modes.{FollowsBy}
+use Rattle.ere_sets.specs.Modes.{FollowsBy}
 use Rattle.ere_classes.specs.Frames.{Frame}
 use Rattle.ere_derive.specs.Both.{Nested, HeadedBoth}
 use Rattle.ere_derive.specs.Derived.{DerivedBy, DerivedBoth}

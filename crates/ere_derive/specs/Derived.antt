@@ -6,7 +6,7 @@ use lib.ListN.{length, take, getD}
 use Rattle.ere_automaton.specs.Automaton.{Drives, Hull}
 use Rattle.ere_automaton.specs.Follows.{Seeks}
 use Rattle.ere_automaton.specs.Layout.{rowsAt}
-use Rattle.ere_derive.specs.Modes.{FollowsBy}
+use Rattle.ere_sets.specs.Modes.{FollowsBy}
 
 -- r is 0, or the first r words are an automaton of the table
 pub record Derived (t d : List ℕ) (r : ℕ) (d' : List ℕ) : Type 0 where

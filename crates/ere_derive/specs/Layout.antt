@@ -7,8 +7,8 @@ use lib.ListN.{length, getD}
 use Rattle.ere_table.specs.Table.{row}
 use Rattle.ere_automaton.specs.Layout.{rowsAt}
 use Rattle.ere_classes.specs.Frames.{Frame}
-use Rattle.ere_derive.specs.Modes.{firstBy, laterBy, lastBy}
-use Rattle.ere_derive.specs.Growth.{Fair, Grows, Has, Leads}
+use Rattle.ere_sets.specs.Modes.{firstBy, laterBy, lastBy}
+use Rattle.ere_sets.specs.Growth.{Fair, Grows, Has, Leads}
 
 -- the words at p are the row of the set s
 pub record RowAt (mode : ℕ) (t bytes : List ℕ) (k : ℕ) (a : List ℕ) (n stride : ℕ) (s d : List ℕ) (p : ℕ) : Type 0 where

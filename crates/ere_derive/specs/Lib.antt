@@ -1,6 +1,4 @@
 -- Automata from the table of an ERE: the sets that their states stand for, rows, and pairs.
-pub mod Modes
-pub mod Growth
 pub mod Layout
 pub mod Both
 pub mod Derived

@@ -9,7 +9,6 @@ ghost use Rattle.ere_derive.specs.Both.{Nested, HeadedBoth};
 ghost use Rattle.ere_derive.specs.Derived.{DerivedBoth};
 use crate::build;
 use crate::layout;
-use crate::sets;
 
 // Whether all that may start elsewhere may start at the text's start.
 fn is_nested(t: &[u64]) -> bool
@@ -37,12 +36,12 @@ pub fn derive_both(t: &[u64], d: &mut [u16], pairs: usize) -> usize
     ensures { λ r. ⌜ DerivedBoth (now (t .entry)) (now (d .entry)) r (now (d .exit)) ⌝ }
 {
     if is_nested(t) {
-        let n = build::derive_by(t, sets::ONE, d, pairs);
+        let n = build::derive_by(t, ere_sets::ONE, d, pairs);
         if n == 0 {
             return 0;
         }
         put_both(t, d, n);
-        let m = build::derive_by(t, sets::PENDING, &mut d[n..], pairs);
+        let m = build::derive_by(t, ere_sets::PENDING, &mut d[n..], pairs);
         if m == 0 {
             return 0;
         }

@@ -12,7 +12,6 @@ use crate::layout;
 use crate::layout::ROWS;
 use crate::pairs;
 use crate::rows;
-use crate::sets;
 
 // How many states there is room for.
 fn states_in(length: usize, stride: usize) -> usize
@@ -124,5 +123,5 @@ pub fn derive(t: &[u64], d: &mut [u16], pairs: usize) -> usize
     requires { ⌜ (length (now t) ≡ tableWords) × (length (now d) < 65536) ⌝ }
     ensures { λ r. ⌜ Derived (now (t .entry)) (now (d .entry)) r (now (d .exit)) ⌝ }
 {
-    derive_by(t, sets::ALL, d, pairs)
+    derive_by(t, ere_sets::ALL, d, pairs)
 }

@@ -5,7 +5,6 @@ mod build;
 mod layout;
 mod pairs;
 mod rows;
-mod sets;
 
 pub use both::derive_both;
 pub use build::derive;

@@ -6,7 +6,6 @@ ghost use Rattle.ere_table.specs.Table.{tableWords, row};
 ghost use Rattle.ere_automaton.specs.Layout.{rowsAt};
 ghost use Rattle.ere_derive.specs.Layout.{PutEntry, PutRow, PutRows, Begins};
 use crate::layout::ROWS;
-use crate::sets;
 
 // Stores at p the state after the set s and the byte b; gives how many states there are then, most + 1 if too many.
 fn put_entry(
@@ -26,7 +25,7 @@ fn put_entry(
     ensures { λ r. ⌜ PutEntry mode (now (t .entry)) (now (sets .entry)) count most stride s b p (now (d .entry)) r
         (now (sets .exit)) (now (d .exit)) ⌝ }
 {
-    let e = sets::enter(sets, count, most, sets::change(t, mode, s, b));
+    let e = ere_sets::enter(sets, count, most, ere_sets::change(t, mode, s, b));
     if most < e.count {
         return most + 1;
     }
@@ -131,7 +130,7 @@ pub fn begin(t: &[u64], mode: u64, sets: &mut [u64], most: usize) -> Begun
     ensures { λ r. ⌜ Begins mode (now (t .entry)) (now (sets .entry)) most (r .count) (r .accepted) (r .later)
         (r .first) (now (sets .exit)) ⌝ }
 {
-    let a = sets::enter(sets, 0, most, sets::last(mode));
+    let a = ere_sets::enter(sets, 0, most, ere_sets::last(mode));
     if most < a.count {
         return Begun {
             count: most + 1,
@@ -140,7 +139,7 @@ pub fn begin(t: &[u64], mode: u64, sets: &mut [u64], most: usize) -> Begun
             first: 0,
         };
     }
-    let l = sets::enter(sets, a.count, most, sets::later(t, mode));
+    let l = ere_sets::enter(sets, a.count, most, ere_sets::later(t, mode));
     if most < l.count {
         return Begun {
             count: most + 1,
@@ -149,7 +148,7 @@ pub fn begin(t: &[u64], mode: u64, sets: &mut [u64], most: usize) -> Begun
             first: 0,
         };
     }
-    let f = sets::enter(sets, l.count, most, sets::first(t, mode));
+    let f = ere_sets::enter(sets, l.count, most, ere_sets::first(t, mode));
     if most < f.count {
         return Begun {
             count: most + 1,

@@ -1,7 +1,7 @@
 use mathlib.Core.Path.{subst, _∙_}
 use native.Mathlib.Omega.{arith}
-use Rattle.ere_derive.specs.Growth.{Has}
-use Rattle.ere_derive.proofs.Grown.{has-on}
+use Rattle.ere_sets.specs.Growth.{Has}
+use Rattle.ere_sets.proofs.Grown.{has-on}
 use borrow.Author.Needs.{needs}
 use Rattle.ere_derive.proofs.rows.begin.Statement.{statement}
 use Rattle.ere_derive.proofs.rows.begin.Tie as tie

@@ -3,7 +3,7 @@ use mathlib.Core.Path.{subst}
 use native.Mathlib.Omega.{arith}
 use mathlib.Core.List.{List}
 use lib.Seq.{getD-set-same}
-use Rattle.ere_derive.specs.Growth.{Has}
+use Rattle.ere_sets.specs.Growth.{Has}
 use Rattle.ere_classes.proofs.Framed.{frame-none, frame-set}
 use Rattle.ere_derive.proofs.Composed.{rows-below}
 use borrow.Author.Needs.{needs}

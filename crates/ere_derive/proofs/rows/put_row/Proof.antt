@@ -3,10 +3,10 @@ use Prim.Native.Nat.{ℕ, _+_, _-_, _≤_, _<_}
 use mathlib.Core.Path.{_≡_, refl, sym, subst, _∙_}
 use native.Mathlib.Omega.{arith}
 use lib.ListN.{length, length-set, getD}
-use Rattle.ere_derive.specs.Growth.{Grows, Leads}
+use Rattle.ere_sets.specs.Growth.{Grows, Leads}
 use Rattle.ere_classes.specs.Frames.{Frame}
 use Rattle.ere_classes.proofs.Columns.{upTo}
-use Rattle.ere_derive.proofs.Grown.{grows-none, grows-on, leads-on}
+use Rattle.ere_sets.proofs.Grown.{grows-none, grows-on, leads-on}
 use Rattle.ere_classes.proofs.Framed.{frame-none, frame-on, frame-wider, frame-set}
 use Rattle.ere_derive.proofs.Composed.{row-ended}
 use Rattle.ere_derive.proofs.rows.put_row.Statement.{statement}

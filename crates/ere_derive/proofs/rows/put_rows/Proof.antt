@@ -5,10 +5,10 @@ use native.Mathlib.Omega.{arith}
 use lib.ListN.{length}
 use mathlib.Core.List.{List}
 use Rattle.ere_automaton.specs.Layout.{rowsAt}
-use Rattle.ere_derive.specs.Growth.{Grows}
+use Rattle.ere_sets.specs.Growth.{Grows}
 use Rattle.ere_classes.specs.Frames.{Frame}
 use Rattle.ere_derive.specs.Layout.{RowAt, Rows}
-use Rattle.ere_derive.proofs.Grown.{grows-none, grows-on}
+use Rattle.ere_sets.proofs.Grown.{grows-none, grows-on}
 use Rattle.ere_classes.proofs.Framed.{frame-none, frame-on, frame-wider}
 use Rattle.ere_derive.proofs.Composed.{rows-below, rows-more}
 use Rattle.ere_derive.proofs.rows.put_rows.Statement.{statement}
