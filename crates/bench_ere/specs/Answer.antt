@@ -14,7 +14,8 @@ use Rattle.ere_table.specs.Table.{tableWords}
 use Rattle.ere_exists.specs.Any.{isMatch}
 use Rattle.ere.specs.Answer.{Serves}
 
--- The table was t₀ and is t. 1: the bytes are an ERE, and the table serves it; 0: they are none, or the table has another size, and is as it was.
+-- The table was t₀ and is t. 1: the bytes are an ERE, and the table serves it; 0: they are none, or the table has
+-- another size, and is as it was.
 pub record Prepares (ere t₀ t : List ℕ) (r : ℕ) : Type 0 where
   pub only : r ≤ 1
   pub unsized : (length t₀ ≡ tableWords → ⊥) → (r ≡ 0) × (t ≡ t₀)
@@ -26,7 +27,8 @@ abbrev pub lengthOf : Match → ℕ
 lengthOf (found s n) = n + 1
 lengthOf nowhere = 0
 
--- the answer of a search with the table t: 0 if the table has another size or the text is too long; else, if the table serves an ERE, its best match's
+-- the answer of a search with the table t: 0 if the table has another size or the text is too long; else, if the table
+-- serves an ERE, its best match's
 pub record Searches (t text : List ℕ) (r : ℕ) : Type 0 where
   pub unsized : (length t ≡ tableWords → ⊥) → r ≡ 0
   pub long : textBytes < length text → r ≡ 0

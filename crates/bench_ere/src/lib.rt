@@ -20,7 +20,8 @@ pub extern "C" fn prepared_compile(ere: &[u8], table: &mut [u64]) -> u64
     0
 }
 
-// The length of the leftmost, longest match in a text, and one more; 0 if there is none, or the text is too long.
+// Returns the length of the leftmost, longest match in a text, and one more; 0 if there is none, or the text is too
+// long.
 #[no_mangle]
 pub extern "C" fn prepared_find(table: &[u64], text: &[u8]) -> u64
     ensures { λ r. ⌜ Searches (now (table .entry)) (now (text .entry)) r ⌝ }
@@ -37,7 +38,7 @@ pub extern "C" fn prepared_find(table: &[u64], text: &[u8]) -> u64
     }
 }
 
-// 1 if there is a match in a text; 0 if there is none, or the text is too long.
+// Returns 1 if there is a match in a text; 0 if there is none, or the text is too long.
 #[no_mangle]
 pub extern "C" fn prepared_exists(table: &[u64], text: &[u8]) -> u64
     ensures { λ r. ⌜ Tells (now (table .entry)) (now (text .entry)) r ⌝ }

@@ -173,7 +173,7 @@ module _ (t d x : List ℕ) (bytes : (k : ℕ) → getD x k 0 < 256) (W : Word t
       let f = and-true (stands d x s n) (isByte d x s n) e in
       ap₂ (step t) (live s n (f .0)) (eqb-true _ _ (f .1))
 
-  -- what comes of a start where the word doesn't stand
+  -- what comes of a start where the word isn't
   abbrev Fate : ℕ → ℕ → Type 0
   Fate s n = (liveAt t x 0 s n ≡ noPlace) ⊎ ((n < suc last) × (stands d x s n ≡ true))
 

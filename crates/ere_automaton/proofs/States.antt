@@ -79,7 +79,7 @@ module _ (d x : List ℕ) where
       let w : i + j + 1 ≡ i + suc j = omega arith in
       ap₂ (λ (a b : ℕ). nextIn d (nextIn d a (getD x (i + j) 0)) (getD x b 0)) e w ∙ ap (runs d x i s) (sym z)
 
--- where the state after two bytes stands
+-- where the state after two bytes is
 pub pair-is : (d : List ℕ) (q k b c : ℕ) → k ≡ classCount d
     → getD d (classIn d b * k + classIn d c + k + 1 + q) 0 ≡ pairIn d q b c
 pair-is d q k b c e =

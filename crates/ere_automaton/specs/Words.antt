@@ -31,7 +31,7 @@ pub record Word (t d : List ℕ) : Type 0 where
   pub spells : Spells t d (wordLength d)
   pub ends : (f : Bool) → stopIn (spelled t d (wordLength d)) f ≡ true
 
--- byte q of the word stands q after p
+-- byte q of the word is q after p
 abbrev pub isByte : List ℕ → List ℕ → ℕ → ℕ → Bool
 isByte d x p q = eqb (getD x (p + q) 0) (wordByte d q)
 

@@ -99,7 +99,7 @@ fn to_end(d: &[u16], x: &[u8], i: usize) -> usize
     blocks::by_bytes(d, x, from, x.len(), s)
 }
 
-// Tells whether a match is in the text: a word by where it stands, and by the last bytes, if each match ends there and
+// Tells whether a match is in the text: a word by where it is, and by the last bytes, if each match ends there and
 // has no more.
 pub fn exists(d: &[u16], text: &[u8]) -> bool
     requires { ⌜ Ranged (now d) × (length (now text) < 2 ^ 63) ⌝ }

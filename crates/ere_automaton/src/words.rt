@@ -9,7 +9,7 @@ ghost use Rattle.ere_automaton.specs.Words.{isByte, stands, standsIn, Lo
 use crate::layout::BLOCK;
 use crate::layout::WORD;
 
-// Tells whether byte q of the word stands q after p, or its last byte, if q is more.
+// Tells whether byte q of the word is q after p, or its last byte, if q is more.
 fn same(d: &[u16], x: &[u8], p: usize, q: usize, last: usize) -> bool
     requires { ⌜ (rowsAt ≤ length (now d)) × (p + last < length (now x)) × (last < 8) ⌝ }
     ensures { λ r. ⌜ r ≡ isByte (now (d .entry)) (now (x .entry)) p (cond (ltb q last) q last) ⌝ }
@@ -18,7 +18,7 @@ fn same(d: &[u16], x: &[u8], p: usize, q: usize, last: usize) -> bool
     x[p + o] == (d[WORD + o] % 256) as u8
 }
 
-// Tells whether the word stands at p. It has at most 8 bytes: the same tests for each word.
+// Tells whether the word is at p. It has at most 8 bytes: the same tests for each word.
 fn here(d: &[u16], x: &[u8], p: usize, last: usize) -> bool
     requires { ⌜ (rowsAt ≤ length (now d)) × (p + last < length (now x)) × (last < 8) ⌝ }
     ensures { λ r. ⌜ r ≡ stands (now (d .entry)) (now (x .entry)) p (suc last) ⌝ }
@@ -30,7 +30,7 @@ fn here(d: &[u16], x: &[u8], p: usize, last: usize) -> bool
     a & b
 }
 
-// Tells whether the word stands at one of the 16 places from i on. A loop of a fixed length without an exit is compiled
+// Tells whether the word is at one of the 16 places from i on. A loop of a fixed length without an exit is compiled
 // to comparisons of 16 bytes.
 fn in_block(d: &[u16], x: &[u8], i: usize, last: usize) -> bool
     requires { ⌜ (rowsAt ≤ length (now d)) × (i + 15 + last < length (now x)) × (last < 8) ⌝ }
@@ -45,7 +45,7 @@ fn in_block(d: &[u16], x: &[u8], i: usize, last: usize) -> bool
     hit
 }
 
-// Tells whether the word stands in the text, which has at least 16 places for it; the last 16 are looked at at once.
+// Tells whether the word is in the text, which has at least 16 places for it; the last 16 are looked at at once.
 pub fn is_in(d: &[u16], x: &[u8], last: usize) -> bool
     requires { ⌜ (rowsAt ≤ length (now d)) × (15 + last < length (now x)) × (last < 8) × (length (now x) < 2 ^ 63) ⌝ }
     ensures { λ r. ⌜ Looked (now (d .entry)) (now (x .entry)) last (length (now (x .entry))) r ⌝ }

@@ -11,7 +11,7 @@ use crate::layout::CLASSES;
 use ere_table::PLACES;
 use ere_table::ROWS;
 
-// Whether no byte is taken by the place p.
+// Tells whether the place p accepts no byte.
 fn takes_none(t: &[u64], p: usize) -> bool
     requires { ⌜ (length (now t) ≡ tableWords) × (p < placeCount) ⌝ }
     ensures { λ r. ⌜ (r ≡ true → (b : ℕ) → b < 256 → takenBy (now (t .entry)) b p ≡ 0) ⌝ }
@@ -20,7 +20,7 @@ fn takes_none(t: &[u64], p: usize) -> bool
     ((t[i] == 0) & (t[i + 1] == 0)) & ((t[i + 2] == 0) & (t[i + 3] == 0))
 }
 
-// How many places there are up to the last that takes a byte.
+// Returns how many places there are up to the last that accepts a byte.
 fn used_places(t: &[u64]) -> usize
     requires { ⌜ length (now t) ≡ tableWords ⌝ }
     ensures { λ r. ⌜ Used (now (t .entry)) r ⌝ }
@@ -35,7 +35,7 @@ fn used_places(t: &[u64]) -> usize
     n
 }
 
-// 1 if the place p takes the byte b, else 0.
+// Returns 1 if the place p accepts the byte b, else 0.
 fn taken(t: &[u64], b: u8, p: usize) -> u64
     requires { ⌜ (length (now t) ≡ tableWords) × (p < placeCount) ⌝ }
     ensures { λ r. ⌜ r ≡ takenBy (now (t .entry)) b p ⌝ }
@@ -43,7 +43,7 @@ fn taken(t: &[u64], b: u8, p: usize) -> u64
     (t[ROWS + 4 * p + (b / 64) as usize] >> (b % 64)) % 2
 }
 
-// The places from `from` up to `to` that take the byte b, as digits.
+// Returns the places from `from` up to `to` that accept the byte b, as bits.
 fn column(t: &[u64], b: u8, from: usize, to: usize) -> u64
     requires { ⌜ (length (now t) ≡ tableWords) × (from ≤ to) × (to ≤ from + 64) × (to ≤ placeCount) ⌝ }
     ensures { λ r. ⌜ r ≡ columnOf (now (t .entry)) b from (to - from) ⌝ }
@@ -57,7 +57,7 @@ fn column(t: &[u64], b: u8, from: usize, to: usize) -> u64
     c
 }
 
-// The number of one of k columns whose words are x and y, or k.
+// Returns the number of the first of k columns whose words are x and y, or k.
 fn find_column(columns: &[u64], k: usize, x: u64, y: u64) -> usize
     requires { ⌜ 2 * k ≤ length (now columns) ⌝ }
     ensures { λ r. ⌜ (r ≤ k)
@@ -73,7 +73,7 @@ fn find_column(columns: &[u64], k: usize, x: u64, y: u64) -> usize
     j
 }
 
-// Of n places, how many are in the first word of a column.
+// Returns how many of n places are in the first word of a column.
 fn first_word(n: usize) -> usize
     requires { ⌜ n ≤ placeCount ⌝ }
     ensures { λ r. ⌜ (r ≡ firstWord n) × (r ≤ n) × (r ≤ 64) × (n ≤ r + 64) ⌝ }

@@ -20,7 +20,7 @@ use ere_table::PLACES;
 // A set of classes with all there are.
 const ALL: u64 = 18446744073709551615;
 
-// A set of classes with the class c, if x has anything in it.
+// Returns a set of classes with the class c, if x has anything in it.
 fn with_class(out: u64, x: [u64; 3], c: usize) -> u64
     requires { ⌜ c < 64 ⌝ }
     ensures { λ r. ⌜ (Keeps out r) × (bit r c ≡ false → x ≡ noPlace) ⌝ }
@@ -31,7 +31,7 @@ fn with_class(out: u64, x: [u64; 3], c: usize) -> u64
     out | (1 << c)
 }
 
-// The classes of the bytes that lead from the set s to something.
+// Returns the classes of the bytes that lead from the set s to something.
 pub fn led(t: &[u64], bytes: &[u8], k: usize, s: [u64; 3], start: u64) -> u64
     requires { ⌜ (length (now t) ≡ tableWords) × (k ≤ 64) × (k ≤ length (now bytes)) ⌝ }
     ensures { λ r. ⌜ Led (now (t .entry)) (now (bytes .entry)) k s start r ⌝ }
@@ -45,7 +45,7 @@ pub fn led(t: &[u64], bytes: &[u8], k: usize, s: [u64; 3], start: u64) -> u64
     out
 }
 
-// All classes that come second, for the byte b as the first; all there are where a match may end after it.
+// Returns all classes that come second, with the byte b as the first; all there are where a match may end after it.
 fn seconds_of(t: &[u64], bytes: &[u8], k: usize, b: u8, out: u64) -> u64
     requires { ⌜ (length (now t) ≡ tableWords) × (k ≤ 64) × (k ≤ length (now bytes)) ⌝ }
     ensures { λ r. ⌜ SecondsOf (now (t .entry)) (now (bytes .entry)) k
@@ -58,6 +58,7 @@ fn seconds_of(t: &[u64], bytes: &[u8], k: usize, b: u8, out: u64) -> u64
     led(t, bytes, k, s, out)
 }
 
+// Returns all classes that come second, over all first bytes.
 fn seconds(t: &[u64], bytes: &[u8], k: usize) -> u64
     requires { ⌜ (length (now t) ≡ tableWords) × (k ≤ 64) × (k ≤ length (now bytes)) ⌝ }
     ensures { λ r. ⌜ ((c : ℕ) → c < k → Follows (now (t .entry)) (now (bytes .entry)) k
@@ -72,7 +73,7 @@ fn seconds(t: &[u64], bytes: &[u8], k: usize) -> u64
     out
 }
 
-// Whether the class of the byte b is in a set.
+// Tells whether the class of the byte b is in a set.
 fn has_class(d: &[u16], set: u64, b: usize) -> bool
     requires { ⌜ (rowsAt ≤ length (now d)) × (b < 256) × (classIn (now d) b < 64) ⌝ }
     ensures { λ r. ⌜ r ≡ bit set (classIn (now (d .entry)) b) ⌝ }
@@ -80,7 +81,7 @@ fn has_class(d: &[u16], set: u64, b: usize) -> bool
     (set >> (d[CLASSES + b] as u64)) % 2 == 1
 }
 
-// The first byte whose class is in a set; 256 if there is none.
+// Returns the first byte whose class is in a set; 256 if there is none.
 pub fn lowest(d: &[u16], set: u64) -> usize
     requires { ⌜ (rowsAt ≤ length (now d)) × (Below64 (now d)) ⌝ }
     ensures { λ r. ⌜ (r ≤ 256) × ((b : ℕ) → b < r → bit set (classIn (now (d .entry)) b) ≡ false) ⌝ }
@@ -95,7 +96,7 @@ pub fn lowest(d: &[u16], set: u64) -> usize
     b
 }
 
-// The byte after the last whose class is in a set; 0 if there is none.
+// Returns the byte after the last whose class is in a set; 0 if there is none.
 pub fn highest(d: &[u16], set: u64) -> usize
     requires { ⌜ (rowsAt ≤ length (now d)) × (Below64 (now d)) ⌝ }
     ensures { λ r. ⌜ (r ≤ 256) × ((b : ℕ) → r ≤ b → b < 256 → bit set (classIn (now (d .entry)) b) ≡ false) ⌝ }

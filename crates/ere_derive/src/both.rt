@@ -10,7 +10,7 @@ ghost use Rattle.ere_derive.specs.Derived.{DerivedBoth};
 use crate::build;
 use crate::layout;
 
-// Whether all that may start elsewhere may start at the text's start.
+// Tells whether all that may start elsewhere may start at the text's start.
 fn is_nested(t: &[u64]) -> bool
     requires { ⌜ length (now t) ≡ tableWords ⌝ }
     ensures { λ r. ⌜ (r ≡ true → Nested (now (t .entry))) ⌝ }

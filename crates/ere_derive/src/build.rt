@@ -13,7 +13,7 @@ use crate::layout::ROWS;
 use crate::pairs;
 use crate::rows;
 
-// How many states there is room for.
+// Returns how many states there is room for.
 fn states_in(length: usize, stride: usize) -> usize
     requires { ⌜ (rowsAt ≤ «length») × (0 < stride) ⌝ }
     ensures { λ r. ⌜ (r ≤ 96) × (rowsAt + stride * r ≤ «length») ⌝ }
@@ -38,7 +38,7 @@ fn put_head(d: &mut [u16], k: usize, first: usize, later: usize, accepted: usize
     d[layout::PAIRS] = pairs;
 }
 
-// The words of a row, with pairs (1) or without (0).
+// Returns the words of a row, with pairs (1) or without (0).
 fn stride_of(k: usize, paired: u16) -> usize
     requires { ⌜ k ≤ 64 ⌝ }
     ensures { λ r. ⌜ r ≡ strideBy k paired ⌝ }

@@ -33,7 +33,7 @@ fn put_entry(
     e.count
 }
 
-// The accept bits of the set s.
+// Returns the accept bits of the set s.
 fn end_mark(s: [u64; 3]) -> u16
     ensures { λ r. ⌜ r ≡ getD s 2 0 % 4 ⌝ }
 {

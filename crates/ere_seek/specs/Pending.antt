@@ -36,7 +36,7 @@ pub record Part (d x : List ℕ) (start end q later : ℕ) : Type 0 where
   pub inside : end ≤ length x
   pub is-later : later ≡ laterState d
 
--- no match starts between s and r, whatever stands before x
+-- no match starts between s and r, whatever is before x
 pub record Cleared (d x : List ℕ) (s : ℕ) (first : Bool) (r : ℕ) : Type 0 where
   pub on : s ≤ r
   pub inside : r ≤ length x + 1

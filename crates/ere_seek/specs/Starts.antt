@@ -10,7 +10,7 @@ use Rattle.ere_automaton.specs.Layout.{firstState, laterState, acceptedState, s
 use Rattle.ere_automaton.specs.Automaton.{Hull}
 use Rattle.ere_automaton.specs.Follows.{FollowsOne}
 
--- no match of at least a byte starts at k in the text of which x is what stands from place `at` on
+-- no match of at least a byte starts at k in the text whose bytes from place `at` on are x
 abbrev pub Bare : List ℕ → List ℕ → ℕ → ℕ → Type 0
 Bare t x at k = longestOf t x at 1 k ≡ 0
 
@@ -36,7 +36,7 @@ pub record Passed (d x : List ℕ) (from r : ℕ) : Type 0 where
   pub inside : r ≤ length x
   pub none : (k : ℕ) → from ≤ k → k < r → nextIn d (laterState d) (getD x k 0) ≡ acceptedState d
 
--- no match starts between `from` and r, whatever stands before x
+-- no match starts between `from` and r, whatever is before x
 pub record Candidate (d x : List ℕ) (from : ℕ) (first : Bool) (r : ℕ) : Type 0 where
   pub on : from ≤ r
   pub inside : r ≤ length x

@@ -1,2 +1,3 @@
--- Laws. Sets of places of an ERE as the states of its automata: the step on a byte, and a table in which each set is once.
+-- Laws. Sets of places of an ERE as the states of its automata: the step on a byte, and a table in which each set is
+-- once.
 pub mod Grown

@@ -17,7 +17,7 @@ pub const ONE: u64 = 1;
 
 pub const PENDING: u64 = 2;
 
-// The set u; but a set in which a match has ended is the same whatever else is in it.
+// Returns the set u; but a set in which a match has ended is the same whatever else is in it.
 fn collapsed(u: [u64; 3]) -> [u64; 3]
     ensures { λ r. ⌜ r ≡ collapsedOf u ⌝ }
 {
@@ -27,7 +27,7 @@ fn collapsed(u: [u64; 3]) -> [u64; 3]
     u
 }
 
-// What may come next after the byte b, with a match that starts after it.
+// Returns what may come next after the byte b, with a match that starts after it.
 fn after(t: &[u64], s: [u64; 3], b: u8) -> [u64; 3]
     requires { ⌜ length (now t) ≡ tableWords ⌝ }
     ensures { λ r. ⌜ r ≡ afterOf (now (t .entry)) s b ⌝ }
@@ -40,7 +40,7 @@ fn after(t: &[u64], s: [u64; 3], b: u8) -> [u64; 3]
     collapsed(y)
 }
 
-// What may come next after the byte b of the matches that start before it or at it, of at least a byte each.
+// Returns what may come next after the byte b of the matches that start before it or at it, of at least a byte each.
 fn pending_after(t: &[u64], s: [u64; 3], b: u8) -> [u64; 3]
     requires { ⌜ length (now t) ≡ tableWords ⌝ }
     ensures { λ r. ⌜ r ≡ pendingAfter (now (t .entry)) s b ⌝ }
@@ -52,7 +52,7 @@ fn pending_after(t: &[u64], s: [u64; 3], b: u8) -> [u64; 3]
     collapsed(ere_search::step(t, x, b))
 }
 
-// What may come next after the byte b, by the mode.
+// Returns what may come next after the byte b, by the mode.
 pub fn change(t: &[u64], mode: u64, s: [u64; 3], b: u8) -> [u64; 3]
     requires { ⌜ length (now t) ≡ tableWords ⌝ }
     ensures { λ r. ⌜ r ≡ changeBy mode (now (t .entry)) s b ⌝ }
@@ -66,7 +66,7 @@ pub fn change(t: &[u64], mode: u64, s: [u64; 3], b: u8) -> [u64; 3]
     pending_after(t, s, b)
 }
 
-// The set at the text's start.
+// Returns the set at the text's start.
 pub fn first(t: &[u64], mode: u64) -> [u64; 3]
     requires { ⌜ length (now t) ≡ tableWords ⌝ }
     ensures { λ r. ⌜ r ≡ firstBy mode (now (t .entry)) ⌝ }
@@ -81,7 +81,7 @@ pub fn first(t: &[u64], mode: u64) -> [u64; 3]
     [s[0], s[1], 0]
 }
 
-// The set elsewhere, where nothing is pending.
+// Returns the set elsewhere, where nothing is pending.
 pub fn later(t: &[u64], mode: u64) -> [u64; 3]
     requires { ⌜ length (now t) ≡ tableWords ⌝ }
     ensures { λ r. ⌜ r ≡ laterBy mode (now (t .entry)) ⌝ }
@@ -96,7 +96,7 @@ pub fn later(t: &[u64], mode: u64) -> [u64; 3]
     ere_table::NOTHING
 }
 
-// The set that no byte changes.
+// Returns the set that no byte changes.
 pub fn last(mode: u64) -> [u64; 3]
     ensures { λ r. ⌜ r ≡ lastBy mode ⌝ }
 {
@@ -106,7 +106,7 @@ pub fn last(mode: u64) -> [u64; 3]
     ere_table::ACCEPT
 }
 
-// Whether a match that may end before the text's end may end at it.
+// Tells whether a match that may end before the text's end may end at it.
 fn is_fair(s: [u64; 3]) -> bool
     ensures { λ r. ⌜ (r ≡ true → Fair s) ⌝ }
 {
@@ -116,6 +116,7 @@ fn is_fair(s: [u64; 3]) -> bool
     true
 }
 
+// Tells whether set i of some is s.
 fn is_at(sets: &[u64], i: usize, s: [u64; 3]) -> bool
     requires { ⌜ 3 * i + 3 ≤ length (now sets) ⌝ }
     ensures { λ r. ⌜ (r ≡ true → row (now (sets .entry)) i ≡ s) ⌝ }
@@ -123,7 +124,7 @@ fn is_at(sets: &[u64], i: usize, s: [u64; 3]) -> bool
     (sets[3 * i] == s[0]) & ((sets[3 * i + 1] == s[1]) & (sets[3 * i + 2] == s[2]))
 }
 
-// The number of one of n sets that is s, or n.
+// Returns the number of the first of n sets that is s, or n.
 fn find(sets: &[u64], n: usize, s: [u64; 3]) -> usize
     requires { ⌜ 3 * n ≤ length (now sets) ⌝ }
     ensures { λ r. ⌜ (r ≤ n) × (r < n → row (now (sets .entry)) r ≡ s) ⌝ }
@@ -138,6 +139,7 @@ fn find(sets: &[u64], n: usize, s: [u64; 3]) -> usize
     i
 }
 
+// Stores s as set i.
 fn put(sets: &mut [u64], i: usize, s: [u64; 3])
     requires { ⌜ 3 * i + 3 ≤ length (now sets) ⌝ }
     ensures { λ _. ⌜ Put (now (sets .entry)) i s (now (sets .exit)) ⌝ }

@@ -203,9 +203,9 @@ fn last_word() -> usize {
     if n == 0 { 0 } else { n - 1 }
 }
 
-// Does what the command line asks for, and returns the exit status. `words` takes the command line, `text` a filter file, and has more
-// bytes than a filter may have, `image` an image, `content` its content, `lines` the input, `output` what is printed; `work` is the
-// working room of a run.
+// Does what the command line asks for, and returns the exit status. `words` takes the command line, `text` a filter
+// file, and has more bytes than a filter may have, `image` an image, `content` its content, `lines` the input, `output`
+// what is printed; `work` is the working room of a run.
 pub fn tool(
     words: &mut [u8],
     text: &mut [u8],

@@ -3,6 +3,7 @@
 // Payload: whether it is a budget, its number, 8 bytes, and the word.
 use front_options::Budget;
 
+// Tells whether the case in a payload passes.
 pub fn passes(p: &[u8]) -> bool {
     if p.len() < 9 {
         return false;

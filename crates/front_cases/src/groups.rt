@@ -6,7 +6,7 @@ pub enum Group {
     Budgets,
 }
 
-// Whether the case in a frame's payload passes.
+// Tells whether the case in a frame's payload passes.
 pub fn passes(group: Group, p: &[u8]) -> bool {
     match group {
         Group::Refusals => crate::refusals::passes(p),

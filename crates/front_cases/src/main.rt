@@ -1,5 +1,6 @@
-// Runs the cases of the data files, which tests/program_cases.py makes, through the parts of the program that read and write no files, and
-// writes a line for each group: how many of how many passed. Of the cases of a file `wrong_..` none may pass.
+// Runs the cases of the data files, which tests/program_cases.py makes, through the parts of the program that read and
+// write no files, and writes a line for each group: how many of how many passed. Of the cases of a file `wrong_..` none
+// may pass.
 mod budgets;
 mod groups;
 mod options;

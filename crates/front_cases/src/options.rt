@@ -1,10 +1,12 @@
 // The words of a command line.
 //
-// Payload: the stage, the action's number, the number of the first operand or of the refused word, 2 bytes, the numbers of the words of
-// the ten options, 2 bytes each, how many words there are, 2 bytes, and the words, each with a NUL behind it.
+// Payload: the stage, the action's number, the number of the first operand or of the refused word, 2 bytes, the numbers
+// of the words of the ten options, 2 bytes each, how many words there are, 2 bytes, and the words, each with a NUL
+// after it.
 use front_options::Action;
 use front_options::Options;
 
+// Returns the payload's number of an action.
 fn number_of(a: Action) -> u8 {
     match a {
         Action::Usage => 0,
@@ -20,7 +22,7 @@ fn number_of(a: Action) -> u8 {
     }
 }
 
-// Whether the words of the options are as the payload says.
+// Tells whether the words of the options are as the payload says.
 fn given(p: &[u8], words: &[usize]) -> bool {
     let mut i: usize = 0;
     while i < words.len() {
@@ -35,6 +37,7 @@ fn given(p: &[u8], words: &[usize]) -> bool {
     true
 }
 
+// Tells whether options and action are as the payload says.
 fn answers(p: &[u8], o: Options) -> bool {
     let words = o.given;
     if vectors_frames::wide(vectors_frames::byte(p, 0)) != o.stage as u64 {
@@ -51,6 +54,7 @@ fn answers(p: &[u8], o: Options) -> bool {
     given(p, &words)
 }
 
+// Tells whether the case in a payload passes.
 pub fn passes(p: &[u8]) -> bool {
     if p.len() < 26 {
         return false;

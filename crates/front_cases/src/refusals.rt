@@ -2,7 +2,7 @@
 //
 // Payload: the place, 2 bytes, the outcome, the lengths of name and text, 2 bytes each, name, text and the message.
 
-// Whether the message is as expected.
+// Tells whether the message is as expected.
 fn says(name: &[u8], text: &[u8], place: usize, outcome: u64, expected: &[u8]) -> bool {
     if text.len() < place {
         return false;
@@ -21,6 +21,7 @@ fn says(name: &[u8], text: &[u8], place: usize, outcome: u64, expected: &[u8]) -
     check::same(&room[0..n], expected)
 }
 
+// Tells whether the case in a payload passes.
 pub fn passes(p: &[u8]) -> bool {
     if p.len() < 7 {
         return false;

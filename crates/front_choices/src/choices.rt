@@ -38,8 +38,8 @@ fn after(k: usize) -> usize
     if k < usize::MAX { k + 1 } else { 0 }
 }
 
-// Returns the number of the word that names the first file: the one after the filter if the first operand is a filter, and
-// the first operand otherwise.
+// Returns the number of the word that names the first file: the one after the filter if the first operand is a filter,
+// and the first operand otherwise.
 pub fn first_file(a: Action, operand: usize) -> usize
     ensures { λ r. ⌜ r ≡ firstFile a operand ⌝ }
 {

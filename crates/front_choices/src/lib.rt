@@ -1,5 +1,5 @@
-// What follows from the words of a command line once its action is chosen: words by number, the budget, the first file, and the exit
-// status of an outcome.
+// What follows from the words of a command line once its action is chosen: words by number, the budget, the first file,
+// and the exit status of an outcome.
 mod choices;
 mod statuses;
 

@@ -17,7 +17,7 @@ use Rattle.front_files.specs.declared.writing.WriteStep.the-variants.{Mo
 pub front-stays : (from at : ℕ) (x y z : List ℕ) → from ≤ at → take at x ≡ take at y → take from y ≡ take from z → take from x ≡ take from z
 front-stays from at x y z h e f = sym (take-take from at x h) ∙ ap (take from) e ∙ take-take from at y h ∙ f
 
--- a part that is lent from a place on leaves what stands before it
+-- a part that is lent from a place on leaves what is before it
 pub front-kept : (l : List ℕ) (a k : ℕ) (b : List ℕ) → a ≤ length l → take a (putMid a k l b) ≡ take a l
 front-kept l a k b h = take-at (take a l) (b ++ postOf a k l) a (length-take-le a l h)
 

@@ -1,4 +1,4 @@
-// A file's bytes, to its end, behind those that a room already has.
+// A file's bytes, to its end, after those that a room already has.
 ghost use mathlib.Core.Path.{_≡_};
 ghost use Prim.Native.Nat.{_+_, _≤_};
 ghost use lib.ListN.{length, take};
@@ -18,7 +18,7 @@ enum ReadStep {
     Stop,
 }
 
-// Reads once, behind the first `at` bytes. A call that a signal interrupts is made again.
+// Reads once, after the first `at` bytes. A call that a signal interrupts is made again.
 fn read_once(fd: i32, room: &mut [u8], at: usize) -> ReadStep
     requires { ⌜ at ≤ length (now room) ⌝ }
     ensures { λ r. ⌜ ReadFrom at (length (now (room .entry))) r × (take at (now (room .exit)) ≡ take at (now (room .entry))) ⌝ }
@@ -38,7 +38,8 @@ fn read_once(fd: i32, room: &mut [u8], at: usize) -> ReadStep
     ReadStep::More(n)
 }
 
-// Reads until the file ends. A room that is full is not enough: one byte more than the file has is asked for, so that the end is seen.
+// Reads until the file ends. A room that is full is not enough: one byte more than the file has is asked for, so that
+// the end is seen.
 pub fn fill(fd: i32, room: &mut [u8], from: usize) -> Filled
     ensures { λ r. ⌜ FilledTo from (length (now (room .entry))) r × (take from (now (room .exit)) ≡ take from (now (room .entry))) ⌝ }
 {

@@ -4,7 +4,7 @@ ghost use lib.ListN.{length};
 ghost use Rattle.front_files.specs.Filling.{FilledTo};
 use crate::reading::Filled;
 
-// Reads word i of the command line behind the first `at` bytes, with a NUL behind it.
+// Reads word i of the command line to after the first `at` bytes, with a NUL after it.
 fn read_word(room: &mut [u8], at: usize, i: usize) -> Filled
     requires { ⌜ at ≤ length (now room) ⌝ }
     ensures { λ r. ⌜ FilledTo at (length (now (room .entry))) r ⌝ }
@@ -21,7 +21,7 @@ fn read_word(room: &mut [u8], at: usize, i: usize) -> Filled
     Filled::To(end + 1)
 }
 
-// Reads the words of the command line behind the program's own, each with a NUL behind it.
+// Reads the words of the command line after the program's own, each with a NUL after it.
 pub fn read_words(room: &mut [u8]) -> Filled
     ensures { λ r. ⌜ FilledTo 0 (length (now (room .entry))) r ⌝ }
 {

@@ -9,8 +9,8 @@ enum WriteStep {
     Stop,
 }
 
-// Whether a call that failed is to be made again: a signal interrupted it, or a descriptor that does not block takes nothing yet. In the
-// second case another process is let run first: there is no call that waits.
+// Tells whether a call that failed is to be made again: a signal interrupted it, or a descriptor that does not block
+// takes nothing yet. In the second case another process is let run first: there is no call that waits.
 fn again() -> bool {
     let error = os::errno();
     if error == libc::EINTR {

@@ -1,4 +1,4 @@
--- The columns of bytes as they are shown, and of what stands under them.
+-- The columns of bytes as they are shown, and of what is under them.
 use mathlib.Core.Path.{_≡_, refl, ap₂, _∙_}
 use mathlib.Core.Bool.{Bool, true, false, cond}
 use mathlib.Core.List.{List, [], _∷_, _++_}
@@ -59,6 +59,6 @@ unfolding spelled columnsOf
 spelled-columns spell h [] = refl
 spelled-columns spell h (b ∷ l) = omega (arith, h b, spelled-columns spell h l, length-append (spell b) (spelled spell l))
 
--- The caret stands under its byte: before it stand as many columns as are shown before the byte.
+-- The caret is under its byte: before it stand as many columns as are shown before the byte.
 pub caret-under : (l : List ℕ) → length (blanks l) ≡ length (shown l)
 caret-under l = omega (arith, spelled-columns blankByte blank-width l, spelled-columns shownByte shown-width l)

@@ -9,7 +9,7 @@ use Rattle.front_words.specs.Walk.{SpanOf}
 use Rattle.front_words.specs.declared.words.Span.{Span}
 use Rattle.front_messages.specs.Messages.{meanings}
 
--- words, each with a NUL behind it
+-- words, each with a NUL after it
 abbrev block : List (List ℕ) → List ℕ
 block [] = []
 block (w ∷ ws) = w ++ (0 ∷ block ws)

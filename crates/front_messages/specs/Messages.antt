@@ -33,7 +33,8 @@ placeText name line column =
     says "flowawk: "
     ++ (name ++ (says ":" ++ (decimalDigits line ++ (says ":" ++ (decimalDigits column ++ says ": ")))))
 
--- the line of a place, indented, and under it the caret; the bytes before the caret have the columns of those above them
+-- the line of a place, indented, and under it the caret; the bytes before the caret have the columns of those above
+-- them
 unfoldable pub caretOf : List ℕ → ℕ → List ℕ
 caretOf text place =
     says "  "

@@ -6,7 +6,7 @@ ghost use Rattle.front_messages.specs.Puts.{Puts};
 ghost use Rattle.front_messages.specs.Messages.{caretOf};
 use crate::put;
 
-// Writes a byte as it is shown, from byte k on; the index behind it.
+// Writes a byte as it is shown, from byte k on; returns the index after it.
 fn put_shown_byte(room: &mut [u8], k: usize, b: u8) -> usize
     requires { ⌜ k + 4 < 2 ^ 64 ⌝ }
     ensures { λ r. ⌜ Puts (now (room .entry)) k (shownByte b) r (now (room .exit)) ⌝ }
@@ -17,7 +17,7 @@ fn put_shown_byte(room: &mut [u8], k: usize, b: u8) -> usize
     put::put_text(room, k, &[b'\\', 48 + b / 64, 48 + b / 8 % 8, 48 + b % 8])
 }
 
-// Writes what stands under a byte before the caret, from byte k on; the index behind it.
+// Writes what is under a byte before the caret, from byte k on; returns the index after it.
 fn put_blank_byte(room: &mut [u8], k: usize, b: u8) -> usize
     requires { ⌜ k + 4 < 2 ^ 64 ⌝ }
     ensures { λ r. ⌜ Puts (now (room .entry)) k (blankByte b) r (now (room .exit)) ⌝ }
@@ -31,7 +31,7 @@ fn put_blank_byte(room: &mut [u8], k: usize, b: u8) -> usize
     put::put_text(room, k, b"    ")
 }
 
-// Writes bytes as they are shown, from byte k on; the index behind them.
+// Writes bytes as they are shown, from byte k on; returns the index after them.
 fn put_shown(room: &mut [u8], k: usize, s: &[u8]) -> usize
     requires { ⌜ k + (4 * length (now s) + 4) < 2 ^ 64 ⌝ }
     ensures { λ r. ⌜ Puts (now (room .entry)) k (shown (now (s .entry))) r (now (room .exit))
@@ -46,7 +46,7 @@ fn put_shown(room: &mut [u8], k: usize, s: &[u8]) -> usize
     n
 }
 
-// Writes what stands under bytes before the caret, from byte k on; the index behind it.
+// Writes what is under bytes before the caret, from byte k on; returns the index after it.
 fn put_blanks(room: &mut [u8], k: usize, s: &[u8]) -> usize
     requires { ⌜ k + (4 * length (now s) + 4) < 2 ^ 64 ⌝ }
     ensures { λ r. ⌜ Puts (now (room .entry)) k (blanks (now (s .entry))) r (now (room .exit))
@@ -61,7 +61,7 @@ fn put_blanks(room: &mut [u8], k: usize, s: &[u8]) -> usize
     n
 }
 
-// Writes the line of a place, as much of it as is shown, and a caret under the place; the index behind it.
+// Writes the line of a place, as much of it as is shown, and a caret under the place; returns the index after it.
 pub fn put_caret(room: &mut [u8], k: usize, text: &[u8], place: usize) -> usize
     requires { ⌜ (k < 2 ^ 32) × (place ≤ length (now text)) × (length (now text) < 2 ^ 32) ⌝ }
     ensures { λ r. ⌜ Puts (now (room .entry)) k (caretOf (now (text .entry)) place) r (now (room .exit)) ⌝ }

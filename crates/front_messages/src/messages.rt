@@ -6,7 +6,7 @@ ghost use Rattle.front_messages.specs.Messages.{outcomeText, placeText, 
 use crate::lines;
 use crate::put;
 
-// Writes an outcome's meaning and number from byte k on; the index behind them.
+// Writes an outcome's meaning and number from byte k on; returns the index after them.
 fn put_outcome(room: &mut [u8], k: usize, outcome: u64) -> usize
     requires { ⌜ k < 2 ^ 48 ⌝ }
     ensures { λ r. ⌜ Puts (now (room .entry)) k (outcomeText outcome) r (now (room .exit)) × (r ≤ k + 1000) ⌝ }
@@ -26,7 +26,7 @@ fn put_outcome(room: &mut [u8], k: usize, outcome: u64) -> usize
     put::put_text(room, number, b")")
 }
 
-// Writes a place's name, line and column from byte k on; the index behind them.
+// Writes a place's name, line and column from byte k on; returns the index after them.
 fn put_place(room: &mut [u8], k: usize, name: &[u8], line: usize, column: usize) -> usize
     requires { ⌜ (k < 2 ^ 32) × (length (now name) < 2 ^ 32) ⌝ }
     ensures { λ r. ⌜ Puts (now (room .entry)) k (placeText (now (name .entry)) line column) r (now (room .exit))
@@ -41,7 +41,7 @@ fn put_place(room: &mut [u8], k: usize, name: &[u8], line: usize, column: usize)
     put::put_text(room, f, b": ")
 }
 
-// Writes a run's counts from byte k on; the index behind them.
+// Writes a run's counts from byte k on; returns the index after them.
 fn put_counts(room: &mut [u8], k: usize, records: u64, steps: u64, bytes: u64) -> usize
     requires { ⌜ k < 2 ^ 48 ⌝ }
     ensures { λ r. ⌜ Puts (now (room .entry)) k (countsText records steps bytes) r (now (room .exit)) ⌝ }
@@ -55,7 +55,8 @@ fn put_counts(room: &mut [u8], k: usize, records: u64, steps: u64, bytes: u64) -
     put::put_text(room, f, b" bytes written\n")
 }
 
-// Writes why a filter was refused: its name, the place, the outcome, the line and a caret. Answers the message's length.
+// Writes why a filter was refused: its name, the place, the outcome, the line and a caret. Answers the message's
+// length.
 pub fn put_refusal(room: &mut [u8], name: &[u8], text: &[u8], place: usize, outcome: u64) -> usize
     requires { ⌜ (length (now name) < 2 ^ 16) × (place ≤ length (now text)) × (length (now text) < 2 ^ 32) ⌝ }
     ensures { λ r. ⌜ Puts (now (room .entry)) 0 (refusalText (now (name .entry)) (now (text .entry)) place outcome) r

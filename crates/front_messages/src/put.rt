@@ -4,7 +4,7 @@ ghost use lib.ListN.{length};
 ghost use Rattle.numeral.specs.Decimal.{decimalDigits};
 ghost use Rattle.front_messages.specs.Puts.{Puts};
 
-// Writes a text from byte k on; the index behind it.
+// Writes a text from byte k on; returns the index after it.
 pub fn put_text(room: &mut [u8], k: usize, text: &[u8]) -> usize
     requires { ⌜ k + length (now text) < 2 ^ 64 ⌝ }
     ensures { λ r. ⌜ Puts (now (room .entry)) k (now (text .entry)) r (now (room .exit)) ⌝ }
@@ -17,7 +17,7 @@ pub fn put_text(room: &mut [u8], k: usize, text: &[u8]) -> usize
     k + i
 }
 
-// Writes a number's decimal digits from byte k on; the index behind them.
+// Writes a number's decimal digits from byte k on; returns the index after them.
 pub fn put_decimal(room: &mut [u8], k: usize, n: u64) -> usize
     requires { ⌜ k + 20 < 2 ^ 64 ⌝ }
     ensures { λ r. ⌜ Puts (now (room .entry)) k (decimalDigits n) r (now (room .exit)) × (r ≤ k + 20) ⌝ }

@@ -97,7 +97,7 @@ digit-end l i v h e = sym (e ∙ ap (λ (x : List ℕ). digitsFrom x v) (drop-of
 
 -- ---- the kind of a word
 
--- words, each with a NUL behind it
+-- words, each with a NUL after it
 abbrev block : List (List ℕ) → List ℕ
 block [] = []
 block (w ∷ ws) = w ++ (0 ∷ block ws)

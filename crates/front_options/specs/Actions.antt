@@ -23,7 +23,7 @@ givenCount (n ∷ l) = one n + givenCount l
 abbrev pub imageAction : ℕ → ℕ → Action → Action
 imageAction count operand asked = cond (eqb count 1) (cond (eqb operand 0) asked Usage) Usage
 
--- -o stands with -f and no operand, or with one operand, which is then the last word
+-- -o is with -f and no operand, or with one operand, which is then the last word
 abbrev pub writeAction : ℕ → ℕ → ℕ → ℕ → Action
 writeAction count operand words filter =
     cond (eqb filter 0)

@@ -45,7 +45,7 @@ withOption o k option =
     (cond (ltb option WITH_ARGUMENT) (taken o k option) (options option (o .operand) (o .given)))
     (refused o k)
 
--- word k, of a kind, where an option may stand
+-- word k, of a kind, where an option may be
 unfoldable pub optionIn : Options → ℕ → ℕ → Options
 optionIn o k kind =
     cond (eqb kind OPERAND) (withOperand o k)
@@ -59,7 +59,7 @@ stepOf o k word =
     (cond (eqb (o .stage) READY) (optionIn o k (kindOf word))
     (cond (eqb (o .stage) OPERANDS) (withOperand o k) o))
 
--- the words behind k others
+-- the words after k others
 unfoldable pub readFrom : Options → ℕ → List (List ℕ) → Options
 readFrom o k [] = o
 readFrom o k (w ∷ ws) = readFrom (stepOf o (k + 1) w) (k + 1) ws

@@ -39,7 +39,7 @@ pub const CHECK: usize = 8;
 
 pub const CONTENT: usize = 9;
 
-// Gives 1 for an option that is given, and 0 for one that is not.
+// Returns 1 for an option that is given, and 0 for one that is not.
 fn is_given(n: usize) -> usize
     ensures { λ r. ⌜ (r ≡ one n) × (r ≤ 1) ⌝ }
 {
@@ -59,7 +59,7 @@ fn given_count(given: &[usize]) -> usize
     n
 }
 
-// Gives what an option for images asks: nothing else may be given.
+// Returns what an option for images asks: nothing else may be given.
 fn image_action(count: usize, operand: usize, asked: Action) -> Action
     ensures { λ r. ⌜ r ≡ imageAction count operand asked ⌝ }
 {
@@ -72,7 +72,7 @@ fn image_action(count: usize, operand: usize, asked: Action) -> Action
     asked
 }
 
-// Gives what -o asks: a filter file and no operand, or one operand.
+// Returns what -o asks: a filter file and no operand, or one operand.
 fn write_action(count: usize, operand: usize, words: usize, filter: usize) -> Action
     ensures { λ r. ⌜ r ≡ writeAction count operand words filter ⌝ }
 {
@@ -97,7 +97,7 @@ fn write_action(count: usize, operand: usize, words: usize, filter: usize) -> Ac
     Action::TranslateText
 }
 
-// Gives what is run: an image, a filter file, or the first operand.
+// Returns what is run: an image, a filter file, or the first operand.
 fn run_action(operand: usize, filter: usize, image: usize) -> Action
     ensures { λ r. ⌜ r ≡ runAction operand filter image ⌝ }
 {
@@ -116,7 +116,7 @@ fn run_action(operand: usize, filter: usize, image: usize) -> Action
     Action::RunText
 }
 
-// Gives what options ask for that were read from so many words.
+// Returns what options ask for that were read from this number of words.
 pub fn asked_action(o: Options, words: usize) -> Action
     ensures { λ r. ⌜ r ≡ actionOf o words ⌝ }
 {

@@ -8,7 +8,7 @@ pub enum Budget {
     Bad,
 }
 
-// Gives a number with one digit more, if the byte is a digit and the number fits 64 bits.
+// Returns a number with one digit more, if the byte is a digit and the number fits 64 bits.
 fn with_digit(value: u64, b: u8) -> Budget
     ensures { λ r. ⌜ r ≡ withDigit value b ⌝ }
 {
@@ -25,7 +25,7 @@ fn with_digit(value: u64, b: u8) -> Budget
     Budget::Steps(value * 10 + d)
 }
 
-// Gives the number that a word spells: digits alone, at least one, up to 2^64 - 1.
+// Returns the number that a word spells: digits alone, at least one, up to 2^64 - 1.
 pub fn read_budget(word: &[u8]) -> Budget
     ensures { λ r. ⌜ r ≡ budgetOf (now (word .entry)) ⌝ }
 {

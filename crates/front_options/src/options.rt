@@ -6,16 +6,18 @@ ghost use Rattle.front_words.specs.Words.{wordsOf};
 ghost use Rattle.front_options.specs.Kinds.{numberIn, kindOf};
 ghost use Rattle.front_options.specs.Reading.{started, taken, refused, withOperand, withOption, optionIn, stepOf, optionsOf};
 
-// What was read so far. `stage` is the number of the option whose argument is the next word, or one of the stages below. `operand` is
-// the number of the first word that is no option, or of the word that is refused. Entry o of `given` is the number of the argument of
-// option o, or of the option itself where it takes none. Words are numbered from 1; 0 is none.
+// What was read so far. `stage` is the number of the option whose argument is the next word, or one of the stages
+// below. `operand` is the number of the first word that is no option, or of the word that is refused. Entry o of
+// `given` is the number of the argument of option o, or of the option itself where it takes none. Words are numbered
+// from 1; 0 is none.
 pub struct Options {
     pub stage: usize,
     pub operand: usize,
     pub given: [usize; 10],
 }
 
-// The stages beside those of an option that waits for its argument: an option may come, operands follow, a word is refused.
+// The stages beside those of an option that waits for its argument: an option may come, operands follow, a word is
+// refused.
 pub const READY: usize = 10;
 
 pub const OPERANDS: usize = 11;
@@ -30,7 +32,7 @@ const UNKNOWN: usize = 11;
 // The first option that takes an argument.
 const WITH_ARGUMENT: usize = 4;
 
-// Gives the number of the first word of a block that is equal to a word, or how many there are where none is.
+// Returns the number of the first word of a block that is equal to a word, or how many there are where none is.
 fn number_in(block: &[u8], word: &[u8]) -> usize
     ensures { λ r. ⌜ r ≡ numberIn (wordsOf (now (block .entry))) (now (word .entry)) ⌝ }
 {
@@ -48,7 +50,7 @@ fn number_in(block: &[u8], word: &[u8]) -> usize
     k
 }
 
-// Gives the kind of a word: the number of the option that it is, or that it is an operand, or unknown.
+// Returns the kind of a word: the number of the option that it is, or that it is an operand, or unknown.
 fn kind_of(word: &[u8]) -> usize
     ensures { λ r. ⌜ (r ≡ kindOf (now (word .entry))) × (r < 12) ⌝ }
 {
@@ -68,7 +70,7 @@ fn kind_of(word: &[u8]) -> usize
     OPERAND
 }
 
-// Gives the options of no words.
+// Returns the options of no words.
 fn start() -> Options
     ensures { λ r. ⌜ r ≡ started ⌝ }
 {
@@ -139,7 +141,7 @@ fn known(o: Options, k: usize, option: usize) -> Options
     }
 }
 
-// Takes word k of a kind where an option may stand.
+// Takes word k of a kind where an option may be.
 fn option_in(o: Options, k: usize, kind: usize) -> Options
     requires { ⌜ kind < 12 ⌝ }
     ensures { λ r. ⌜ r ≡ optionIn o k kind ⌝ }
@@ -178,7 +180,7 @@ fn step(o: Options, k: usize, word: &[u8]) -> Options
     o
 }
 
-// Gives the options of the words of a block, the first of which is word 1.
+// Returns the options of the words of a block, the first of which is word 1.
 pub fn read_options(block: &[u8]) -> Options
     ensures { λ r. ⌜ r ≡ optionsOf (wordsOf (now (block .entry))) ⌝ }
 {

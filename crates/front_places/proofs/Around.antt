@@ -40,7 +40,7 @@ column-is text place r e = ap (λ (n : ℕ). 1 + n) e ∙ ap (λ (l : List ℕ).
 pub since-few : (text : List ℕ) (place r : ℕ) → r ≤ length (take (place - 0) (drop 0 text)) → r ≤ place
 since-few text place r h = omega (arith, h, length-take (place - 0) (drop 0 text))
 
--- the bytes up to the next newline are some of those behind the place
+-- the bytes up to the next newline are some of those after the place
 pub left-few : (text : List ℕ) (place r : ℕ) → place ≤ length text
     → r ≡ firstByte NEWLINE (take (length text - place) (drop place text)) → place + r ≤ length text
 left-few text place r h e =

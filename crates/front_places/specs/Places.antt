@@ -15,7 +15,7 @@ unfoldable pub newlines : List ℕ → ℕ
 newlines [] = 0
 newlines (b ∷ t) = cond (eqb b NEWLINE) 1 0 + newlines t
 
--- how many bytes stand behind the last newline; where there is none, n more than the text has
+-- how many bytes come after the last newline; where there is none, n more than the text has
 unfoldable pub sinceNewline : ℕ → List ℕ → ℕ
 sinceNewline n [] = n
 sinceNewline n (b ∷ t) = sinceNewline (cond (eqb b NEWLINE) 0 (n + 1)) t

@@ -17,7 +17,7 @@ prints b = eqb b TAB || (leb 32 b && leb b 126)
 unfoldable pub shownByte : ℕ → List ℕ
 shownByte b = cond (prints b) (b ∷ []) (92 ∷ (48 + b / 64) ∷ (48 + b / 8 % 8) ∷ (48 + b % 8) ∷ [])
 
--- what stands under a byte before the caret: a tab under a tab, spaces under all else
+-- what is under a byte before the caret: a tab under a tab, spaces under all else
 unfoldable pub blankByte : ℕ → List ℕ
 blankByte b = cond (eqb b TAB) (b ∷ []) (cond (prints b) (32 ∷ []) (32 ∷ 32 ∷ 32 ∷ 32 ∷ []))
 
@@ -57,7 +57,8 @@ COLUMNS = 77
 abbrev pub BEFORE_CARET : ℕ
 BEFORE_CARET = 38
 
--- how many bytes are left out at a line's front: none, if the line fits; else so many that what stands before the caret fits half of it
+-- how many bytes are left out at a line's front: none, if the line fits; else so many that what is before the caret
+-- fits half of it
 unfoldable pub omitted : List ℕ → List ℕ → ℕ
 omitted before behind =
     let cut = leftOut BEFORE_CARET before in

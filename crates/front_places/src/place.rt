@@ -6,7 +6,7 @@ ghost use lib.ListN.{length};
 ghost use lib.Dec.{eqb};
 ghost use Rattle.front_places.specs.Places.{NEWLINE, newlines, sinceNewline, lineAt, columnAt};
 
-// Gives 1 for a newline and 0 for any other byte.
+// Returns 1 for a newline and 0 for any other byte.
 fn newline(b: u8) -> usize
     ensures { λ r. ⌜ (r ≡ cond (eqb b NEWLINE) 1 0) × (r ≤ 1) ⌝ }
 {
@@ -34,7 +34,7 @@ fn since(n: usize, b: u8) -> usize
     if b == b'\n' { 0 } else { n + 1 }
 }
 
-// Counts the bytes behind the last newline of a text, or all of them where it has none.
+// Counts the bytes after the last newline of a text, or all of them where it has none.
 pub fn since_newline(s: &[u8]) -> usize
     ensures { λ r. ⌜ (r ≡ sinceNewline 0 (now (s .entry))) × (r ≤ length (now (s .entry))) ⌝ }
 {
@@ -47,7 +47,7 @@ pub fn since_newline(s: &[u8]) -> usize
     n
 }
 
-// Gives the line of a place, from 1.
+// Returns the line of a place, from 1.
 pub fn line_at(text: &[u8], place: usize) -> usize
     requires { ⌜ (place ≤ length (now text)) × (length (now text) < 2 ^ 32) ⌝ }
     ensures { λ r. ⌜ r ≡ lineAt (now (text .entry)) place ⌝ }
@@ -55,7 +55,7 @@ pub fn line_at(text: &[u8], place: usize) -> usize
     1 + count_newlines(&text[0..place])
 }
 
-// Gives the column of a place, from 1.
+// Returns the column of a place, from 1.
 pub fn column_at(text: &[u8], place: usize) -> usize
     requires { ⌜ (place ≤ length (now text)) × (length (now text) < 2 ^ 32) ⌝ }
     ensures { λ r. ⌜ r ≡ columnAt (now (text .entry)) place ⌝ }

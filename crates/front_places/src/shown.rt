@@ -17,14 +17,14 @@ pub struct Window {
     pub to: usize,
 }
 
-// Whether a byte is shown as it is: a tab, or one that prints.
+// Tells whether a byte is shown as it is: a tab, or one that prints.
 pub fn prints(b: u8) -> bool
     ensures { λ r. ⌜ r ≡ Shown·prints b ⌝ }
 {
     b == b'\t' || (32 <= b && b <= 126)
 }
 
-// Gives the columns that a byte takes.
+// Returns the columns that a byte takes.
 pub fn width(b: u8) -> usize
     ensures { λ r. ⌜ (r ≡ widthOf b) × (r ≤ 4) ⌝ }
 {
@@ -91,14 +91,14 @@ fn omit(before: &[u8], behind: &[u8]) -> usize
     left_out(before, all, BEFORE_CARET)
 }
 
-// Gives the columns that are left beside those taken.
+// Returns the columns that are left beside those taken.
 fn columns_left(taken: usize) -> usize
     ensures { λ r. ⌜ r ≡ COLUMNS - taken ⌝ }
 {
     if taken <= COLUMNS { COLUMNS - taken } else { 0 }
 }
 
-// Counts the bytes that are shown behind a place: what is shown before it leaves so many columns.
+// Counts the bytes that are shown from a place on, in the columns that what is shown before it leaves.
 fn fit_behind(before: &[u8], behind: &[u8]) -> usize
     requires { ⌜ length (now before) < 2 ^ 32 ⌝ }
     ensures { λ r. ⌜ (r ≡ fitting (COLUMNS - columnsOf (now (before .entry))) (now (behind .entry)))
@@ -107,7 +107,7 @@ fn fit_behind(before: &[u8], behind: &[u8]) -> usize
     fit(behind, columns_left(columns(before)))
 }
 
-// Gives the part of a text that is shown around a place.
+// Returns the part of a text that is shown around a place.
 pub fn shown_around(text: &[u8], place: usize) -> Window
     requires { ⌜ (place ≤ length (now text)) × (length (now text) < 2 ^ 32) ⌝ }
     ensures { λ r. ⌜ Shows (now (text .entry)) place r ⌝ }

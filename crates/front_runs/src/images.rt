@@ -32,8 +32,8 @@ fn translate_front(name: &[u8], text: &[u8], n: usize, image: &mut [u8]) -> Made
     translate(name, &text[0..n], image)
 }
 
-// Translates a filter file. Of one that does not fit the room, which has more bytes than a filter may have, the front is
-// translated: it is refused as too long.
+// Translates a filter file. Of one that does not fit the room, which has more bytes than a filter may have, the front
+// is translated: it is refused as too long.
 pub fn translate_file(name: &[u8], text: &mut [u8], image: &mut [u8]) -> Made {
     let size = text.len();
     let f = front_io::load(name, text, 0);

@@ -16,7 +16,7 @@ use Rattle.front_words.specs.Walk.{Ends, SpanOf}
 use Rattle.front_words.specs.declared.words.WordEnd.{WordEnd}
 use Rattle.front_words.specs.declared.words.Span.{Span}
 
--- the first word of a list that is not empty is what stands before the first NUL
+-- the first word of a list that is not empty is what is before the first NUL
 words-split : (l : List ℕ) → 0 < length l → wordsOf l ≡ take (firstByte 0 l) l ∷ wordsOf (drop (suc (firstByte 0 l)) l)
 unfolding wordsOf firstByte
 words-split [] h = absurd (omega arith)

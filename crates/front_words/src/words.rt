@@ -15,7 +15,7 @@ pub struct Span {
     pub end: usize,
 }
 
-// Gives the end of the word that starts at a place.
+// Returns the end of the word that starts at a place.
 pub fn word_at(block: &[u8], at: usize) -> WordEnd
     requires { ⌜ at < length (now block) ⌝ }
     ensures { λ r. ⌜ Ends (now (block .entry)) at r ⌝ }
@@ -27,7 +27,7 @@ pub fn word_at(block: &[u8], at: usize) -> WordEnd
     WordEnd { end, next: end }
 }
 
-// Gives the word that starts at a place, the empty one where the block ends there.
+// Returns the word that starts at a place, the empty one where the block ends there.
 fn span_at(block: &[u8], at: usize) -> Span
     requires { ⌜ at ≤ length (now block) ⌝ }
     ensures { λ r. ⌜ SpanOf (now (block .entry)) at 0 r ⌝ }
@@ -42,7 +42,7 @@ fn span_at(block: &[u8], at: usize) -> Span
     }
 }
 
-// Gives word k, from 0, the empty one where there are not so many.
+// Returns word k, from 0, the empty one where there are fewer.
 pub fn find_word(block: &[u8], k: usize) -> Span
     ensures { λ r. ⌜ SpanOf (now (block .entry)) 0 k r ⌝ }
 {

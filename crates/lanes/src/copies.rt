@@ -61,7 +61,8 @@ fn copy_short(dst: &mut [u8], at: usize, src: &[u8])
     copy_8(dst, at + last, src, last);
 }
 
-// Copies all of `src` into `dst` from index `at` on: blocks of 16 bytes, and the last 16 bytes, which may overlap the block before them.
+// Copies all of `src` into `dst` from index `at` on: blocks of 16 bytes, and the last 16 bytes, which may overlap the
+// block before them.
 pub fn copy(dst: &mut [u8], at: usize, src: &[u8])
     requires { ⌜ at + length (now src) ≤ length (now dst) ⌝ }
     ensures { λ _. ⌜ now (dst .exit) ≡ put (now (dst .entry)) at (now (src .entry)) ⌝ }
@@ -79,8 +80,8 @@ pub fn copy(dst: &mut [u8], at: usize, src: &[u8])
     copy_16(dst, at + last, src, last);
 }
 
-// Copies `n` bytes of `src` from index `from` on into `dst` from index `at` on, and those after them up to a multiple of 16, one block
-// after the other.
+// Copies `n` bytes of `src` from index `from` on into `dst` from index `at` on, and those after them up to a multiple
+// of 16, one block after the other.
 fn copy_over_long(dst: &mut [u8], at: usize, src: &[u8], from: usize, n: usize)
     requires { ⌜ (at + n + 15 ≤ length (now dst)) × (from + n + 15 ≤ length (now src)) ⌝ }
     ensures { λ _. ⌜ now (dst .exit) ≡ put (now (dst .entry)) at (part from (blocks n) (now (src .entry))) ⌝ }

@@ -40,7 +40,8 @@ fn first_pair_by_1(s: &[u8], at: usize, a: u8, b: u8) -> usize
     k
 }
 
-// Returns the index of the first `a` or `b` from index `at` on, or the length of `s`: eight bytes at a time, and one by one at the end.
+// Returns the index of the first `a` or `b` from index `at` on, or the length of `s`: eight bytes at a time, and one by
+// one at the end.
 pub fn first_of_two(s: &[u8], at: usize, a: u8, b: u8) -> usize
     requires { ⌜ at ≤ length (now s) ⌝ }
     ensures { λ r. ⌜ r ≡ at + leading (neither a b) (drop at (now (s .entry))) ⌝ }
@@ -71,7 +72,8 @@ pub fn past_two(s: &[u8], at: usize, a: u8, b: u8) -> usize
     k
 }
 
-// Returns the index of the first `b` from index `at` on, or the length of `s`: as `first_of_two`, which suits short ways better than `first_byte`.
+// Returns the index of the first `b` from index `at` on, or the length of `s`: as `first_of_two`, which suits short
+// ways better than `first_byte`.
 pub fn first_byte_from(s: &[u8], at: usize, b: u8) -> usize
     requires { ⌜ at ≤ length (now s) ⌝ }
     ensures { λ r. ⌜ r ≡ at + firstByte b (drop at (now (s .entry))) ⌝ }

@@ -1,4 +1,5 @@
-// The first place of a byte. Two words of eight bytes are tried first; then blocks of 32 bytes that do not have it are passed.
+// The first place of a byte. Two words of eight bytes are tried first; then blocks of 32 bytes that do not have it are
+// passed.
 use crate::blocks::any_in_32;
 use crate::words::first_in_8;
 use crate::words::marks_at;
@@ -8,7 +9,8 @@ ghost use lib.ListN.{length};
 ghost use Rattle.buffer.specs.First.{firstByte};
 ghost use Rattle.lanes.specs.Block.{Nearer};
 
-// Passes the eight bytes from index `at` on if no `b` is among them. The choice is a conditional move, and no branch that is guessed wrong.
+// Passes the eight bytes from index `at` on if no `b` is among them. The choice is a conditional move, and no branch
+// that is guessed wrong.
 fn pass_8(s: &[u8], at: usize, b: u8) -> usize
     requires { ⌜ (at + 8 ≤ length (now s)) × (at ≤ firstByte b (now s)) ⌝ }
     ensures { λ r. ⌜ Nearer b (now (s .entry)) at 8 r ⌝ }
@@ -35,7 +37,8 @@ fn first_in_32(s: &[u8], at: usize, b: u8) -> usize
     word + first_in_8(s, word, b)
 }
 
-// Finds the first `b`, which is at index `from` or after it, eight bytes at a time. The last eight may overlap those before them.
+// Finds the first `b`, which is at index `from` or after it, eight bytes at a time. The last eight may overlap those
+// before them.
 fn first_by_8(s: &[u8], b: u8, from: usize) -> usize
     requires { ⌜ (8 ≤ length (now s)) × (from ≤ firstByte b (now s)) ⌝ }
     ensures { λ r. ⌜ r ≡ firstByte b (now (s .entry)) ⌝ }

@@ -103,7 +103,7 @@ looks-true t h =
       form = prefix-numeral u pos;
     }
 
--- a numeral with nothing but blanks behind it is the prefix that is taken
+-- a numeral with nothing but blanks after it is the prefix that is taken
 module _ (m after : List ℕ) (n : Numeral m) (blanks : All isBlank after) where
   not-longer : length m < prefixLength (m ++ after) → ⊥
   not-longer h =

@@ -47,7 +47,7 @@ module _ (t : List ℕ) where
   unfolding signLength
   sign-form = sign-by (isSign (getD t 0 0)) refl
 
-  -- the digits from an index on are what stands there
+  -- the digits from an index on are what is there
   digits-there : (a : ℕ) → take (length (digitsFrom a t)) (drop a t) ≡ digitsFrom a t
   unfolding digitsFrom
   digits-there a = ap (λ (n : ℕ). take n (drop a t)) (length-digits t a)
@@ -112,7 +112,7 @@ module _ (t : List ℕ) where
 
 -- ---- no longer prefix is one
 
--- a numeral's parts with anything behind them
+-- a numeral's parts with anything after them
 abbrev spell : List ℕ → List ℕ → List ℕ → List ℕ → List ℕ → List ℕ
 spell sign whole point fraction rest = sign ++ (whole ++ (point ++ (fraction ++ rest)))
 
@@ -129,12 +129,12 @@ sign-counted rest absent d f h = rw (no-sign rest d f h)
 sign-counted rest (present e) d f h = rw e
 
 module _ (a t : List ℕ) where
-  -- the digits behind a front of known length
+  -- the digits after a front of known length
   pub digits-behind : (n : ℕ) → length a ≡ n → digitsFrom n (a ++ t) ≡ take (leading isDigit t) t
   unfolding digitsFrom
   digits-behind n e = ap (λ (u : List ℕ). take (leading isDigit u) u) (drop-at a t n e)
 
--- the whole part: no shorter than a numeral's digits, and just those where another byte stands behind them
+-- the whole part: no shorter than a numeral's digits, and just those where another byte comes after them
 module _ {whole : List ℕ} (d : All isDigit whole) (v : List ℕ) where
   run-from : leading isDigit (whole ++ v) ≡ length whole + leading isDigit v
   run-from = leading-append isDigit v d
@@ -164,7 +164,7 @@ module _ (g w rest : List ℕ) (d : All isDigit w) where
         let n : length (wholeDigits t) ≡ length w + leading isDigit rest = ap length whole-there ∙ run-length d rest in
         omega (arith, to-point t (hasPoint t) refl (omega arith))
 
--- digits, a point, and digits behind it
+-- digits, a point, and digits after it
 module _ (g w f rest : List ℕ) (d : All isDigit w) (df : All isDigit f) (s : signLength (g ++ (w ++ (46 ∷ (f ++ rest)))) ≡ length g) where
   abbrev text : List ℕ
   text = g ++ (w ++ (46 ∷ (f ++ rest)))

@@ -1,4 +1,4 @@
--- The parts of a prefix: where each stands, and the prefix's length by whether there is a point.
+-- The parts of a prefix: where each is, and the prefix's length by whether there is a point.
 use mathlib.Core.Path.{_≡_, refl, sym, ap, _∙_}
 use mathlib.Core.Bool.{Bool, true, false, cond, false≢true}
 use mathlib.Core.List.{List, []}
@@ -19,7 +19,7 @@ use Rattle.numeral.specs.Judgement.{digitsValue}
 use Rattle.numeral.specs.Capped.{capped, ReadsDigits}
 use Rattle.numeral.specs.declared.digits.Digits.{Digits}
 
--- a byte that is not 0 stands before the end
+-- a byte that is not 0 is before the end
 pub inside : (t : List ℕ) (k : ℕ) → (getD t k 0 ≡ 0 → ⊥) → k < length t
 inside t k h = elim (decLe (k + 1) (length t)) [ yes p ↦ omega arith | no p ↦ absurd (h (List·getD-eq-default t 0 {n = k} (omega arith))) ]
 

@@ -26,7 +26,7 @@ pub capped-le : (n : ℕ) → capped n ≤ numberBound + 1
 unfolding capped
 capped-le n = omega arith
 
--- a digit behind a value that was cut off is a digit behind the value
+-- a digit after a value that was cut off is a digit after the value
 pub capped-more : (v d : ℕ) → capped (appended (capped v) d) ≡ capped (appended v d)
 unfolding capped
 capped-more v d = omega arith

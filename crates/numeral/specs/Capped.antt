@@ -1,4 +1,5 @@
--- Internal: cited by private contracts only. What the inner functions answer: the values of digits are kept only up to one past the greatest number, which is enough to judge them.
+-- Internal: cited by private contracts only. What the inner functions answer: the values of digits are kept only up to
+-- one past the greatest number, which is enough to judge them.
 use mathlib.Core.Path.{_≡_}
 use mathlib.Core.Bool.{Bool, cond}
 use mathlib.Core.List.{List}

@@ -1,4 +1,4 @@
--- Document 01, "Values": the form of a number in a text. What a text's number is stands apart, in Judgement.antt.
+-- Document 01, "Values": the form of a number in a text. What a text's number is is apart, in Judgement.antt.
 use mathlib.Core.Path.{_≡_}
 use mathlib.Core.Bool.{Bool, true, false, cond}
 use mathlib.Core.List.{List, [], _∷_, _++_}
@@ -53,7 +53,8 @@ pub record Looks (t : List ℕ) : Type 0 where
 unfoldable pub digitsFrom : ℕ → List ℕ → List ℕ
 digitsFrom a t = take (leading isDigit (drop a t)) (drop a t)
 
--- how long the sign is that a text begins with, and whether it is a minus; the 0 past a text's end is no sign and no point
+-- how long the sign is that a text begins with, and whether it is a minus; the 0 past a text's end is no sign and no
+-- point
 unfoldable pub signLength : List ℕ → ℕ
 signLength t = cond (isSign (getD t 0 0)) 1 0
 
@@ -83,7 +84,7 @@ prefixLength t =
 unfoldable pub afterBlanks : List ℕ → List ℕ
 afterBlanks t = drop (leading isBlank t) t
 
--- whether n bytes of a text are some, with nothing but blanks behind them
+-- whether n bytes of a text are some, with nothing but blanks after them
 unfoldable pub blankAfter : ℕ → List ℕ → Bool
 blankAfter n t = cond (eqb n 0) false (eqb (n + leading isBlank (drop n t)) (length t))
 

@@ -9,11 +9,11 @@ use Rattle.edition.specs.Outcomes.{numberOutOfRange, numberNotWhole}
 use Rattle.number.specs.Range.{Answer, number, stop}
 use Rattle.numeral.specs.Form.{afterBlanks, isNegative, wholeDigits, fractionDigits, prefixLength}
 
--- a value with one digit more behind it
+-- a value with one digit more after it
 abbrev pub appended : ℕ → ℕ → ℕ
 appended value digit = value * 10 + (digit - 48)
 
--- the value of digits, behind the digits of a value
+-- the value of digits, after the digits of a value
 unfoldable pub valueAfter : ℕ → List ℕ → ℕ
 valueAfter value [] = value
 valueAfter value (b ∷ t) = valueAfter (appended value b) t

@@ -11,7 +11,8 @@ use edition::Edition;
 // The most bytes that a number's text has.
 pub const DECIMAL_BYTES: usize = 17;
 
-// Returns how many digits `n` has, which is below 10^8. Comparisons wait for nothing, as divisions one after the other would.
+// Returns how many digits `n` has, which is below 10^8. Comparisons wait for nothing, as divisions one after the other
+// would.
 fn few_digits(n: u64) -> usize
     requires { ⌜ n < 100000000 ⌝ }
     ensures { λ r. ⌜ r ≡ length (decimalDigits n) ⌝ }
@@ -53,7 +54,7 @@ fn write_digits(out: &mut [u8], at: usize, n: u64, count: usize)
     }
 }
 
-// The length of a number's text.
+// Returns the length of a number's text.
 pub fn decimal_length(w: u64) -> usize
     requires { ⌜ w ≤ top ⌝ }
     ensures { λ r. ⌜ r ≡ length (decimalText (unbias w)) ⌝ }

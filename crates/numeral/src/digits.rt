@@ -14,19 +14,21 @@ pub struct Digits {
     pub value: u64,
 }
 
+// Tells whether a byte is a space or a tab.
 pub fn is_blank(b: u8) -> bool
     ensures { λ r. ⌜ r ≡ isBlank b ⌝ }
 {
     b == 32 || b == 9
 }
 
+// Tells whether a byte is a digit.
 pub fn is_digit(b: u8) -> bool
     ensures { λ r. ⌜ r ≡ isDigit b ⌝ }
 {
     48 <= b && b <= 57
 }
 
-// How many blanks the text begins with.
+// Returns how many blanks the text begins with.
 pub fn count_blanks(t: &[u8]) -> usize
     ensures { λ r. ⌜ r ≡ leading isBlank (now (t .entry)) ⌝ }
 {
@@ -40,7 +42,7 @@ pub fn count_blanks(t: &[u8]) -> usize
     k
 }
 
-// A value with one digit more, up to one past the greatest number.
+// Returns a value with one digit more, up to one past the greatest number.
 fn with_digit(value: u64, digit: u8) -> u64
     requires { ⌜ (value ≤ numberBound + 1) × (48 ≤ digit) × (digit ≤ 57) ⌝ }
     ensures { λ r. ⌜ r ≡ capped (appended value digit) ⌝ }
@@ -53,7 +55,7 @@ fn with_digit(value: u64, digit: u8) -> u64
     }
 }
 
-// The digits that the text begins with.
+// Reads the digits that the text begins with.
 pub fn read_digits(t: &[u8]) -> Digits
     ensures { λ r. ⌜ ReadsDigits r (now (t .entry)) ⌝ }
 {

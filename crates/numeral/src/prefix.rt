@@ -7,8 +7,8 @@ ghost use Rattle.numeral.specs.Form.{isSign};
 ghost use Rattle.numeral.specs.Capped.{ReadsPrefix};
 use crate::digits;
 
-// A prefix: its length, 0 where there is none, its sign, and the values of its digits before and after the point, each up to
-// one past the greatest number.
+// A prefix: its length, 0 where there is none, its sign, and the values of its digits before and after the point, each
+// up to one past the greatest number.
 pub struct Prefix {
     pub length: usize,
     pub negative: bool,
@@ -16,34 +16,35 @@ pub struct Prefix {
     pub fraction: u64,
 }
 
-// The byte at an index, 0 past the end.
+// Returns the byte at an index, 0 past the end.
 fn byte_at(t: &[u8], at: usize) -> u8
     ensures { λ r. ⌜ r ≡ getD (now (t .entry)) at 0 ⌝ }
 {
     if at < t.len() { t[at] } else { 0 }
 }
 
+// Tells whether a byte is `+` or `-`.
 fn is_sign(b: u8) -> bool
     ensures { λ r. ⌜ r ≡ isSign b ⌝ }
 {
     b == 43 || b == 45
 }
 
-// How many bytes the sign takes that a text with this first byte begins with.
+// Returns how many bytes the sign takes that a text with this first byte begins with.
 fn sign_length(first: u8) -> usize
     ensures { λ r. ⌜ r ≡ cond (isSign first) 1 0 ⌝ }
 {
     if is_sign(first) { 1 } else { 0 }
 }
 
-// A prefix with no digit is none.
+// Returns a prefix, if it has a digit: one without is none.
 fn with_digits(count: usize, length: usize) -> usize
     ensures { λ r. ⌜ r ≡ cond (eqb count 0) 0 length ⌝ }
 {
     if count == 0 { 0 } else { length }
 }
 
-// The prefix that the text begins with.
+// Reads the numeric prefix that the text begins with.
 pub fn read_prefix(t: &[u8]) -> Prefix
     ensures { λ r. ⌜ ReadsPrefix r (now (t .entry)) ⌝ }
 {

@@ -16,15 +16,15 @@ pub enum Value {
     NotWhole,
 }
 
-// What a text says as a number: the length of the numeric prefix behind its leading blanks, 0 where there is none; whether the
-// whole text looks numeric; and its number.
+// What a text says as a number: the length of the numeric prefix after its leading blanks, 0 where there is none;
+// whether the whole text looks numeric; and its number.
 pub struct Reading {
     pub length: usize,
     pub numeric: bool,
     pub value: Value,
 }
 
-// A number by its sign and the values of its digits before and after the point.
+// Returns a number by its sign and the values of its digits before and after the point, or 11 or 12.
 fn judge(negative: bool, whole: u64, fraction: u64) -> Value
     ensures { λ r. ⌜ Values r (judgedBy negative whole fraction) ⌝ }
 {
@@ -41,7 +41,7 @@ fn judge(negative: bool, whole: u64, fraction: u64) -> Value
     }
 }
 
-// Whether a prefix that is there, and blanks behind it, are all of a text.
+// Tells whether a prefix that is there, and blanks after it, are all of a text.
 fn fills(length: usize, blanks: usize, all: usize) -> bool
     requires { ⌜ length + blanks ≤ all ⌝ }
     ensures { λ r. ⌜ r ≡ cond (eqb length 0) false (eqb (length + blanks) all) ⌝ }
@@ -52,7 +52,7 @@ fn fills(length: usize, blanks: usize, all: usize) -> bool
     length + blanks == all
 }
 
-// What a text without leading blanks says as a number.
+// Reads what a text without leading blanks says as a number.
 fn read_stripped(t: &[u8]) -> Reading
     ensures { λ r. ⌜ ReadsStripped r (now (t .entry)) ⌝ }
 {
@@ -66,7 +66,7 @@ fn read_stripped(t: &[u8]) -> Reading
     }
 }
 
-// A text's numeric prefix, look and number.
+// Reads a text's numeric prefix, look and number.
 pub fn read_number(t: &[u8]) -> Reading
     ensures { λ r. ⌜ Reads r (now (t .entry)) ⌝ }
 {

@@ -34,7 +34,7 @@ and-swap false true = refl
 and-swap false false = refl
 
 module _ (edition : ℕ) (s : List ℕ) where
-  -- a walk to a state where an operand may stand: the token after what was read is read again
+  -- a walk to a state where an operand may be: the token after what was read is read again
   pub record Paused (z x : State) (t : Token) (p : ℕ) (u : Token) : Type 0 where
     pub walk : Walk edition s x t z (asOperand edition s u)
     pub good : InText edition s 0 u

@@ -1,5 +1,5 @@
--- The reader means what document 01 says: a tree exactly for the sentences of the grammar, a refusal exactly at the first
--- token that can't continue any program, and `/` as an ERE exactly where one can stand.
+-- The reader means what document 01 says: a tree exactly for the sentences of the grammar, a refusal exactly at the
+-- first token that can't continue any program, and `/` as an ERE exactly where one can be.
 use mathlib.Core.Path.{_≡_, refl, sym, ap, subst, subst₂, _∙_}
 use mathlib.Core.Bool.{Bool, true, false, cond}
 use mathlib.Core.List.{List, [], _∷_, _++_, append-assoc, append-nil}

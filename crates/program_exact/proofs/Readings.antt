@@ -1,5 +1,5 @@
--- What is shown of each reader: where it ends well the machine walks over what it read, and where it refuses the machine
--- walks to a token that it does not take, or that opens a level too many.
+-- What is shown of each reader: where it ends well the machine walks over what it read, and where it refuses the
+-- machine walks to a token that it does not take, or that opens a level too many.
 use mathlib.Core.Path.{_≡_, refl, sym, ap, subst, _∙_}
 use mathlib.Core.Bool.{Bool, true, false, cond}
 use mathlib.Core.List.{List, [], _∷_}

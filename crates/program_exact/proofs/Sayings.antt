@@ -98,7 +98,7 @@ module _ (edition : ℕ) (s : List ℕ) where
   one-step k l t (a ∷ ts) u e w =
       record { next = w .0; kind = sym (ap (λ (x : Token). x .kind) (w .1)) ∙ ap firstKind e; follow = w .2; trail = w .3; kinds = ap otherKinds e; here = w .1 }
 
-  -- a token, and as it is read: as it is, or again where an operand may stand
+  -- a token, and as it is read: as it is, or again where an operand may be
   abbrev pub Reread : Token → Token → Type 0
   Reread x v = (v ≡ x) ⊎ (v ≡ asOperand edition s x)
 
@@ -200,8 +200,8 @@ module _ (edition : ℕ) (s : List ℕ) where
   abbrev pub Deep6 : ℕ → Read Expression → Type 0
   Deep6 n r = (place : ℕ) × (r ≡ no sizePassed place) × (n < length s)
 
-  -- or what was read, and the token after it; the number is that of the levels that are left, and of the bytes before what
-  -- is read: where it is great enough, the answer isn't 6
+  -- or what was read, and the token after it; the number is that of the levels that are left, and of the bytes before
+  -- what is read: where it is great enough, the answer isn't 6
   abbrev pub Exact : ℕ → Read Expression → Expression → Token → Type 0
   Exact n r e u = (Deep6 n r) ⊎ (r ≡ ok e u)
 

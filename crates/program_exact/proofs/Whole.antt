@@ -38,7 +38,7 @@ module _ (edition : ℕ) (s : List ℕ) where
       by-test (Pauses edition s between x t (suc (t .start))) (is open-brace t) (blockOf edition s (statementAt edition s inMain (nestingDepth - 1)) t) (no _ _)
       (λ q. action-reads edition s inMain (nestingDepth - 1) x t g q (e ∙ rw q)) (λ q. refused edition s x t (e ∙ rw q))
 
-  -- ---- an item: a `}` ended it, or a pattern that stands alone
+  -- ---- an item: a `}` ended it, or a pattern that is alone
 
   pub record Alone (x : State) (t : Token) (p : ℕ) (u : Token) : Type 0 where
     pub state : State

@@ -53,7 +53,7 @@ module _ (edition : ℕ) (s : List ℕ) where
     pub no-sentence : (t : Token) (r : Refused edition s t) → t .kind ≡ text-end
         → Sentence edition (r .before ++ (text-end ∷ [])) → ⊥
 
-  -- "`/` starts an ERE where the grammar below allows one, else it divides": it is told whether one can stand after
+  -- "`/` starts an ERE where the grammar below allows one, else it divides": it is told whether one can be after
   -- some tokens, and each text's tokens are read in one way
   pub record SlashExactly : Type 0 where
     pub told : (before : List Kind)

@@ -328,7 +328,7 @@ module _ (edition : ℕ) where
   beside x n k (at-finished p b e t c h) = exit-after (value (length p) b) e (statement t p c) k (in-value p b t c h)
   beside x n k (at-list p q b c h) = list-beside p q b c k h
 
-  -- ---- where an operand may stand
+  -- ---- where an operand may be
 
   pub expected : (x : State) (n : Count) (y : State) → Beside x n → step edition x ERE ≡ some y → expects n ≡ true
   unfolding step rank

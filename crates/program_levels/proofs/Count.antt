@@ -52,7 +52,7 @@ closed (nested n p b) = list p false b
 abbrev pub raise : ℕ → Move → Move
 raise n m = moves (atLeast n (m .level)) (m .to)
 
--- whether an operand may stand
+-- whether an operand may be
 abbrev pub expects : Count → Bool
 expects between = true
 expects done = false

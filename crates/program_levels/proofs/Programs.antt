@@ -41,7 +41,7 @@ module _ (edition : ℕ) (s : List ℕ) where
       by-test (Pauses edition s between x t) (is open-brace t) (blockOf edition s (statementAt edition s inMain (nestingDepth - 1)) t) (refuse t)
       (λ q. action-reads edition s inMain (nestingDepth - 1) (omega arith) x t q (h q)) (λ q. refused edition s x t)
 
-  -- ---- an item: a `}` ended it, or a pattern that stands alone
+  -- ---- an item: a `}` ended it, or a pattern that is alone
 
   abbrev Alone : Count → Token → Token → Type 0
   Alone x t u = (f : ℕ) × (Steps edition s x t (after f pattern) u) × (isOneOf (text-end ∷ enders) u ≡ true)

@@ -263,7 +263,7 @@ module _ (edition : ℕ) where
   unfolding beginMove trace rank
   begin-lone n p b l ns y e g = (subst (λ (m : List Kind). Goes edition (beginMove edition n p b) m ns y) e g) .1
 
-  -- a statement in a list: where it stands, or at a list where it was a lone `;`
+  -- a statement in a list: where it is, or at a list where it was a lone `;`
   in-list : (e : End) (o : Else) (p : List ℕ) (q : Bool) (b : Braces) (l : List Kind) (ns : List ℕ) (i : Stated e o (levelOf b) [] b l ns)
       → (Went edition (list p q b) l ns (i .state)) ⊎ ((e ≡ ended) × ((r : List ℕ) × (u : Bool) × (Went edition (list p q b) l ns (list r u b))))
   in-list e o p q b l ns i =

@@ -208,7 +208,7 @@ module _ (edition : ℕ) where
         record { pending = g .pending; state = g .state; steps = join edition s x t y u (g .state) (cond (ended a) (asOperand edition s v) v) w (g .steps); stands = g .stands; own = g .own }
     s-earlier p b x t y u (no outcome place) w g = later edition s x t y u outcome place w g
 
-    -- steps to where an operand may stand: the token after what was read is read again
+    -- steps to where an operand may be: the token after what was read is read again
     abbrev pub Pauses : {A : Type 0} → Count → Count → Token → Read A → Type 0
     Pauses z x t (ok a u) = Steps edition s x t z (asOperand edition s u)
     Pauses z x t (no outcome place) = Refusal edition s x t outcome place

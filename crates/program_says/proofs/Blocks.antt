@@ -305,7 +305,7 @@ module _ (edition : ℕ) (s : List ℕ) where
         let r : is newline z ≡ true = ap (λ (j : Kind). same j newline) k in
         rw (q, r)
 
-    -- a statement at a token, which is read again if an operand may stand there
+    -- a statement at a token, which is read again if an operand may be there
     more-run : (i : ℕ) (z t : Token) → Reread edition s z t → among closers (t .kind) ≡ false → List-at (suc i) z ≡ followed edition s (List-at i) (statement t)
     unfolding statements rank
     more-run i z t w h =

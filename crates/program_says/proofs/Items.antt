@@ -188,7 +188,7 @@ module _ (edition : ℕ) (s : List ℕ) where
         subst (λ (v : Read ItemTree). Answers edition s ended (suc levels + t .start) v (main none (saidBlock edition s a ts)) (t .start) u) (sym (item-run t open-brace (i .0)))
         (answers-map edition s (main none) ended (suc levels + t .start) (actionOf edition s levels true t) (saidBlock edition s a ts) (t .start) u (i .1))
 
-    -- a pattern that stands alone
+    -- a pattern that is alone
     alone-says : {e : List Kind} (d : Form edition (expression elsewhere) e) (t : Token) (ts : List Token) (u : Token) → Stretch edition s e t ts u → among (text-end ∷ enders) (u .kind) ≡ true
         → Says s (suc levels + t .start) (itemOf edition s levels t) (main (some (said edition s d ts)) (print-tree [])) u
     unfolding among rank

@@ -47,8 +47,8 @@ module _ (edition : ℕ) (s : List ℕ) where
   again needs-end x u h = inl h
   again ended x u h = h
 
-  -- the answer is 6, and a number is less than the text's length, or what was read and the token after it, which is after
-  -- a place
+  -- the answer is 6, and a number is less than the text's length, or what was read and the token after it, which is
+  -- after a place
   abbrev pub Answers : {A : Type 0} → End → ℕ → Read A → A → ℕ → Token → Type 0
   Answers e n r a p u = (Deep s n r) ⊎ ((x : Token) × (After e x u) × (InText edition s 0 x) × (p < x .start) × (r ≡ ok a x))
 

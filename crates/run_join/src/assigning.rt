@@ -28,7 +28,8 @@ fn field_count(known: usize, k: usize) -> usize
     if known <= k { k + 1 } else { known }
 }
 
-// Sets field k + 1 to the value of an operand: all fields are split off, and joined with the present OFS into the other record.
+// Sets field k + 1 to the value of an operand: all fields are split off, and joined with the present OFS into the other
+// record.
 pub fn set_field(
     work: &mut [u8],
     t: &[u64],
@@ -87,7 +88,8 @@ fn assign(
     set_field(work, t, kind, edition, line, k - 1, v)
 }
 
-// Sets the field whose number is in slot a to the value of the slot after it, which is left in slot a: 11, 12, 16, 18, 14.
+// Sets the field whose number is in slot a to the value of the slot after it, which is left in slot a: 11, 12, 16, 18,
+// 14.
 pub fn store_field(
     work: &mut [u8],
     t: &[u64],

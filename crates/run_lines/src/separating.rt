@@ -42,7 +42,8 @@ pub fn set_separator(
     r
 }
 
-// Returns what FS separates by, and writes the table if it is an ERE. Nothing changes but the digits of a number that FS is.
+// Returns what FS separates by, and writes the table if it is an ERE. Nothing changes but the digits of a number that
+// FS is.
 pub fn separator_of(work: &mut [u8], edition: Edition, t: &mut [u64]) -> Kind
     requires { ⌜ (slotsEnd ≤ length (now work)) × (length (now t) ≡ tableWords) ⌝ }
     ensures { λ r. ⌜ SeparatorOf (edition .number) (now (work .entry)) (now (work .exit)) (now (t .exit)) r ⌝ }

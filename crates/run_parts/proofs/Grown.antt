@@ -26,7 +26,7 @@ use Rattle.run_room.proofs.Slotwise.{part-less}
 use Rattle.run_parts.specs.declared.parts.Part.{Part}
 use Rattle.run_parts.specs.Join.{recordEnd, Grown, PartOf, Turned, newField, gapOf}
 
--- a part, and the front of what is put behind it
+-- a part, and the front of what is put after it
 part-grown : (l : List ℕ) (a n m : ℕ) (b : List ℕ) → a + n + length b ≤ length l → m ≤ length b → part a (n + m) (put l (a + n) b) ≡ part a n l ++ take m b
 part-grown l a n m b h k =
     let z = put l (a + n) b in

@@ -143,7 +143,7 @@ unfolding slotsFrom
 slots-before a e x y zero i o h = refl
 slots-before a e x y (suc n) i o h = ap₂ _∷_ (slot-before a e x y i o (omega arith)) (slots-before a e x y n (suc i) o (omega arith))
 
--- Slot i has become v: the list of values has v there, and what stands after the slots is as it was.
+-- Slot i has become v: the list of values has v there, and what is after the slots is as it was.
 module _ {From : Type 0} (x y : List ℕ) (n i : ℕ) (v : Value) (o : Slotted x y i v From) (inside : i < n) where
   at : (k : ℕ) → k < n → Dec (k ≡ i) → slotAt y k ≡ getD (set (slotsFrom 0 n x) i v) k unset
   at k h (yes e) =

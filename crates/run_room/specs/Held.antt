@@ -1,5 +1,6 @@
--- Internal: cited by private contracts only. What an operation does to the room. Beside its value a slot or an entry may keep what was found out about it; what is kept is true if the bytes
--- are those that operations left, and an operation says its equation under that. Nothing is kept yet: a later edition of this crate says what.
+-- Internal: cited by private contracts only. What an operation does to the room. Beside its value a slot or an entry
+-- may keep what was found out about it; what is kept is true if the bytes are those that operations left, and an
+-- operation says its equation under that. Nothing is kept yet: a later edition of this crate says what.
 use mathlib.Core.Path.{_≡_}
 use mathlib.Core.List.{List}
 use Prim.Native.Nat.{ℕ, _+_, _*_, _≤_, _<_}
@@ -28,7 +29,8 @@ pub record Held (room : List ℕ) (l : Line) : Type 0 where
 
 -- ---- operations
 
--- A room x with record l has become y with record r. What is safe holds for any bytes; the equation, and what is kept, where what was kept is true.
+-- A room x with record l has become y with record r. What is safe holds for any bytes; the equation, and what is kept,
+-- where what was kept is true.
 pub record Did (x : List ℕ) (l : Line) (y : List ℕ) (r : Line) (Safe Equation : Type 0) : Type 0 where
   pub safe : Safe
   pub next : Held x l → (Held y r) × Equation

@@ -1,4 +1,5 @@
--- Internal: cited by private contracts only. What is where in the working room, in bytes. Document 01 gives its size alone; src/layout.rt has the same constants.
+-- Internal: cited by private contracts only. What is where in the working room, in bytes. Document 01 gives its size
+-- alone; src/layout.rt has the same constants.
 use Prim.Native.Nat.{ℕ, _+_, _*_}
 use Rattle.edition.specs.Limits.{textBytes, operandDepth, userNames, fieldCount}
 

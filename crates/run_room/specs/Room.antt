@@ -1,4 +1,5 @@
--- Internal: cited by private contracts only. What the bytes of the working room stand for. Every content stands for something.
+-- Internal: cited by private contracts only. What the bytes of the working room stand for. Every content stands for
+-- something.
 use mathlib.Core.Path.{_≡_}
 use mathlib.Core.Bool.{Bool, true, false}
 use mathlib.Core.List.{List, [], _∷_, _++_, map}
@@ -43,7 +44,8 @@ isNumber (field-text l) = false
 
 -- ---- slots
 
--- A head: in its first word the kind in the first byte and the length of the text in the third and fourth; then the number.
+-- A head: in its first word the kind in the first byte and the length of the text in the third and fourth; then the
+-- number.
 unfoldable pub headOf : ℕ → ℕ → ℕ → List ℕ
 headOf kind n w = leBytes 8 (kind + 65536 * n) ++ leBytes 8 w
 
@@ -65,7 +67,8 @@ slotsFrom i (suc n) room = slotAt room i ∷ slotsFrom (suc i) n room
 unfoldable pub lineOf : List ℕ → Line → List ℕ
 lineOf room l = part (recordStart (l .side)) (l .size) room
 
--- An entry: in its first word where a field of the record starts, its size and its kind; then its number. `part` clips it to the record.
+-- An entry: in its first word where a field of the record starts, its size and its kind; then its number. `part` clips
+-- it to the record.
 unfoldable pub entryAt : List ℕ → List ℕ → ℕ → Value
 entryAt line room k =
     let h = wordAt room (entriesStart + k * entryBytes) in

@@ -6,8 +6,8 @@ use crate::layout::HEAD;
 use crate::layout::SLOT;
 use crate::layout::SLOTS;
 
-// The record is in one of two slots. The fields from `known` on are still to be split off, from place `after` of it on; none if that is
-// after its end.
+// The record is in one of two slots. The fields from `known` on are still to be split off, from place `after` of it on;
+// none if that is after its end.
 pub struct Line {
     pub side: usize,
     pub size: usize,
@@ -16,7 +16,7 @@ pub struct Line {
 }
 
 impl Line {
-    // The same record, split further.
+    // Returns the same record, split further.
     pub fn split(self, known: usize, after: usize) -> Line
         ensures { λ r. ⌜ (r .side ≡ «self» .side) × (r .size ≡ «self» .size) × (r .known ≡ known) × (r .after ≡ after) ⌝ }
     {

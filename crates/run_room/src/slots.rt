@@ -41,8 +41,8 @@ pub fn slot_kind(work: &[u8], i: usize) -> u8
     (buffer::get_word(work, i * SLOT) % 256) as u8
 }
 
-// Returns the number of a slot whose value is one. Whatever the room has, it is in range. A test by `<` would be one of the
-// word's high bytes, and those would be read by themselves.
+// Returns the number of a slot whose value is one. Whatever the room has, it is in range. A test by `<` would be one of
+// the word's high bytes, and those would be read by themselves.
 pub fn slot_number(work: &[u8], i: usize) -> u64
     requires { ⌜ (slotsEnd ≤ length (now work)) × (i < slotCount) ⌝ }
     ensures { λ r. ⌜ Numbered (now (work .entry)) i r ⌝ }

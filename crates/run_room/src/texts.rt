@@ -71,7 +71,8 @@ pub fn set_length(work: &mut [u8], i: usize, n: usize)
     slots::put_head(work, i * SLOT, TEXT, n, 0);
 }
 
-// Returns the length of the text of a slot's value, which is in the slot: a number's is written there. The value stays as it is.
+// Returns the length of the text of a slot's value, which is in the slot: a number's is written there. The value stays
+// as it is.
 pub fn show(work: &mut [u8], i: usize) -> usize
     requires { ⌜ (slotsEnd ≤ length (now work)) × (i < slotCount) ⌝ }
     ensures { λ r. ⌜ Shown (now (work .entry)) (now (work .exit)) i r ⌝ }

@@ -59,7 +59,7 @@ impl Machine {
         m
     }
 
-    // Goes on to the next instruction, with so many operands.
+    // Goes on to the next instruction, with this number of operands.
     pub fn on(self, depth: usize) -> Machine
         requires { ⌜ «self» .at < 1024 ⌝ }
         ensures { λ r. ⌜ r ≡ advanced «self» depth ⌝ }
@@ -70,7 +70,7 @@ impl Machine {
         m
     }
 
-    // The same, unless the outcome isn't 0.
+    // Goes on to the next instruction with this number of operands, or stops if the outcome isn't 0.
     pub fn after(self, outcome: u64, depth: usize) -> Machine
         requires { ⌜ «self» .at < 1024 ⌝ }
         ensures { λ r. ⌜ r ≡ advancedUnless «self» outcome depth ⌝ }
@@ -81,7 +81,7 @@ impl Machine {
         self.on(depth)
     }
 
-    // The same with another record.
+    // Returns the machine with another record.
     pub fn with_line(self, line: Line) -> Machine
         ensures { λ r. ⌜ r ≡ withLine «self» line ⌝ }
     {
@@ -90,7 +90,7 @@ impl Machine {
         m
     }
 
-    // The same with another record and what FS separates by.
+    // Returns the machine with another record and what FS separates by.
     pub fn with_separator(self, line: Line, kind: Kind) -> Machine
         ensures { λ r. ⌜ r ≡ withKind (withLine «self» line) kind ⌝ }
     {

@@ -28,7 +28,7 @@ fn number_order(x: u64, y: u64) -> Order
     Order::Equal
 }
 
-// Returns whether a comparison holds for an order. A code of none is that of the last one.
+// Tells whether a comparison holds for an order. A code of none is that of the last one.
 fn holds(code: u64, o: Order) -> bool
     ensures { λ r. ⌜ r ≡ Value·holds (comparisonBy code) o ⌝ }
 {
@@ -82,8 +82,8 @@ fn compare_numbers(
     0
 }
 
-// Compares two values as a code says: their numbers if both look numeric, else their texts. The right one is judged first:
-// often it is a text constant, and then a field on the left isn't read as a number.
+// Compares two values as a code says: their numbers if both look numeric, else their texts. The right one is judged
+// first: often it is a text constant, and then a field on the left isn't read as a number.
 pub fn compare(work: &mut [u8], a: usize, code: u64) -> u64
     requires { ⌜ (slotsEnd ≤ length (now work)) × (a + 1 < slotCount) ⌝ }
     ensures { λ r. ⌜ Left (now (work .entry)) (now (work .exit)) a r

@@ -81,7 +81,7 @@ pub fn judge(work: &[u8], i: usize) -> Judged
     judge_field(run_room::slot_text(work, i))
 }
 
-// Returns whether the value of a slot is true.
+// Tells whether the value of a slot is true.
 pub fn is_true(work: &[u8], i: usize) -> Truth
     requires { ⌜ (slotsEnd ≤ length (now work)) × (i < slotCount) ⌝ }
     ensures { λ r. ⌜ TruthBy (truthOf (slotAt (now (work .entry)) i)) r ⌝ }

@@ -1,4 +1,4 @@
--- `exists` meets its contract: a word is where it stands, the last bytes tell where the reach says so, and a walk over
+-- `exists` meets its contract: a word is where it is, the last bytes tell where the reach says so, and a walk over
 -- all else.
 use mathlib.Core.Path.{_≡_, sym, ap, subst, _∙_}
 use mathlib.Core.Bool.{true, _&&_}

@@ -24,7 +24,7 @@ loop-holds c =
     let z : 0 ≡ a .from - a .from = omega arith in
     (omega arith, c .pre .2, c .pre .1, ap (runs (a .d .now) (a .x .now) (a .from) (a .state)) z)
 
--- where the state after the byte at i stands
+-- where the state after the byte at i is
 abbrev Byte : Type 0
 Byte = lts.After-shared-slice-known reads.Pre reads.Post Inv-loop μ-loop
 

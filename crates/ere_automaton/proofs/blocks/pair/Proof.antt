@@ -10,7 +10,7 @@ use Rattle.ere_automaton.proofs.blocks.pair.Tie as tie
 use Rattle.ere_automaton.proofs.blocks.pair.Reads as reads
 use Rattle.ere_automaton.proofs.blocks.pair.Lts as lts
 
--- where the word stands
+-- where the word is
 abbrev index : lts.Start reads.Pre reads.Post → ℕ
 index c = let a = c .args in classIn (a .d .now) (a .b) * a .k + classIn (a .d .now) (a .c) + a .k + 1 + a .s
 

@@ -1,4 +1,5 @@
--- `front_cases::walk::walk` is safe and ends. The invariant: the room keeps its length. The measure is the number of frames that may be left.
+-- `front_cases::walk::walk` is safe and ends. The invariant: the room keeps its length. The measure is the number of
+-- frames that may be left.
 use mathlib.Core.Path.{_≡_}
 use borrow.Author.Needs.{needs}
 use lib.ListN.{length}

@@ -1,4 +1,4 @@
--- `put_caret`: the line as it is shown, and what stands under it before the caret.
+-- `put_caret`: the line as it is shown, and what is under it before the caret.
 use borrow.Author.Needs.{needs}
 use native.Mathlib.Omega.{arith}
 use mathlib.Core.Path.{_≡_, ap}

@@ -1,4 +1,4 @@
--- `put_image_refusal`: its parts, one behind the other.
+-- `put_image_refusal`: its parts, one after the other.
 use borrow.Author.Needs.{needs}
 use native.Mathlib.Omega.{arith}
 use Rattle.front_messages.specs.Messages.{imageText}

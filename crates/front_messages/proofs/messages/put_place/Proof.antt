@@ -1,4 +1,4 @@
--- `put_place`: its parts, one behind the other.
+-- `put_place`: its parts, one after the other.
 use borrow.Author.Needs.{needs}
 use native.Mathlib.Omega.{arith}
 use Rattle.front_messages.specs.Messages.{placeText}

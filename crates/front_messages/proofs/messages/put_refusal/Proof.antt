@@ -1,4 +1,4 @@
--- `put_refusal`: its parts, one behind the other.
+-- `put_refusal`: its parts, one after the other.
 use borrow.Author.Needs.{needs}
 use native.Mathlib.Omega.{arith}
 use mathlib.Core.Path.{_≡_, ap₂}

@@ -1,4 +1,4 @@
--- `put_text`: what is written, and what is left of the text behind it, are the text.
+-- `put_text`: what is written, and what is left of the text after it, are the text.
 use borrow.Author.Needs.{needs}
 use native.Mathlib.Omega.{arith}
 use mathlib.Core.Path.{_≡_, refl, ap}

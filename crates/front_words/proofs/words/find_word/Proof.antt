@@ -1,4 +1,4 @@
--- `find_word` meets its contract: word k is the word of what is left of k, from where the walk stands.
+-- `find_word` meets its contract: word k is the word of what is left of k, from where the walk is.
 use borrow.Author.Needs.{needs}
 use native.Mathlib.Omega.{arith}
 use mathlib.Core.Path.{_≡_, refl, ap, _∙_}

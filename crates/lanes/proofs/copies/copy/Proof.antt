@@ -1,4 +1,5 @@
--- `copy` meets its contract: k bytes are copied, and the last block, which begins in them or right after them, ends the copy.
+-- `copy` meets its contract: k bytes are copied, and the last block, which begins in them or right after them, ends the
+-- copy.
 use Prim.Native.Nat.{_+_, _-_, _≤_}
 use native.Mathlib.Omega.{arith}
 use mathlib.Core.Path.{_≡_, _∙_}

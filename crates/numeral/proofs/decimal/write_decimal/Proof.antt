@@ -13,7 +13,7 @@ use borrow.Author.Needs.{needs}
 use Rattle.numeral.proofs.decimal.write_decimal.Statement.{statement}
 use Rattle.numeral.proofs.decimal.write_decimal.Tie as tie
 
--- a minus, and digits right behind it
+-- a minus, and digits right after it
 minus-put : (l : List ℕ) (a : ℕ) (d : List ℕ) → a + length d + 1 ≤ length l → put (set l a 45) (a + 1) d ≡ put l a (45 ∷ d)
 minus-put l a d h =
     ap (λ (m : List ℕ). put m (a + 1) d) (put-one l a 45 (omega arith)) ∙ put-append l a (45 ∷ []) d (omega arith)

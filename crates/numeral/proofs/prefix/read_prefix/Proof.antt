@@ -1,4 +1,4 @@
--- `read_prefix`: sign, digits, and by the byte behind them a point with its digits.
+-- `read_prefix`: sign, digits, and by the byte after them a point with its digits.
 use borrow.Author.Needs.{needs}
 use borrow.Author.Tests.{eq-eqb, ne-eqb}
 use mathlib.Core.Path.{_≡_, sym, ap, ap₂, _∙_}
@@ -50,7 +50,7 @@ has-point : (c : tie.Else1) → hasPoint (c .before .before .before .before .bef
 unfolding hasPoint
 has-point c = eq-eqb _ _ (sym (tested (c .before)) ∙ c .if1 .left)
 
--- the digits behind the point
+-- the digits after the point
 start : (c : tie.Else1) → c .before .before .before .before .sign-length .result + c .before .before .read-digits .result .count + 1 ≡ pointAt (c .before .before .before .before .before .before .before .args .t .now) + 1
 start c = ap (λ (k : ℕ). k + 1) (point-is (c .before .before))
 
@@ -68,7 +68,7 @@ fraction-is c =
     ∙ ap (λ (a : ℕ). capped (digitsValue (digitsFrom a t))) (start (c .before .before))
     ∙ ap (λ (f : List ℕ). capped (digitsValue f)) (sym (fraction-some t (has-point (c .before .before))))
 
--- all of it stands in the text
+-- all of it is in the text
 end-inside : (c : tie.After-read-digits2) → pointAt (c .before .before .before .before .before .before .before .before .before .args .t .now) + 1 + length (fractionDigits (c .before .before .before .before .before .before .before .before .before .args .t .now)) ≤ length (c .before .before .before .before .before .before .before .before .before .args .t .now)
 end-inside c =
     let t = c .before .before .before .before .before .before .before .before .before .args .t .now in

@@ -1,4 +1,4 @@
--- `read_number`: the text behind its leading blanks.
+-- `read_number`: the text after its leading blanks.
 use borrow.Author.Needs.{needs}
 use mathlib.Core.Path.{ap, _∙_}
 use mathlib.Core.List.{List}

@@ -1,4 +1,4 @@
--- `read_stripped`: the prefix, what stands behind it, and the judgement.
+-- `read_stripped`: the prefix, what comes after it, and the judgement.
 use borrow.Author.Needs.{needs}
 use mathlib.Core.Path.{_≡_, ap, ap₂, _∙_}
 use mathlib.Core.Bool.{cond, false}
@@ -15,7 +15,7 @@ use Rattle.numeral.proofs.Judging.{prefix-judged}
 use Rattle.numeral.proofs.reading.read_stripped.Statement.{statement}
 use Rattle.numeral.proofs.reading.read_stripped.Tie as tie
 
--- the blanks behind the prefix
+-- the blanks after the prefix
 blanks : (c : tie.After-count-blanks) → c .count-blanks .result ≡ leading isBlank (drop (prefixLength (c .before .before .before .before .args .t .now)) (c .before .before .before .before .args .t .now))
 blanks c =
     let t = c .before .before .before .before .args .t .now in

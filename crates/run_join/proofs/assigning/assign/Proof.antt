@@ -9,33 +9,26 @@ use Rattle.run_join.proofs.assigning.assign.Lts as lts
 use Rattle.run_join.proofs.assigning.set_field.Reads as set-field-reads
 use Rattle.run_records.proofs.set_record.Reads as set-record-reads
 
--- src/assigning.rt:72:9
 set-record-requires : tie.Need-set-record-requires
 set-record-requires c κs = search needs
 
--- src/assigning.rt:72:9
 same-length : tie.Need-same-length
 same-length c = search needs
 
--- src/assigning.rt:72:9
 returns : tie.Need-returns
 returns c =
     let a = c .before .before .before .before .before .before .before .args in
     assigns-record (a .edition .number) (a .t .now) (a .kind) (a .work .now) _ (a .line) (c .before .before .set-record .result .line) (a .v) (c .before .before .set-record .result .outcome) (a .k) (c .before .before .before .before .if1 .taken) (c .before .before .set-record .ensures)
 
--- src/assigning.rt:74:45
 sub-set-field : tie.Need-sub-set-field
 sub-set-field c = search needs
 
--- src/assigning.rt:74:5
 set-field-requires : tie.Need-set-field-requires
 set-field-requires c κs = search needs
 
--- src/assigning.rt:67:1
 same-length-2 : tie.Need-same-length-2
 same-length-2 c = search needs
 
--- src/assigning.rt:67:1
 returns-2 : tie.Need-returns-2
 returns-2 c =
     let a = c .before .before .before .before .before .before .before .args in

@@ -20,27 +20,21 @@ use Rattle.run_parts.proofs.measuring.too_long.Reads as too-long-reads
 use Rattle.run_lines.proofs.split_all.Reads as split-all-reads
 use Rattle.run_room.proofs.show.Reads as show-reads
 
--- src/assigning.rt:43:9
 show-requires : tie.Need-show-requires
 show-requires c κs = search needs
 
--- src/assigning.rt:44:9
 split-all-requires : tie.Need-split-all-requires
 split-all-requires c κs = search needs
 
--- src/assigning.rt:45:9
 field-count-requires : tie.Need-field-count-requires
 field-count-requires c κs = search needs
 
--- src/assigning.rt:46:9
 too-long-requires : tie.Need-too-long-requires
 too-long-requires c κs = search needs
 
--- src/assigning.rt:48:9
 same-length : tie.Need-same-length
 same-length c = search needs
 
--- src/assigning.rt:48:9
 returns : tie.Need-returns
 returns c =
     let a = c .before .before .before .before .before .before .before .before .before .before .before .before .before .before .args in
@@ -54,15 +48,12 @@ returns c =
     let lb : length b ≡ c .before .before .before .before .before .before .before .before .before .before .show .result = length-part (ofsSlot * slotBytes + headSize) (c .before .before .before .before .before .before .before .before .before .before .show .result) y (omega (arith, fits, o .most)) in
     set-long (a .edition .number) (a .t .now) (a .kind) (a .work .now) u y (a .line) (c .before .before .before .before .before .before .split-all .result) (a .k) (a .v) (c .before .before .before .field-count .result) (c .before .before .before .before .before .before .before .before .before .before .show .result) (p .0) (p .1) o d (p .4) (c .before .before .before .field-count .ensures) (c .before .too-long .ensures .long (c .if1 .taken) b lb)
 
--- src/assigning.rt:53:16
 mul-from : tie.Need-mul-from
 mul-from c = search needs
 
--- src/assigning.rt:53:16
 add-from : tie.Need-add-from
 add-from c = search needs
 
--- src/assigning.rt:54:9
 join-all-requires : tie.Need-join-all-requires
 join-all-requires c κs =
     let a = c .before .before .before .before .before .before .before .before .before .before .before .before .before .before .before .args in
@@ -83,7 +74,6 @@ join-all-requires c κs =
       omega (arith, c .before .before .too-long .ensures .short (c .before .if1 .left) b lb),
     )
 
--- src/assigning.rt:58:19
 sub-t20 : tie.Need-sub-t20
 sub-t20 c =
     let a = c .before .before .before .before .before .before .before .before .before .before .before .before .before .before .before .before .before .before .before .args in
@@ -97,7 +87,6 @@ sub-t20 c =
     let lb : length b ≡ c .before .before .before .before .before .before .before .before .before .before .before .before .before .before .before .show .result = length-part (ofsSlot * slotBytes + headSize) (c .before .before .before .before .before .before .before .before .before .before .before .before .before .before .before .show .result) y (omega (arith, fits, o .most)) in
     omega (arith, c .before .before .before .join-all .ensures .place, c .before .before .before .before .before .before .too-long .ensures .short (c .before .before .before .before .before .if1 .left) b lb, d .side, p .1 .placed .side)
 
--- src/assigning.rt:61:20
 add-t23 : tie.Need-add-t23
 add-t23 c =
     let a = c .before .before .before .before .before .before .before .before .before .before .before .before .before .before .before .before .before .before .before .args in
@@ -111,11 +100,9 @@ add-t23 c =
     let lb : length b ≡ c .before .before .before .before .before .before .before .before .before .before .before .before .before .before .before .show .result = length-part (ofsSlot * slotBytes + headSize) (c .before .before .before .before .before .before .before .before .before .before .before .before .before .before .before .show .result) y (omega (arith, fits, o .most)) in
     omega (arith, c .before .before .before .join-all .ensures .place, c .before .before .before .before .before .before .too-long .ensures .short (c .before .before .before .before .before .if1 .left) b lb, d .side, p .1 .placed .side)
 
--- src/assigning.rt:34:1
 same-length-2 : tie.Need-same-length-2
 same-length-2 c = search needs
 
--- src/assigning.rt:34:1
 returns-2 : tie.Need-returns-2
 returns-2 c =
     let a = c .before .before .before .before .before .before .before .before .before .before .before .before .before .before .before .before .before .before .before .args in

@@ -13,50 +13,39 @@ use Rattle.run_join.proofs.assigning.assign.Reads as assign-reads
 use Rattle.run_lines.proofs.field_number.Reads as field-number-reads
 use Rattle.run_room.proofs.copy_slot.Reads as copy-slot-reads
 
--- src/assigning.rt:82:9
 field-number-requires : tie.Need-field-number-requires
 field-number-requires c κs = search needs
 
--- src/assigning.rt:84:9
 same-length : tie.Need-same-length
 same-length c = search needs
 
--- src/assigning.rt:84:9
 returns : tie.Need-returns
 returns c = let a = c .before .before .before .before .before .before .args in let p = c .before .before .before .before .before .before .pre in stores-stop (a .edition .number) (a .t .now) (a .kind) (a .work .now) (a .line) (a .a) (p .1) (p .3) (c .before .before .field-number .result) (c .before .before .field-number .ensures) (c .if1 .taken)
 
--- src/assigning.rt:89:55
 add-assign : tie.Need-add-assign
 add-assign c = search needs
 
--- src/assigning.rt:89:9
 assign-requires : tie.Need-assign-requires
 assign-requires c κs =
     let a = c .before .before .before .before .before .before .before .args in
     let p = c .before .before .before .before .before .before .before .pre in
     (p .0, p .1, p .2, field-most (fieldNumber (slotAt (a .work .now) (a .a))) (c .before .before .before .field-number .result) (c .before .before .before .field-number .ensures) (c .before .if1 .left), p .3)
 
--- src/assigning.rt:91:9
 same-length-2 : tie.Need-same-length-2
 same-length-2 c = search needs
 
--- src/assigning.rt:91:9
 returns-2 : tie.Need-returns-2
 returns-2 c = let a = c .before .before .before .before .before .before .before .before .before .before .before .before .args in let p = c .before .before .before .before .before .before .before .before .before .before .before .before .pre in stores-refused (a .edition .number) (a .t .now) (a .kind) (a .work .now) (a .line) (a .a) (p .1) (p .3) (c .before .before .before .before .before .before .before .before .field-number .result) (c .before .before .before .before .before .before .before .before .field-number .ensures) (c .before .before .before .before .before .before .if1 .left) _ (c .before .before .before .before .assign .result .line) (c .before .before .before .before .assign .result .outcome) (c .before .before .before .before .assign .ensures) (c .if2 .taken)
 
--- src/assigning.rt:93:31
 add-copy-slot : tie.Need-add-copy-slot
 add-copy-slot c = search needs
 
--- src/assigning.rt:93:5
 copy-slot-requires : tie.Need-copy-slot-requires
 copy-slot-requires c κs = search needs
 
--- src/assigning.rt:78:1
 same-length-3 : tie.Need-same-length-3
 same-length-3 c = search needs
 
--- src/assigning.rt:78:1
 returns-3 : tie.Need-returns-3
 returns-3 c = let a = c .before .before .before .before .before .before .before .before .before .before .before .before .before .before .before .before .args in let p = c .before .before .before .before .before .before .before .before .before .before .before .before .before .before .before .before .pre in stores-value (a .edition .number) (a .t .now) (a .kind) (a .work .now) (a .line) (a .a) (p .1) (p .3) (c .before .before .before .before .before .before .before .before .before .before .before .before .field-number .result) (c .before .before .before .before .before .before .before .before .before .before .before .before .field-number .ensures) (c .before .before .before .before .before .before .before .before .before .before .if1 .left) (c .before .before .before .before .before .before .before .before .assign .last .0) (c .before .before .before .before .before .before .before .before .assign .result .line) (c .before .before .before .before .before .before .before .before .assign .result .outcome) (c .before .before .before .before .before .before .before .before .assign .ensures) (c .before .before .before .before .if2 .left) _ (c .before .before .copy-slot .ensures)
 

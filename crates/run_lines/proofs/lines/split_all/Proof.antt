@@ -8,23 +8,18 @@ use Rattle.run_lines.proofs.lines.split_all.Lts as lts
 use Rattle.run_lines.proofs.lines.split_to.Reads as split-to-reads
 use Rattle.run_room.proofs.lines.Line.split.Reads as split-reads
 
--- src/lines.rt:58:9
 split-to-requires : tie.Need-split-to-requires
 split-to-requires c κs = search needs
 
--- src/lines.rt:59:22
 add-split : tie.Need-add-split
 add-split c = search needs
 
--- src/lines.rt:59:5
 split-requires : tie.Need-split-requires
 split-requires c κs = search needs
 
--- src/lines.rt:54:1
 same-length : tie.Need-same-length
 same-length c = search needs
 
--- src/lines.rt:54:1
 returns : tie.Need-returns
 returns c =
     let a = c .before .before .before .before .before .before .before .before .args in

@@ -13,43 +13,33 @@ use Rattle.run_room.proofs.lines.Line.split.Reads as split-reads
 use Rattle.run_room.proofs.record_start.Reads as record-start-reads
 use Rattle.separators.proofs.next_field.Reads as next-field-reads
 
--- src/lines.rt:21:9
 record-start-requires : tie.Need-record-start-requires
 record-start-requires c κs = search needs
 
--- src/lines.rt:22:13
 add-e : tie.Need-add-e
 add-e c = search needs
 
--- src/lines.rt:23:36
 sub-next-field : tie.Need-sub-next-field
 sub-next-field c = search needs
 
--- src/lines.rt:23:36
 part-next-field-start : tie.Need-part-next-field-start
 part-next-field-start c = search needs
 
--- src/lines.rt:23:36
 part-next-field-end : tie.Need-part-next-field-end
 part-next-field-end c = search needs
 
--- src/lines.rt:23:9
 next-field-requires : tie.Need-next-field-requires
 next-field-requires c κs = search needs
 
--- src/lines.rt:25:39
 add-split : tie.Need-add-split
 add-split c = search needs
 
--- src/lines.rt:25:9
 split-requires : tie.Need-split-requires
 split-requires c κs = search needs
 
--- src/lines.rt:25:9
 same-length : tie.Need-same-length
 same-length c = search needs
 
--- src/lines.rt:25:9
 returns : tie.Need-returns
 returns c =
     let a = c .before .before .before .before .before .before .before .before .before .before .before .args in
@@ -58,7 +48,6 @@ returns c =
     ended (a .edition .number) (a .t .now) (a .kind) (a .work .now) (a .line) (p .0) (p .1) (p .3) (c .before .before .before .before .before .before .before .before .record-start .result) (c .before .before .before .before .before .before .before .before .record-start .ensures)
     (f .result) (f .ensures) (c .split .result) (not-true _ (c .before .before .if1 .taken)) (c .split .ensures)
 
--- src/lines.rt:33:5
 put-entry-requires : tie.Need-put-entry-requires
 put-entry-requires c κs =
     let a = c .before .before .before .before .before .before .before .before .before .before .args in
@@ -69,19 +58,15 @@ put-entry-requires c κs =
     (f .result) (f .ensures) (not-false _ (c .before .if1 .left)) in
     (p .0, p .4, omega (arith, b .0, p .1 .size), omega (arith, b .0, p .1 .size))
 
--- src/lines.rt:34:16
 add-split-2 : tie.Need-add-split-2
 add-split-2 c = search needs
 
--- src/lines.rt:34:5
 split-requires-2 : tie.Need-split-requires-2
 split-requires-2 c κs = search needs
 
--- src/lines.rt:16:1
 same-length-2 : tie.Need-same-length-2
 same-length-2 c = search needs
 
--- src/lines.rt:16:1
 returns-2 : tie.Need-returns-2
 returns-2 c =
     let a = c .before .before .before .before .before .before .before .before .before .before .before .before .before .before .before .args in

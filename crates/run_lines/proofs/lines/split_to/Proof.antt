@@ -15,19 +15,15 @@ Inv-loop work₀ t kind edition k r₀ work r = (Splits (edition .number) t kind
 abbrev μ-loop : tie.MeasureT-loop
 μ-loop work₀ t kind edition k r₀ work r = suc (r .size) - r .after
 
--- src/lines.rt:44:5
 loop-holds : tie.Need-loop-holds Inv-loop μ-loop
 loop-holds c = let a = c .before .before .args in (splits-none (a .edition .number) (a .t .now) (a .kind) (a .work .now) (a .line), λ h. h)
 
--- src/lines.rt:46:13
 same-length : tie.Need-same-length Inv-loop μ-loop
 same-length c = c .before .before .before .before .loop .inv .0 .outside .size
 
--- src/lines.rt:46:13
 returns : tie.Need-returns Inv-loop μ-loop
 returns c = (λ h. c .if2 .taken, c .before .before .before .before .loop .inv .1, c .before .before .before .before .loop .inv .0)
 
--- src/lines.rt:48:9
 split-one-requires : tie.Need-split-one-requires Inv-loop μ-loop
 split-one-requires c κs =
     let a = c .before .before .before .before .before .before .before .before .args in
@@ -36,11 +32,9 @@ split-one-requires c κs =
     let placed = splits-placed (a .edition .number) (a .t .now) (a .kind) (a .work .now) (c .before .before .before .before .before .loop .work) (a .line) (c .before .before .before .before .before .loop .r) (p .1) i in
     (omega (arith, i .outside .size, p .0), placed, p .2, c .before .if2 .left, omega (arith, c .before .before .before .if1 .taken, p .3))
 
--- src/lines.rt:44:5
 loop-less : tie.Need-loop-less Inv-loop μ-loop
 loop-less c = omega (arith, c .before .before .before .before .if2 .left, c .before .before .split-one .ensures .0, c .before .before .split-one .ensures .2 .size)
 
--- src/lines.rt:44:5
 loop-again : tie.Need-loop-again Inv-loop μ-loop
 loop-again c =
     let a = c .before .before .before .before .before .before .before .before .before .before .before .args in
@@ -50,11 +44,9 @@ loop-again c =
       λ h. omega (arith, c .before .before .before .before .before .before .if1 .taken, o .1),
     )
 
--- src/lines.rt:38:1
 same-length-2 : tie.Need-same-length-2 Inv-loop μ-loop
 same-length-2 c = c .before .before .loop .inv .0 .outside .size
 
--- src/lines.rt:38:1
 returns-2 : tie.Need-returns-2 Inv-loop μ-loop
 returns-2 c = (λ h. absurd (omega (arith, h, c .if1 .left)), c .before .before .loop .inv .1, c .before .before .loop .inv .0)
 

@@ -10,23 +10,18 @@ use Rattle.run_lines.proofs.numbers.field_number.Reads as reads
 use Rattle.run_lines.proofs.numbers.field_number.Lts as lts
 use Rattle.run_lines.proofs.numbers.take_number.Reads as take-number-reads
 
--- src/numbers.rt:65:9
 take-number-requires : tie.Need-take-number-requires
 take-number-requires c κs = search needs
 
--- src/numbers.rt:67:9
 returns : tie.Need-returns
 returns c = let a = c .before .before .before .before .args in field-stops _ (c .before .before .take-number .result) (slotAt (a .work .now) (a .i)) (c .before .before .take-number .ensures) (c .if1 .taken) refl
 
--- src/numbers.rt:70:9
 returns-2 : tie.Need-returns-2
 returns-2 c = let a = c .before .before .before .before .before .before .args in field-low _ (c .before .before .before .before .take-number .result) (slotAt (a .work .now) (a .i)) (c .before .before .before .before .take-number .ensures) (c .before .before .if1 .left) (c .if2 .taken) refl
 
--- src/numbers.rt:74:9
 returns-3 : tie.Need-returns-3
 returns-3 c = let a = c .before .before .before .before .before .before .before .before .args in field-over _ (c .before .before .before .before .before .before .take-number .result) (slotAt (a .work .now) (a .i)) (c .before .before .before .before .before .before .take-number .ensures) (c .before .before .before .before .if1 .left) (c .before .before .if2 .left) (c .if3 .taken) refl
 
--- src/numbers.rt:61:1
 returns-4 : tie.Need-returns-4
 returns-4 c = let a = c .before .before .before .before .before .before .before .before .args in field-some _ (c .before .before .before .before .before .before .take-number .result) (slotAt (a .work .now) (a .i)) (c .before .before .before .before .before .before .take-number .ensures) (c .before .before .before .before .if1 .left) (c .before .before .if2 .left) (c .if3 .left) refl refl
 

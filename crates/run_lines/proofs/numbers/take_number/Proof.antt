@@ -13,31 +13,24 @@ use Rattle.run_room.proofs.slot_kind.Reads as slot-kind-reads
 use Rattle.run_room.proofs.slot_number.Reads as slot-number-reads
 use Rattle.run_room.proofs.slot_text.Reads as slot-text-reads
 
--- src/numbers.rt:44:9
 slot-kind-requires : tie.Need-slot-kind-requires
 slot-kind-requires c κs = search needs
 
--- src/numbers.rt:48:19
 slot-number-requires : tie.Need-slot-number-requires
 slot-number-requires c κs = search needs
 
--- src/numbers.rt:46:9
 returns : tie.Need-returns
 returns c = let a = c .before .before .before .before .args in taken-number (slotAt (a .work .now) (a .i)) (c .before .before .slot-kind .result) _ (c .before .before .slot-kind .ensures) (c .before .if1 .taken) (c .slot-number .ensures .within) (c .slot-number .ensures .value) refl
 
--- src/numbers.rt:52:9
 returns-2 : tie.Need-returns-2
 returns-2 c = let a = c .before .before .before .before .args in taken-unset (slotAt (a .work .now) (a .i)) (c .before .before .slot-kind .result) _ (c .before .before .slot-kind .ensures) (c .if2 .taken) refl refl
 
--- src/numbers.rt:57:17
 slot-text-requires : tie.Need-slot-text-requires
 slot-text-requires c κs = search needs
 
--- src/numbers.rt:57:5
 text-number-requires : tie.Need-text-number-requires
 text-number-requires c κs = search needs
 
--- src/numbers.rt:40:1
 returns-3 : tie.Need-returns-3
 returns-3 c =
     let a = c .before .before .before .before .before .before .args in

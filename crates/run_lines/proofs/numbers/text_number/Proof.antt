@@ -9,31 +9,24 @@ use Rattle.run_lines.proofs.numbers.text_number.Reads as reads
 use Rattle.run_lines.proofs.numbers.text_number.Lts as lts
 use Rattle.numeral.proofs.read_number.Reads as read-number-reads
 
--- src/numbers.rt:30:9
 read-number-requires : tie.Need-read-number-requires
 read-number-requires c κs = search needs
 
--- src/numbers.rt:33:19
 enum-known-v : tie.Need-enum-known-v
 enum-known-v c = search needs
 
--- src/numbers.rt:34:30
 enum-told : tie.Need-enum-told
 enum-told c = search needs
 
--- src/numbers.rt:35:28
 enum-told-2 : tie.Need-enum-told-2
 enum-told-2 c = search needs
 
--- src/numbers.rt:27:1
 returns : tie.Need-returns
 returns c = taken-is (numberOf (c .before .before .before .before .before .args .text .now)) (c .before .before .before .read-number .result .value) (c .before .before .before .read-number .ensures .number) _ _ (c .before .v .given .1) refl refl
 
--- src/numbers.rt:27:1
 returns-2 : tie.Need-returns-2
 returns-2 c = taken-out (numberOf (c .before .before .before .before .args .text .now)) (c .before .before .read-number .result .value) (c .before .before .read-number .ensures .number) _ (c .enum-told .given .1) refl
 
--- src/numbers.rt:27:1
 returns-3 : tie.Need-returns-3
 returns-3 c = taken-part (numberOf (c .before .before .before .before .args .text .now)) (c .before .before .read-number .result .value) (c .before .before .read-number .ensures .number) _ (c .enum-told2 .given .1) refl
 

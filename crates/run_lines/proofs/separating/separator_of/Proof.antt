@@ -9,47 +9,36 @@ use Rattle.run_lines.proofs.separating.separator_of.Lts as lts
 use Rattle.run_room.proofs.show.Reads as show-reads
 use Rattle.separators.proofs.kind_of.Reads as kind-of-reads
 
--- src/separating.rt:40:9
 show-requires : tie.Need-show-requires
 show-requires c κs = search needs
 
--- src/separating.rt:41:16
 mul-from : tie.Need-mul-from
 mul-from c = search needs
 
--- src/separating.rt:41:16
 add-from : tie.Need-add-from
 add-from c = search needs
 
--- src/separating.rt:42:15
 add-end : tie.Need-add-end
 add-end c = search needs
 
--- src/separating.rt:43:25
 sub-kind-of : tie.Need-sub-kind-of
 sub-kind-of c = search needs
 
--- src/separating.rt:43:25
 part-kind-of-start : tie.Need-part-kind-of-start
 part-kind-of-start c = search needs
 
--- src/separating.rt:43:25
 part-kind-of-end : tie.Need-part-kind-of-end
 part-kind-of-end c = search needs
 
--- src/separating.rt:43:5
 kind-of-requires : tie.Need-kind-of-requires
 kind-of-requires c κs = search needs
 
--- src/separating.rt:36:1
 same-length : tie.Need-same-length
 same-length c = search needs
 
--- src/separating.rt:36:1
 same-length-2 : tie.Need-same-length-2
 same-length-2 c = search needs
 
--- src/separating.rt:36:1
 returns : tie.Need-returns
 returns c =
     let a = c .before .before .before .before .before .before .before .before .before .before .before .before .args in

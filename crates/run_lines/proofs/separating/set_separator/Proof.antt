@@ -10,19 +10,15 @@ use Rattle.run_lines.proofs.separating.set_separator.Lts as lts
 use Rattle.run_lines.proofs.lines.split_all.Reads as split-all-reads
 use Rattle.run_room.proofs.copy_slot.Reads as copy-slot-reads
 
--- src/separating.rt:30:9
 split-all-requires : tie.Need-split-all-requires
 split-all-requires c κs = search needs
 
--- src/separating.rt:31:5
 copy-slot-requires : tie.Need-copy-slot-requires
 copy-slot-requires c κs = search needs
 
--- src/separating.rt:24:1
 same-length : tie.Need-same-length
 same-length c = search needs
 
--- src/separating.rt:24:1
 returns : tie.Need-returns
 returns c =
     let a = c .before .before .before .before .before .before .before .before .before .before .args in

@@ -14,23 +14,18 @@ use Rattle.run_parts.proofs.joining.grow_text.Lts as lts
 use Rattle.run_room.proofs.copy_blocks.Reads as copy-blocks-reads
 use Rattle.run_room.proofs.record_start.Reads as record-start-reads
 
--- src/joining.rt:23:39
 record-start-requires : tie.Need-record-start-requires
 record-start-requires c κs = search needs
 
--- src/joining.rt:23:39
 add-copy-blocks : tie.Need-add-copy-blocks
 add-copy-blocks c = search needs
 
--- src/joining.rt:23:5
 copy-blocks-requires : tie.Need-copy-blocks-requires
 copy-blocks-requires c κs = (omega (arith, c .record-start .ensures), omega (arith, c .record-start .ensures), ⊎-elim (λ h. inr (omega (arith, h, c .record-start .ensures))) (λ h. inl (omega (arith, h, c .record-start .ensures))) (c .before .before .before .pre .4))
 
--- src/joining.rt:18:1
 same-length : tie.Need-same-length
 same-length c = search needs
 
--- src/joining.rt:18:1
 returns : tie.Need-returns
 returns c =
     let a = c .before .before .before .before .before .before .args in

@@ -20,11 +20,9 @@ Inv-loop work₀ line k v count from n i₀ at₀ work i at = (i ≤ count) × (
 abbrev μ-loop : tie.MeasureT-loop
 μ-loop work₀ line k v count from n i₀ at₀ work i at = count - i
 
--- src/joining.rt:87:5
 loop-holds : tie.Need-loop-holds Inv-loop μ-loop
 loop-holds c = let a = c .before .args in (omega arith, joins-none (a .work .now) (a .line) (a .k) (a .v) (part (a .from) (a .n) (a .work .now)))
 
--- src/joining.rt:88:9
 join-one-requires : tie.Need-join-one-requires Inv-loop μ-loop
 join-one-requires c κs =
     let a = c .before .before .before .before .args in
@@ -39,15 +37,12 @@ join-one-requires c κs =
       join-bound (a .work .now) (c .before .before .loop .work) (a .line) (a .k) (a .v) b (c .before .before .loop .i) (c .before .before .loop .at) (p .0) (p .1) (p .3) (omega (arith, c .before .loop-test .taken, p .2)) (c .before .before .loop .inv .1) (a .from) (a .n) (a .count) refl (omega (arith, p .5)) (c .before .loop-test .taken) (p .6),
     )
 
--- src/joining.rt:89:9
 add-i : tie.Need-add-i Inv-loop μ-loop
 add-i c = omega arith
 
--- src/joining.rt:87:5
 loop-less : tie.Need-loop-less Inv-loop μ-loop
 loop-less c = omega (arith, c .before .before .before .before .loop-test .taken)
 
--- src/joining.rt:87:5
 loop-again : tie.Need-loop-again Inv-loop μ-loop
 loop-again c =
     let a = c .before .before .before .before .before .before .before .args in
@@ -63,11 +58,9 @@ loop-again c =
           (joins-more (a .work .now) (c .before .before .before .before .before .loop .work) (a .line) (a .k) (a .v) b (c .before .before .before .before .before .loop .i) (c .before .before .before .before .before .loop .at) (p .0) (p .1) (p .3) (omega (arith, c .before .before .before .before .loop-test .taken, p .2)) (c .before .before .before .before .before .loop .inv .1) _ (c .before .before .join-one .result) (omega (arith, most, p .6)) o),
     )
 
--- src/joining.rt:80:1
 same-length : tie.Need-same-length Inv-loop μ-loop
 same-length c = c .before .loop .inv .1 .outside .size
 
--- src/joining.rt:80:1
 returns : tie.Need-returns Inv-loop μ-loop
 returns c =
     let a = c .before .before .before .args in

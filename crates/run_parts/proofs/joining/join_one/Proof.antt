@@ -16,19 +16,15 @@ use Rattle.run_parts.proofs.joining.put_text.Reads as put-text-reads
 use Rattle.run_parts.proofs.parts.field_part.Reads as field-part-reads
 use Rattle.run_room.proofs.put_entry.Reads as put-entry-reads
 
--- src/joining.rt:65:16
 sub-side : tie.Need-sub-side
 sub-side c = search needs
 
--- src/joining.rt:66:9
 field-part-requires : tie.Need-field-part-requires
 field-part-requires c κs = search needs
 
--- src/joining.rt:67:9
 put-gap-requires : tie.Need-put-gap-requires
 put-gap-requires c κs = search needs
 
--- src/joining.rt:68:9
 put-text-requires : tie.Need-put-text-requires
 put-text-requires c κs =
     let a = c .before .before .before .before .before .before .before .before .before .args in
@@ -38,7 +34,6 @@ put-text-requires c κs =
     let e = ap (λ (q : Value). length (textOf q)) (value-kept (a .work .now) _ side (a .at) _ (c .before .before .before .before .before .field-part .result) part-of (c .before .before .before .put-gap .ensures .1) _ (c .before .before .before .before .before .field-part .ensures .0)) in
     (omega (arith, p .0, c .before .before .before .put-gap .ensures .1 .outside .size), omega (arith, p .1 .side), part-of, omega (arith, e, c .before .before .before .put-gap .ensures .0, p .6))
 
--- src/joining.rt:75:5
 put-entry-requires : tie.Need-put-entry-requires
 put-entry-requires c κs =
     let a = c .before .before .before .before .before .before .before .before .before .before .before .before .before .args in
@@ -48,7 +43,6 @@ put-entry-requires c κs =
     let e = ap (λ (q : Value). length (textOf q)) (value-kept (a .work .now) _ side (a .at) _ (c .before .before .before .before .before .before .before .before .before .field-part .result) part-of (c .before .before .before .before .before .before .before .put-gap .ensures .1) _ (c .before .before .before .before .before .before .before .before .before .field-part .ensures .0)) in
     (omega (arith, p .0, c .before .before .before .before .before .before .before .put-gap .ensures .1 .outside .size, c .before .before .before .put-text .ensures .1 .outside .size), p .2, omega (arith, c .before .before .before .before .before .before .before .put-gap .ensures .0, p .6), omega (arith, e, c .before .before .before .put-text .ensures .0, p .6))
 
--- src/joining.rt:76:5
 add-result : tie.Need-add-result
 add-result c =
     let a = c .before .before .before .before .before .before .before .before .before .before .before .before .before .before .before .before .args in
@@ -58,11 +52,9 @@ add-result c =
     let e = ap (λ (q : Value). length (textOf q)) (value-kept (a .work .now) _ side (a .at) _ (c .before .before .before .before .before .before .before .before .before .before .before .before .field-part .result) part-of (c .before .before .before .before .before .before .before .before .before .before .put-gap .ensures .1) _ (c .before .before .before .before .before .before .before .before .before .before .before .before .field-part .ensures .0)) in
     omega (arith, e, c .before .before .before .before .before .before .before .before .before .before .put-gap .ensures .0, c .before .before .before .before .before .before .put-text .ensures .0, p .6)
 
--- src/joining.rt:60:1
 same-length : tie.Need-same-length
 same-length c = search needs
 
--- src/joining.rt:60:1
 returns : tie.Need-returns
 returns c =
     let a = c .before .before .before .before .before .before .before .before .before .before .before .before .before .before .before .before .args in

@@ -12,29 +12,24 @@ use Rattle.run_parts.proofs.joining.put_gap.Reads as reads
 use Rattle.run_parts.proofs.joining.put_gap.Lts as lts
 use Rattle.run_parts.proofs.joining.grow_text.Reads as grow-text-reads
 
--- src/joining.rt:34:9
 returns : tie.Need-returns
 returns c =
     let a = c .before .before .args in
     let e = gap-none (part (a .from) (a .n) (a .work .now)) (a .i) (c .if1 .taken) in
     (omega (arith, ap length e), grown-is (a .work .now) (a .work .now) (a .side) (a .at) _ _ (sym e) (grown-none (a .work .now) (a .side) (a .at) (c .before .before .pre .0) (c .before .before .pre .1)))
 
--- src/joining.rt:36:5
 grow-text-requires : tie.Need-grow-text-requires
 grow-text-requires c κs =
     let a = c .before .before .before .args in
     let p = c .before .before .before .pre in
     (p .0, p .1, omega (arith, gap-size (a .work .now) (a .from) (a .n) (a .i) (omega (arith, p .0, p .4)) (c .before .if1 .left), p .2), omega (arith, p .4), inl (omega (arith, p .4)))
 
--- src/joining.rt:37:5
 add-result : tie.Need-add-result
 add-result c = search needs
 
--- src/joining.rt:27:1
 same-length : tie.Need-same-length
 same-length c = search needs
 
--- src/joining.rt:27:1
 returns-2 : tie.Need-returns-2
 returns-2 c =
     let a = c .before .before .before .before .before .before .args in

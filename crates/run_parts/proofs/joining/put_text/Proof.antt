@@ -19,19 +19,15 @@ use Rattle.run_parts.proofs.joining.grow_text.Reads as grow-text-reads
 use Rattle.run_parts.proofs.parts.least_word.Reads as least-word-reads
 use Rattle.run_room.proofs.record_start.Reads as record-start-reads
 
--- src/joining.rt:49:13
 least-word-requires : tie.Need-least-word-requires
 least-word-requires c κs = search needs
 
--- src/joining.rt:50:45
 record-start-requires : tie.Need-record-start-requires
 record-start-requires c κs = search needs
 
--- src/joining.rt:50:45
 add-write-decimal : tie.Need-add-write-decimal
 add-write-decimal c = search needs
 
--- src/joining.rt:50:9
 write-decimal-requires : tie.Need-write-decimal-requires
 write-decimal-requires c κs =
     let a = c .before .before .before .before .before .args in
@@ -40,11 +36,9 @@ write-decimal-requires c κs =
     let e = ap length (number-text (q .kind) (q .word) (c .before .before .least-word .result) (part (q .from) (q .size) (a .work .now)) (c .before .before .before .if1 .taken) (c .before .before .least-word .ensures)) in
     (omega (arith, c .before .before .least-word .ensures), omega (arith, e, p .3, c .record-start .ensures))
 
--- src/joining.rt:50:9
 same-length : tie.Need-same-length
 same-length c = search needs
 
--- src/joining.rt:50:9
 returns : tie.Need-returns
 returns c =
     let a = c .before .before .before .before .before .before .before .before .args in
@@ -58,7 +52,6 @@ returns c =
           (c .before .before .write-decimal .ensures .1 ∙ ap (λ (m : ℕ). put (a .work .now) (m + a .at) (decimalText (unbias (c .before .before .before .before .before .least-word .result)))) (c .before .before .before .record-start .ensures))),
     )
 
--- src/joining.rt:53:9
 returns-2 : tie.Need-returns-2
 returns-2 c =
     let a = c .before .before .before .args in
@@ -67,7 +60,6 @@ returns-2 c =
     let e = text-low (q .kind) (q .word) (part (q .from) (q .size) (a .work .now)) (c .before .if1 .left) (c .if2 .taken) in
     (ap length (sym e), grown-is (a .work .now) (a .work .now) (a .side) (a .at) _ _ (sym e) (grown-none (a .work .now) (a .side) (a .at) (p .0) (p .1)))
 
--- src/joining.rt:55:5
 grow-text-requires : tie.Need-grow-text-requires
 grow-text-requires c κs =
     let a = c .before .before .before .before .args in
@@ -76,11 +68,9 @@ grow-text-requires c κs =
     let e = ap length (text-words (q .kind) (q .word) (part (q .from) (q .size) (a .work .now)) (c .before .if2 .left)) in
     (p .0, p .1, omega (arith, e, length-part (q .from) (q .size) (a .work .now) (omega (arith, p .0, p .2 .fits)), p .3), p .2 .fits, p .2 .apart)
 
--- src/joining.rt:41:1
 same-length-2 : tie.Need-same-length-2
 same-length-2 c = search needs
 
--- src/joining.rt:41:1
 returns-3 : tie.Need-returns-3
 returns-3 c =
     let a = c .before .before .before .before .before .before .before .args in

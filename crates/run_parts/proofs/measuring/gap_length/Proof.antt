@@ -8,11 +8,9 @@ use Rattle.run_parts.proofs.measuring.gap_length.Tie as tie
 use Rattle.run_parts.proofs.measuring.gap_length.Reads as reads
 use Rattle.run_parts.proofs.measuring.gap_length.Lts as lts
 
--- src/measuring.rt:38:9
 returns : tie.Need-returns
 returns c = (omega arith, λ b e. sym (ap length (gap-none b (c .before .args .i) (c .if1 .taken))))
 
--- src/measuring.rt:34:1
 returns-2 : tie.Need-returns-2
 returns-2 c = (omega arith, λ b e. sym (ap length (gap-some b (c .before .args .i) (c .if1 .left)) ∙ e))
 

@@ -22,23 +22,18 @@ Inv-loop work line k v count n sum₀ i₀ sum i = (i ≤ count) × (sum ≤ tex
 abbrev μ-loop : tie.MeasureT-loop
 μ-loop work line k v count n sum₀ i₀ sum i = count - i
 
--- src/measuring.rt:50:5
 loop-holds : tie.Need-loop-holds Inv-loop μ-loop
 loop-holds c = let a = c .before .args in (omega arith, omega arith, sum-none (a .work .now) (a .line) (a .k) (a .v) (a .n))
 
--- src/measuring.rt:51:13
 field-part-requires : tie.Need-field-part-requires Inv-loop μ-loop
 field-part-requires c κs = (c .before .before .before .pre .0, c .before .before .before .pre .1, omega (arith, c .loop-test .taken, c .before .before .before .pre .2), c .before .before .before .pre .3)
 
--- src/measuring.rt:52:13
 text-length-requires : tie.Need-text-length-requires Inv-loop μ-loop
 text-length-requires c κs = tt
 
--- src/measuring.rt:54:20
 add-result : tie.Need-add-result Inv-loop μ-loop
 add-result c = omega arith
 
--- src/measuring.rt:54:13
 returns : tie.Need-returns Inv-loop μ-loop
 returns c =
     let a = c .before .before .before .before .before .before .args in
@@ -47,23 +42,18 @@ returns c =
     let m = c .before .text-length .ensures (a .work .now) (omega (arith, f .1 (1 - a .line .side) (omega (arith, p .1 .side)) .fits, p .0)) ∙ ap (λ (q : Value). length (textOf q)) (f .0) in
     measured-big (a .work .now) (a .line) (a .k) (a .v) (a .n) (c .before .before .before .before .loop .i) (a .count) (c .before .before .before .before .loop .sum) (c .before .text-length .result) (c .before .before .before .before .loop .inv .2) m (c .before .before .before .loop-test .taken) (c .if1 .taken)
 
--- src/measuring.rt:56:21
 gap-length-requires : tie.Need-gap-length-requires Inv-loop μ-loop
 gap-length-requires c κs = tt
 
--- src/measuring.rt:56:15
 add-sum : tie.Need-add-sum Inv-loop μ-loop
 add-sum c = omega (arith, c .before .before .before .before .before .loop .inv .1, c .gap-length .ensures .0, c .before .before .before .before .before .before .before .pre .4)
 
--- src/measuring.rt:56:15
 add-sum-2 : tie.Need-add-sum-2 Inv-loop μ-loop
 add-sum-2 c = omega (arith, c .before .before .before .before .before .loop .inv .1, c .gap-length .ensures .0, c .before .before .before .before .before .before .before .pre .4, c .before .if1 .left)
 
--- src/measuring.rt:58:20
 add-result-2 : tie.Need-add-result-2 Inv-loop μ-loop
 add-result-2 c = omega arith
 
--- src/measuring.rt:58:13
 returns-2 : tie.Need-returns-2 Inv-loop μ-loop
 returns-2 c =
     let a = c .before .before .before .before .before .before .before .before .args in
@@ -72,15 +62,12 @@ returns-2 c =
     let m = c .before .before .before .text-length .ensures (a .work .now) (omega (arith, f .1 (1 - a .line .side) (omega (arith, p .1 .side)) .fits, p .0)) ∙ ap (λ (q : Value). length (textOf q)) (f .0) in
     measured-over (a .work .now) (a .line) (a .k) (a .v) (a .n) (c .before .before .before .before .before .before .loop .i) (a .count) (c .before .before .before .before .before .before .loop .sum) (c .before .before .before .text-length .result) (c .before .before .before .before .before .before .loop .inv .2) m (c .before .before .before .before .before .loop-test .taken) (c .before .gap-length .result) (c .before .gap-length .ensures .1) (c .if2 .taken)
 
--- src/measuring.rt:60:9
 add-i : tie.Need-add-i Inv-loop μ-loop
 add-i c = omega (arith, c .before .before .before .before .before .loop-test .taken, c .before .before .before .before .before .before .before .before .pre .2)
 
--- src/measuring.rt:50:5
 loop-less : tie.Need-loop-less Inv-loop μ-loop
 loop-less c = omega (arith, c .before .before .before .before .before .loop-test .taken)
 
--- src/measuring.rt:50:5
 loop-again : tie.Need-loop-again Inv-loop μ-loop
 loop-again c =
     let a = c .before .before .before .before .before .before .before .before .args in
@@ -89,7 +76,6 @@ loop-again c =
     let m = c .before .before .before .text-length .ensures (a .work .now) (omega (arith, f .1 (1 - a .line .side) (omega (arith, p .1 .side)) .fits, p .0)) ∙ ap (λ (q : Value). length (textOf q)) (f .0) in
     (omega (arith, c .before .before .before .before .before .loop-test .taken), c .if2 .left, measured-more (a .work .now) (a .line) (a .k) (a .v) (a .n) (c .before .before .before .before .before .before .loop .i) (a .count) (c .before .before .before .before .before .before .loop .sum) (c .before .before .before .text-length .result) (c .before .before .before .before .before .before .loop .inv .2) m (c .before .before .before .before .before .loop-test .taken) (c .before .gap-length .result) (c .before .gap-length .ensures .1))
 
--- src/measuring.rt:44:1
 returns-3 : tie.Need-returns-3 Inv-loop μ-loop
 returns-3 c =
     let a = c .before .before .before .args in

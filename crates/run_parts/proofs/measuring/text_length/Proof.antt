@@ -13,23 +13,18 @@ use Rattle.run_parts.proofs.measuring.text_length.Lts as lts
 use Rattle.numeral.proofs.decimal_length.Reads as decimal-length-reads
 use Rattle.run_parts.proofs.parts.least_word.Reads as least-word-reads
 
--- src/measuring.rt:24:13
 least-word-requires : tie.Need-least-word-requires
 least-word-requires c κs = search needs
 
--- src/measuring.rt:25:9
 decimal-length-requires : tie.Need-decimal-length-requires
 decimal-length-requires c κs = search needs
 
--- src/measuring.rt:25:9
 returns : tie.Need-returns
 returns c = let p = c .before .before .before .args .p in λ x h. c .decimal-length .ensures ∙ ap length (sym (number-text (p .kind) (p .word) (c .before .least-word .result) (part (p .from) (p .size) x) (c .before .before .if1 .taken) (c .before .least-word .ensures)))
 
--- src/measuring.rt:28:9
 returns-2 : tie.Need-returns-2
 returns-2 c = let p = c .before .before .args .p in λ x h. ap length (sym (text-low (p .kind) (p .word) (part (p .from) (p .size) x) (c .before .if1 .left) (c .if2 .taken)))
 
--- src/measuring.rt:18:1
 returns-3 : tie.Need-returns-3
 returns-3 c = let p = c .before .before .args .p in λ x h. sym (ap length (text-words (p .kind) (p .word) (part (p .from) (p .size) x) (c .if2 .left)) ∙ length-part (p .from) (p .size) x h)
 

@@ -14,27 +14,21 @@ use Rattle.run_room.proofs.slot_kind.Reads as slot-kind-reads
 use Rattle.run_room.proofs.slot_number.Reads as slot-number-reads
 use Rattle.run_room.proofs.text_size.Reads as text-size-reads
 
--- src/parts.rt:35:19
 slot-kind-requires : tie.Need-slot-kind-requires
 slot-kind-requires c κs = search needs
 
--- src/parts.rt:36:19
 slot-number-requires : tie.Need-slot-number-requires
 slot-number-requires c κs = search needs
 
--- src/parts.rt:37:19
 mul-t11 : tie.Need-mul-t11
 mul-t11 c = search needs
 
--- src/parts.rt:37:19
 add-t12 : tie.Need-add-t12
 add-t12 c = search needs
 
--- src/parts.rt:38:19
 text-size-requires : tie.Need-text-size-requires
 text-size-requires c κs = search needs
 
--- src/parts.rt:34:9
 returns : tie.Need-returns
 returns c =
     let a = c .before .before .before .before .before .args in
@@ -44,7 +38,6 @@ returns c =
       λ side e. record { size = t .most; fits = omega (arith, t .most, c .before .before .before .before .before .pre .3); apart = inl (omega (arith, t .most, c .before .before .before .before .before .pre .3)) },
     )
 
--- src/parts.rt:42:9
 returns-2 : tie.Need-returns-2
 returns-2 c =
     let a = c .before .before .before .before .args in (
@@ -52,19 +45,15 @@ returns-2 c =
       λ side e. record { size = omega arith; fits = omega arith; apart = inl (omega arith) },
     )
 
--- src/parts.rt:49:9
 read-entry-requires : tie.Need-read-entry-requires
 read-entry-requires c κs = search needs
 
--- src/parts.rt:50:9
 record-start-requires : tie.Need-record-start-requires
 record-start-requires c κs = search needs
 
--- src/parts.rt:54:15
 add-t14 : tie.Need-add-t14
 add-t14 c = search needs
 
--- src/parts.rt:28:1
 returns-3 : tie.Need-returns-3
 returns-3 c =
     let a = c .before .before .before .before .before .before .before .args in

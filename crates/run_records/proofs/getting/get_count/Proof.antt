@@ -9,23 +9,18 @@ use Rattle.run_records.proofs.getting.get_count.Lts as lts
 use Rattle.run_lines.proofs.lines.split_all.Reads as split-all-reads
 use Rattle.run_room.proofs.set_number.Reads as set-number-reads
 
--- src/getting.rt:63:9
 split-all-requires : tie.Need-split-all-requires
 split-all-requires c κs = search needs
 
--- src/getting.rt:64:38
 add-set-number : tie.Need-add-set-number
 add-set-number c = search needs
 
--- src/getting.rt:64:5
 set-number-requires : tie.Need-set-number-requires
 set-number-requires c κs = search needs
 
--- src/getting.rt:55:1
 same-length : tie.Need-same-length
 same-length c = search needs
 
--- src/getting.rt:55:1
 returns : tie.Need-returns
 returns c =
     let a = c .before .before .before .before .before .before .before .before .before .before .args in

@@ -8,19 +8,15 @@ use Rattle.run_records.proofs.getting.get_field.Lts as lts
 use Rattle.run_records.proofs.getting.put_field.Reads as put-field-reads
 use Rattle.run_lines.proofs.lines.split_to.Reads as split-to-reads
 
--- src/getting.rt:49:9
 split-to-requires : tie.Need-split-to-requires
 split-to-requires c κs = search needs
 
--- src/getting.rt:50:5
 put-field-requires : tie.Need-put-field-requires
 put-field-requires c κs = search needs
 
--- src/getting.rt:41:1
 same-length : tie.Need-same-length
 same-length c = search needs
 
--- src/getting.rt:41:1
 returns : tie.Need-returns
 returns c =
     let a = c .before .before .before .before .before .before .before .before .before .before .args in

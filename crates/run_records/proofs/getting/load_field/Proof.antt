@@ -11,30 +11,24 @@ use Rattle.run_records.proofs.getting.load_field.Lts as lts
 use Rattle.run_records.proofs.getting.get_field.Reads as get-field-reads
 use Rattle.run_lines.proofs.numbers.field_number.Reads as field-number-reads
 
--- src/getting.rt:94:9
 field-number-requires : tie.Need-field-number-requires
 field-number-requires c κs = search needs
 
--- src/getting.rt:96:9
 same-length : tie.Need-same-length
 same-length c = search needs
 
--- src/getting.rt:96:9
 returns : tie.Need-returns
 returns c = let a = c .before .before .before .before .before .before .args in load-stop (a .edition .number) (a .t .now) (a .kind) (a .work .now) (a .line) (a .a) (c .before .before .field-number .result) (c .before .before .field-number .ensures) (c .before .before .before .before .before .before .pre .1) (c .if1 .taken)
 
--- src/getting.rt:101:9
 get-field-requires : tie.Need-get-field-requires
 get-field-requires c κs =
     let a = c .before .before .before .before .before .before .before .args in
     let p = c .before .before .before .before .before .before .before .pre in
     (p .0, p .1, p .2, field-most (fieldNumber (slotAt (a .work .now) (a .a))) (c .before .before .before .field-number .result) (c .before .before .before .field-number .ensures) (c .before .if1 .left), p .3)
 
--- src/getting.rt:86:1
 same-length-2 : tie.Need-same-length-2
 same-length-2 c = search needs
 
--- src/getting.rt:86:1
 returns-2 : tie.Need-returns-2
 returns-2 c =
     let a = c .before .before .before .before .before .before .before .before .before .before .args in

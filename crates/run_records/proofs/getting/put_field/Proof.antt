@@ -12,59 +12,46 @@ use Rattle.run_room.proofs.record_start.Reads as record-start-reads
 use Rattle.run_room.proofs.set_unset.Reads as set-unset-reads
 use Rattle.run_room.proofs.set_value.Reads as set-value-reads
 
--- src/getting.rt:27:9
 record-start-requires : tie.Need-record-start-requires
 record-start-requires c κs = search needs
 
--- src/getting.rt:29:9
 set-value-requires : tie.Need-set-value-requires
 set-value-requires c κs = search needs
 
--- src/getting.rt:30:9
 same-length : tie.Need-same-length
 same-length c = search needs
 
--- src/getting.rt:30:9
 returns : tie.Need-returns
 returns c =
     let a = c .before .before .before .before .before .before .before .args in
     slotted-is (a .work .now) _ (a .slot) _ _ (known-record (a .work .now) (a .line) 0 (c .before .before .before .before .before .record-start .result) (a .k) (c .before .before .before .before .before .record-start .ensures) (c .before .before .before .before .if1 .taken)) (c .before .before .set-value .ensures)
 
--- src/getting.rt:33:9
 set-unset-requires : tie.Need-set-unset-requires
 set-unset-requires c κs = search needs
 
--- src/getting.rt:34:9
 same-length-2 : tie.Need-same-length-2
 same-length-2 c = search needs
 
--- src/getting.rt:34:9
 returns-2 : tie.Need-returns-2
 returns-2 c =
     let a = c .before .before .before .before .before .before .before .before .before .args in
     slotted-is (a .work .now) _ (a .slot) _ _ (known-above (a .work .now) (a .line) (a .k) (c .before .before .before .before .if2 .taken)) (c .before .before .set-unset .ensures)
 
--- src/getting.rt:36:46
 sub-read-entry : tie.Need-sub-read-entry
 sub-read-entry c = search needs
 
--- src/getting.rt:36:9
 read-entry-requires : tie.Need-read-entry-requires
 read-entry-requires c κs = search needs
 
--- src/getting.rt:37:55
 add-set-value : tie.Need-add-set-value
 add-set-value c = search needs
 
--- src/getting.rt:37:5
 set-value-requires-2 : tie.Need-set-value-requires-2
 set-value-requires-2 c κs = search needs
 
--- src/getting.rt:23:1
 same-length-3 : tie.Need-same-length-3
 same-length-3 c = search needs
 
--- src/getting.rt:23:1
 returns-3 : tie.Need-returns-3
 returns-3 c =
     let a = c .before .before .before .before .before .before .before .before .before .before .before .before .args in

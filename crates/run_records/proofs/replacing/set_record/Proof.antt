@@ -11,35 +11,27 @@ use Rattle.run_records.proofs.beginning.begin_part.Reads as begin-part-
 use Rattle.run_records.proofs.beginning.refusal_of.Reads as refusal-of-reads
 use Rattle.run_room.proofs.show.Reads as show-reads
 
--- src/replacing.rt:27:9
 refusal-of-requires : tie.Need-refusal-of-requires
 refusal-of-requires c κs = search needs
 
--- src/replacing.rt:29:9
 returns : tie.Need-returns
 returns c = let a = c .before .before .before .before .args in set-refused (a .edition .number) (a .t .now) (a .kind) (a .work .now) (a .line) (a .v) (c .before .refusal-of .result) (c .before .before .before .before .pre .1) (c .before .refusal-of .ensures) (c .if1 .taken)
 
--- src/replacing.rt:34:9
 show-requires : tie.Need-show-requires
 show-requires c κs = search needs
 
--- src/replacing.rt:35:57
 mul-begin-part : tie.Need-mul-begin-part
 mul-begin-part c = search needs
 
--- src/replacing.rt:35:57
 add-begin-part : tie.Need-add-begin-part
 add-begin-part c = search needs
 
--- src/replacing.rt:35:5
 begin-part-requires : tie.Need-begin-part-requires
 begin-part-requires c κs = search needs
 
--- src/replacing.rt:20:1
 same-length : tie.Need-same-length
 same-length c = search needs
 
--- src/replacing.rt:20:1
 returns-2 : tie.Need-returns-2
 returns-2 c =
     let a = c .before .before .before .before .before .before .before .before .before .before .before .before .args in

@@ -9,31 +9,25 @@ use borrow.Author.Needs.{needs}
 use Rattle.run_step.proofs.arms.ends.Statement.{statement}
 use Rattle.run_step.proofs.arms.ends.Tie as tie
 
--- src/arms.rt:180:9
 stop-requires : tie.Need-stop-requires
 stop-requires c κs = search needs
 
--- src/arms.rt:180:9
 returns : tie.Need-returns
 returns c =
     let a = c .before .before .args in
     c .stop .ensures ∙ ap (λ (s : Section). endedIn s (a .m)) (sym (ap sectionBy (c .before .if1 .taken)))
 
--- src/arms.rt:183:9
 go-to-requires : tie.Need-go-to-requires
 go-to-requires c κs = search needs
 
--- src/arms.rt:183:9
 returns-2 : tie.Need-returns-2
 returns-2 c =
     let a = c .before .before .before .args in
     c .go-to .ensures ∙ ap (λ (s : Section). endedIn s (a .m)) (sym (ap sectionBy (c .before .if2 .taken)))
 
--- src/arms.rt:185:5
 stop-requires-2 : tie.Need-stop-requires-2
 stop-requires-2 c κs = search needs
 
--- src/arms.rt:176:1
 returns-3 : tie.Need-returns-3
 returns-3 c =
     let a = c .before .before .before .args in

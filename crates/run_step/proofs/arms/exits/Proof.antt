@@ -7,21 +7,17 @@ use borrow.Author.Needs.{needs}
 use Rattle.run_step.proofs.arms.exits.Statement.{statement}
 use Rattle.run_step.proofs.arms.exits.Tie as tie
 
--- src/arms.rt:193:9
 stop-requires : tie.Need-stop-requires
 stop-requires c κs = search needs
 
--- src/arms.rt:193:9
 returns : tie.Need-returns
 returns c =
     let a = c .before .before .args in
     c .stop .ensures ∙ sym (exits-early (a .section) (a .m) (c .before .if1 .taken))
 
--- src/arms.rt:195:5
 stop-requires-2 : tie.Need-stop-requires-2
 stop-requires-2 c κs = search needs
 
--- src/arms.rt:189:1
 returns-2 : tie.Need-returns-2
 returns-2 c =
     let a = c .before .before .args in

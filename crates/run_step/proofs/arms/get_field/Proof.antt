@@ -7,29 +7,23 @@ use borrow.Author.Needs.{needs}
 use Rattle.run_step.proofs.arms.get_field.Statement.{statement}
 use Rattle.run_step.proofs.arms.get_field.Tie as tie
 
--- src/arms.rt:110:70
 sub-load-field : tie.Need-sub-load-field
 sub-load-field c = search needs
 
--- src/arms.rt:110:9
 load-field-requires : tie.Need-load-field-requires
 load-field-requires c κs = search needs
 
--- src/arms.rt:111:9
 with-line-requires : tie.Need-with-line-requires
 with-line-requires c κs = search needs
 
--- src/arms.rt:112:5
 after-requires : tie.Need-after-requires
 after-requires c κs =
     let p = c .before .before .before .before .before .before .before .pre in
     subst (λ (q : Machine). q .at < 1024) (sym (c .with-line .ensures)) (p .5)
 
--- src/arms.rt:97:1
 same-length : tie.Need-same-length
 same-length c = search needs
 
--- src/arms.rt:97:1
 returns : tie.Need-returns
 returns c =
     let m = c .before .before .before .before .before .before .before .before .args .m in

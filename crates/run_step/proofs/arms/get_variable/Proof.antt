@@ -7,29 +7,23 @@ use borrow.Author.Needs.{needs}
 use Rattle.run_step.proofs.arms.get_variable.Statement.{statement}
 use Rattle.run_step.proofs.arms.get_variable.Tie as tie
 
--- src/arms.rt:73:9
 get-variable-requires : tie.Need-get-variable-requires
 get-variable-requires c κs = search needs
 
--- src/arms.rt:74:9
 with-line-requires : tie.Need-with-line-requires
 with-line-requires c κs = search needs
 
--- src/arms.rt:75:10
 add-on : tie.Need-add-on
 add-on c = search needs
 
--- src/arms.rt:75:5
 on-requires : tie.Need-on-requires
 on-requires c κs =
     let p = c .before .before .before .before .before .before .before .pre in
     subst (λ (q : Machine). q .at < 1024) (sym (c .with-line .ensures)) (p .6)
 
--- src/arms.rt:60:1
 same-length : tie.Need-same-length
 same-length c = search needs
 
--- src/arms.rt:60:1
 returns : tie.Need-returns
 returns c =
     let m = c .before .before .before .before .before .before .before .before .args .m in

@@ -8,19 +8,15 @@ use borrow.Author.Needs.{needs}
 use Rattle.run_step.proofs.arms.jump_if_false.Statement.{statement}
 use Rattle.run_step.proofs.arms.jump_if_false.Tie as tie
 
--- src/arms.rt:163:13
 sub-d : tie.Need-sub-d
 sub-d c = search needs
 
--- src/arms.rt:164:9
 is-true-requires : tie.Need-is-true-requires
 is-true-requires c κs = search needs
 
--- src/arms.rt:166:9
 stop-requires : tie.Need-stop-requires
 stop-requires c κs = search needs
 
--- src/arms.rt:166:9
 returns : tie.Need-returns
 returns c =
     let a = c .before .before .before .before .before .before .args in
@@ -32,11 +28,9 @@ returns c =
       t .ensures,
     )
 
--- src/arms.rt:168:9
 on-requires : tie.Need-on-requires
 on-requires c κs = search needs
 
--- src/arms.rt:158:1
 returns-2 : tie.Need-returns-2
 returns-2 c =
     let a = c .before .before .before .before .before .before .before .before .args in
@@ -46,7 +40,6 @@ returns-2 c =
     (c .if2 .taken) in
     (t .result, ap (λ (q : Machine). goneTo q (a .t)) (c .before .before .on .ensures) ∙ sym e, t .ensures)
 
--- src/arms.rt:158:1
 returns-3 : tie.Need-returns-3
 returns-3 c =
     let a = c .before .before .before .before .before .before .before .before .args in

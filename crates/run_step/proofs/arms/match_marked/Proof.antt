@@ -1,4 +1,5 @@
--- `match_marked` meets its contract: the automata are taken, or the shared table is prepared, and the operation goes by them.
+-- `match_marked` meets its contract: the automata are taken, or the shared table is prepared, and the operation goes by
+-- them.
 use mathlib.Core.Path.{ap, _∙_}
 use Prim.Native.Nat.{_+_}
 use native.Mathlib.Omega.{arith}

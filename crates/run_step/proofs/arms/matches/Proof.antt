@@ -1,4 +1,5 @@
--- `matches` meets its contract: the automaton is taken, or the shared table is prepared, and the operation goes by them.
+-- `matches` meets its contract: the automaton is taken, or the shared table is prepared, and the operation goes by
+-- them.
 use mathlib.Core.Path.{ap, _∙_}
 use native.Mathlib.Omega.{arith}
 use lib.ListN.{length}

@@ -12,31 +12,24 @@ use borrow.Author.Needs.{needs}
 use Rattle.run_step.proofs.arms.print.Statement.{statement}
 use Rattle.run_step.proofs.arms.print.Tie as tie
 
--- src/arms.rt:144:17
 sub-first : tie.Need-sub-first
 sub-first c = search needs
 
--- src/arms.rt:146:51
 sub-print : tie.Need-sub-print
 sub-print c = search needs
 
--- src/arms.rt:146:51
 part-print-start : tie.Need-part-print-start
 part-print-start c = search needs
 
--- src/arms.rt:146:51
 part-print-end : tie.Need-part-print-end
 part-print-end c = search needs
 
--- src/arms.rt:146:9
 print-requires : tie.Need-print-requires
 print-requires c κs = search needs
 
--- src/arms.rt:148:24
 enum-known-p : tie.Need-enum-known-p
 enum-known-p c = search needs
 
--- src/arms.rt:150:25
 add-r : tie.Need-add-r
 add-r c =
     let up = c .before .before .before .before .before .before .before .before in
@@ -49,27 +42,21 @@ add-r c =
     let good = up .before .before .before .before .before .good in
     omega (arith, fits, ap written told, pre, good, ap length (tail-lent o n), length-drop n o)
 
--- src/arms.rt:151:13
 on-requires : tie.Need-on-requires
 on-requires c κs = search needs
 
--- src/arms.rt:153:24
 enum-known-p-2 : tie.Need-enum-known-p-2
 enum-known-p-2 c = search needs
 
--- src/arms.rt:153:30
 stop-requires : tie.Need-stop-requires
 stop-requires c κs = search needs
 
--- src/arms.rt:131:1
 same-length : tie.Need-same-length
 same-length c = search needs
 
--- src/arms.rt:131:1
 same-length-2 : tie.Need-same-length-2
 same-length-2 c = search needs
 
--- src/arms.rt:131:1
 returns : tie.Need-returns
 returns c =
     let up = c .before .before .before .before .before .before .before .before in
@@ -86,15 +73,12 @@ returns c =
       rw (tail-lent o n) at (p .ensures),
     )
 
--- src/arms.rt:131:1
 same-length-3 : tie.Need-same-length-3
 same-length-3 c = search needs
 
--- src/arms.rt:131:1
 same-length-4 : tie.Need-same-length-4
 same-length-4 c = search needs
 
--- src/arms.rt:131:1
 returns-2 : tie.Need-returns-2
 returns-2 c =
     let up = c .before .before .before .before .before .before .before .before in

@@ -7,33 +7,26 @@ use borrow.Author.Needs.{needs}
 use Rattle.run_step.proofs.arms.set_field.Statement.{statement}
 use Rattle.run_step.proofs.arms.set_field.Tie as tie
 
--- src/arms.rt:125:68
 sub-store-field : tie.Need-sub-store-field
 sub-store-field c = search needs
 
--- src/arms.rt:125:9
 store-field-requires : tie.Need-store-field-requires
 store-field-requires c κs = search needs
 
--- src/arms.rt:126:9
 with-line-requires : tie.Need-with-line-requires
 with-line-requires c κs = search needs
 
--- src/arms.rt:127:24
 sub-after : tie.Need-sub-after
 sub-after c = search needs
 
--- src/arms.rt:127:5
 after-requires : tie.Need-after-requires
 after-requires c κs =
     let p = c .before .before .before .before .before .before .before .pre in
     subst (λ (q : Machine). q .at < 1024) (sym (c .with-line .ensures)) (p .5)
 
--- src/arms.rt:116:1
 same-length : tie.Need-same-length
 same-length c = search needs
 
--- src/arms.rt:116:1
 returns : tie.Need-returns
 returns c =
     let m = c .before .before .before .before .before .before .before .before .args .m in

@@ -7,33 +7,26 @@ use borrow.Author.Needs.{needs}
 use Rattle.run_step.proofs.arms.set_variable.Statement.{statement}
 use Rattle.run_step.proofs.arms.set_variable.Tie as tie
 
--- src/arms.rt:90:78
 sub-set-variable : tie.Need-sub-set-variable
 sub-set-variable c = search needs
 
--- src/arms.rt:90:9
 set-variable-requires : tie.Need-set-variable-requires
 set-variable-requires c κs = search needs
 
--- src/arms.rt:92:9
 with-separator-requires : tie.Need-with-separator-requires
 with-separator-requires c κs = search needs
 
--- src/arms.rt:93:5
 on-requires : tie.Need-on-requires
 on-requires c κs =
     let p = c .before .before .before .before .before .before .before .before .before .before .pre in
     subst (λ (q : Machine). q .at < 1024) (sym (c .with-separator .ensures)) (p .6)
 
--- src/arms.rt:79:1
 same-length : tie.Need-same-length
 same-length c = search needs
 
--- src/arms.rt:79:1
 same-length-2 : tie.Need-same-length-2
 same-length-2 c = search needs
 
--- src/arms.rt:79:1
 returns : tie.Need-returns
 returns c =
     let m = c .before .before .before .before .before .before .before .before .before .before .before .args .m in

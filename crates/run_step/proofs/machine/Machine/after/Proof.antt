@@ -5,19 +5,15 @@ use Rattle.run_step.proofs.Advance.{goes-on, halts}
 use Rattle.run_step.proofs.machine.Machine.after.Statement.{statement}
 use Rattle.run_step.proofs.machine.Machine.after.Tie as tie
 
--- src/machine.rt:77:13
 stop-requires : tie.Need-stop-requires
 stop-requires c κs = search needs
 
--- src/machine.rt:77:13
 returns : tie.Need-returns
 returns c = c .stop .ensures ∙ sym (halts _ _ _ (c .before .if1 .taken))
 
--- src/machine.rt:79:9
 on-requires : tie.Need-on-requires
 on-requires c κs = search needs
 
--- src/machine.rt:72:5
 returns-2 : tie.Need-returns-2
 returns-2 c = c .on .ensures ∙ sym (goes-on _ _ _ (c .before .if1 .left))
 
