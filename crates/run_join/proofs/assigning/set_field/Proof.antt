@@ -15,8 +15,8 @@ use Rattle.run_join.proofs.assigning.set_field.Tie as tie
 use Rattle.run_join.proofs.assigning.set_field.Reads as reads
 use Rattle.run_join.proofs.assigning.set_field.Lts as lts
 use Rattle.run_join.proofs.assigning.field_count.Reads as field-count-reads
-use Rattle.run_parts.proofs.joining.join_all.Reads as join-all-reads
-use Rattle.run_parts.proofs.measuring.too_long.Reads as too-long-reads
+use Rattle.run_parts.proofs.join_all.Reads as join-all-reads
+use Rattle.run_parts.proofs.too_long.Reads as too-long-reads
 use Rattle.run_lines.proofs.split_all.Reads as split-all-reads
 use Rattle.run_room.proofs.show.Reads as show-reads
 

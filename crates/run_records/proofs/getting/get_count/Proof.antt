@@ -6,7 +6,7 @@ use Rattle.run_records.proofs.getting.get_count.Statement.{statement}
 use Rattle.run_records.proofs.getting.get_count.Tie as tie
 use Rattle.run_records.proofs.getting.get_count.Reads as reads
 use Rattle.run_records.proofs.getting.get_count.Lts as lts
-use Rattle.run_lines.proofs.lines.split_all.Reads as split-all-reads
+use Rattle.run_lines.proofs.split_all.Reads as split-all-reads
 use Rattle.run_room.proofs.set_number.Reads as set-number-reads
 
 split-all-requires : tie.Need-split-all-requires

@@ -6,7 +6,7 @@ use Rattle.run_records.proofs.getting.get_field.Tie as tie
 use Rattle.run_records.proofs.getting.get_field.Reads as reads
 use Rattle.run_records.proofs.getting.get_field.Lts as lts
 use Rattle.run_records.proofs.getting.put_field.Reads as put-field-reads
-use Rattle.run_lines.proofs.lines.split_to.Reads as split-to-reads
+use Rattle.run_lines.proofs.split_to.Reads as split-to-reads
 
 split-to-requires : tie.Need-split-to-requires
 split-to-requires c κs = search needs
