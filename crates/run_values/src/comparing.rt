@@ -1,7 +1,7 @@
 // Comparison, of numbers or of texts.
 ghost use mathlib.Core.Path.{_≡_};
 ghost use mathlib.Core.Bool.{true};
-ghost use Prim.Native.Nat.{_+_, _*_, _≤_, _<_};
+ghost use Prim.Native.Nat.{_+_, _*_, _≤_, _<_, min};
 ghost use lib.ListN.{length};
 ghost use Rattle.run_room.specs.Layout.{slotsEnd, slotCount};
 ghost use Rattle.run_room.specs.Room.{slotAt};
@@ -45,6 +45,38 @@ fn holds(code: u64, o: Order) -> bool
     }
 }
 
+// Returns the lesser of two sizes.
+fn least(a: usize, b: usize) -> usize
+    ensures { λ r. ⌜ r ≡ min a b ⌝ }
+{
+    if a < b { a } else { b }
+}
+
+// Returns the order of two texts: that of the first bytes that differ, or of the sizes. The loop asks for one end, where `buffer::compare` asks
+// for both.
+fn bytes_order(a: &[u8], b: &[u8]) -> Order
+    ensures { λ r. ⌜ r ≡ ordering (now (a .entry)) (now (b .entry)) ⌝ }
+{
+    let n = least(a.len(), b.len());
+    let mut k = 0;
+    while k < n {
+        if a[k] < b[k] {
+            return Order::Less;
+        }
+        if b[k] < a[k] {
+            return Order::Greater;
+        }
+        k += 1;
+    }
+    if a.len() < b.len() {
+        return Order::Less;
+    }
+    if b.len() < a.len() {
+        return Order::Greater;
+    }
+    Order::Equal
+}
+
 // Returns the order of the texts of two values.
 fn text_order(work: &mut [u8], a: usize) -> Order
     requires { ⌜ (slotsEnd ≤ length (now work)) × (a + 1 < slotCount) ⌝ }
@@ -57,7 +89,7 @@ fn text_order(work: &mut [u8], a: usize) -> Order
     let t = s + run_room::SLOT;
     let e = s + n;
     let f = t + m;
-    buffer::compare(&work[s..e], &work[t..f])
+    bytes_order(&work[s..e], &work[t..f])
 }
 
 // Compares the numbers of two values, the left one's stop first.

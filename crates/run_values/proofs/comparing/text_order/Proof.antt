@@ -30,26 +30,26 @@ add-e c = search needs
 add-f : tie.Need-add-f
 add-f c = search needs
 
-sub-compare : tie.Need-sub-compare
-sub-compare c = search needs
+sub-bytes-order : tie.Need-sub-bytes-order
+sub-bytes-order c = search needs
 
-part-compare-start : tie.Need-part-compare-start
-part-compare-start c = search needs
+part-bytes-order-start : tie.Need-part-bytes-order-start
+part-bytes-order-start c = search needs
 
-part-compare-end : tie.Need-part-compare-end
-part-compare-end c = search needs
+part-bytes-order-end : tie.Need-part-bytes-order-end
+part-bytes-order-end c = search needs
 
-sub-compare-2 : tie.Need-sub-compare-2
-sub-compare-2 c = search needs
+sub-bytes-order-2 : tie.Need-sub-bytes-order-2
+sub-bytes-order-2 c = search needs
 
-part-compare-start-2 : tie.Need-part-compare-start-2
-part-compare-start-2 c = search needs
+part-bytes-order-start-2 : tie.Need-part-bytes-order-start-2
+part-bytes-order-start-2 c = search needs
 
-part-compare-end-2 : tie.Need-part-compare-end-2
-part-compare-end-2 c = search needs
+part-bytes-order-end-2 : tie.Need-part-bytes-order-end-2
+part-bytes-order-end-2 c = search needs
 
-compare-requires : tie.Need-compare-requires
-compare-requires c κs = search needs
+bytes-order-requires : tie.Need-bytes-order-requires
+bytes-order-requires c κs = search needs
 
 same-length : tie.Need-same-length
 same-length c = search needs
@@ -62,7 +62,7 @@ returns c =
     let n = c .before .before .before .before .before .before .before .before .before .before .show in
     let m = c .before .before .before .before .before .before .show2 in
     let p = pair (a .work .now) _ _ (a .a) (n .result) (m .result) (pre .1) (n .ensures) (m .ensures) in (
-      c .compare .ensures
+      c .bytes-order .ensures
           ∙ ap₂ ordering
           (lent-left (m .last .0) (a .a) (n .result) ∙ p .left)
           (lent-right (m .last .0) (a .a) (m .result) ∙ p .right),
@@ -81,12 +81,12 @@ text-order-spec =
     add-t
     add-e
     add-f
-    sub-compare
-    part-compare-start
-    part-compare-end
-    sub-compare-2
-    part-compare-start-2
-    part-compare-end-2
-    compare-requires
+    sub-bytes-order
+    part-bytes-order-start
+    part-bytes-order-end
+    sub-bytes-order-2
+    part-bytes-order-start-2
+    part-bytes-order-end-2
+    bytes-order-requires
     same-length
     returns)
