@@ -14,7 +14,8 @@ pub enum Made {
 
 // Translates a filter's text. A refusal is said.
 pub fn translate(name: &[u8], text: &[u8], image: &mut [u8]) -> Made
-    ensures { λ r. ⌜ TranslatedTo (translateOf firstEdition (now (text .entry)) (now (image .entry))) (now (image .exit)) r ⌝ }
+    ensures { λ r. ⌜ TranslatedTo (translateOf firstEdition (now (text .entry)) (now (image .entry)))
+        (now (image .exit)) r ⌝ }
 {
     let t = translator::translate(text, image);
     if t.outcome != Outcome::DONE {

@@ -41,7 +41,8 @@ fn entries_bound(work: &[u8], n: usize) -> usize
 // Tells whether the fields, of which there are `count` with the value of slot v, surely fit a text with n bytes between
 // them.
 pub fn surely_fits(work: &[u8], line: Line, v: usize, count: usize, n: usize) -> bool
-    requires { ⌜ (baseEnd ≤ length (now work)) × (line .known ≤ count) × (count ≤ fieldCount) × (v < slotCount) × (n ≤ textBytes) ⌝ }
+    requires { ⌜ (baseEnd ≤ length (now work)) × (line .known ≤ count) × (count ≤ fieldCount) × (v < slotCount)
+        × (n ≤ textBytes) ⌝ }
     ensures { λ r. ⌜ (r ≡ true → (k : ℕ) (b : List ℕ) → length b ≡ n
         → length (joinedText b (newFields (now (work .entry)) line k v count)) ≤ textBytes) ⌝ }
 {

@@ -66,7 +66,8 @@ fn measure(work: &[u8], line: Line, k: usize, v: usize, count: usize, n: usize) 
 // Tells whether all fields joined are more than a text may have. They are measured only if a bound of their size is too
 // much.
 pub fn too_long(work: &[u8], line: Line, k: usize, v: usize, count: usize, n: usize) -> bool
-    requires { ⌜ (baseEnd ≤ length (now work)) × Placed line × (line .known ≤ count) × (count ≤ fieldCount) × (v < slotCount) × (n ≤ textBytes) ⌝ }
+    requires { ⌜ (baseEnd ≤ length (now work)) × Placed line × (line .known ≤ count) × (count ≤ fieldCount)
+        × (v < slotCount) × (n ≤ textBytes) ⌝ }
     ensures { λ r. ⌜ TooLong (now (work .entry)) line k v count n r ⌝ }
 {
     if bounding::surely_fits(work, line, v, count, n) {

@@ -52,8 +52,8 @@ fn least(a: usize, b: usize) -> usize
     if a < b { a } else { b }
 }
 
-// Returns the order of two texts: that of the first bytes that differ, or of the sizes. The loop asks for one end, where `buffer::compare` asks
-// for both.
+// Returns the order of two texts: that of the first bytes that differ, or of the sizes. The loop asks for one end,
+// where `buffer::compare` asks for both.
 fn bytes_order(a: &[u8], b: &[u8]) -> Order
     ensures { λ r. ⌜ r ≡ ordering (now (a .entry)) (now (b .entry)) ⌝ }
 {
