@@ -1,7 +1,7 @@
 // An ERE compiled once for many texts, for C: what `bench/match` measures.
 ghost use Rattle.bench_ere.specs.Answer.{Prepares, Searches, Tells};
 use edition::Edition;
-use ere_exists::Found;
+use ere_search::Found;
 
 // Reads an ERE into a table: 1 if it is one, 0 if not or if the table has another size.
 #[no_mangle]
@@ -32,7 +32,7 @@ pub extern "C" fn prepared_find(table: &[u64], text: &[u8]) -> u64
     if Edition::TEXT < text.len() {
         return 0;
     }
-    match ere_exists::find_from(table, text, 0, 0) {
+    match ere_search::find_from(table, text, 0, 0) {
         Found::At(start, length) => length as u64 + 1,
         Found::Nowhere => 0,
     }
