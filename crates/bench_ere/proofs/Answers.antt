@@ -15,6 +15,7 @@ use Rattle.ere_exists.specs.Any.{Exists}
 use Rattle.ere_search.specs.Find.{matchOf, Inside, Finds}
 use Rattle.ere_search.specs.declared.search.Found.{Found}
 use Rattle.ere_search.specs.declared.search.Found.the-variants.{At, Nowhere}
+use Rattle.ere_automaton.specs.Follows.{SeekRanged, Seeks}
 use Rattle.ere.specs.Answer.{Serves, Compiles, Bytes}
 use Rattle.ere.proofs.Serving.{serves-answer, serves-exists}
 use Rattle.bench_ere.specs.Answer.{Prepares, lengthOf, Tells}
@@ -46,3 +47,7 @@ tells t text r x l h f bytes e =
       long = λ g. absurd (omega arith);
       any = λ p s k g. ap (λ (b : Bool). cond b 1 0) (sym e ∙ serves-exists t r p text s f bytes);
     }
+
+-- both automata of a search have their words
+pub seeks-ranged : {t d : List ℕ} → Seeks t d → SeekRanged d
+seeks-ranged S = record { inside = S .inside; one = S .one .ranged; pending = S .pending .ranged }

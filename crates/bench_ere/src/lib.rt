@@ -1,5 +1,13 @@
 // An ERE compiled once for many texts, for C: what `bench/match` measures.
 ghost use Rattle.bench_ere.specs.Answer.{Prepares, Searches, Tells};
+
+mod derived;
+
+pub use derived::derived_exists;
+pub use derived::derived_seek;
+pub use derived::prepared_seek;
+pub use derived::texts_matching;
+pub use derived::texts_sought;
 use edition::Edition;
 use ere_search::Found;
 
