@@ -17,7 +17,7 @@ import building
 
 RANDOM = ['match', 'split', 'images', 'translate', 'run', 'ways']
 # over other archives than capi's
-OTHER_ARCHIVES = ['exists', 'tokens']
+OTHER_ARCHIVES = ['exists', 'tokens', 'automaton']
 OTHERS = ['frames', 'pool', 'believe', 'sentences', 'documents', 'edits']
 # over the program ./flowawk, which they build if it is missing
 PROGRAM = ['cli', 'install']
