@@ -7,8 +7,8 @@ Builds the archive by `rt staticlib bench_ere` (or takes FILE) and the program o
 library's regexec, RE2, PCRE2 (both below DIR of --include and --libraries, or where the compiler looks), and Rust's regex (its sources below DIR of
 --crates, by default Debian's /usr/share/cargo/registry). Ten EREs over texts made for them, 2,000 of 70 bytes or fields, or 20 of 512 bytes without a
 match: whether there is a match, and the leftmost longest; and two separators, one after the other. In each of R rounds (default 3) all take their
-turn, the libraries in one process; the least time counts. The awks do the same over the texts in an array, by `~`, match() and split(); the time of
-the same loops with length() is taken off (processor times), so below some 15 ns their figures say nothing. The locale is C.
+turn, the libraries in one process; the least time counts. The awks do the same over the texts in an array, 4,000,000 texts at a time, by `~`, match() and
+split(); the least time of the same loops with length() is taken off (processor times), so below some 5 ns their figures say nothing. The locale is C.
 Writes tables: nanoseconds for a text, and in brackets how many times as long as ours. The answers of regexec, RE2 and the awks must be ours.
 Debian packages: g++, libc6-dev, mawk, gawk, libre2-dev, libpcre2-dev, librust-regex-dev and cargo. What isn't there is left out.
 """
@@ -26,6 +26,8 @@ import building  # noqa: E402
 
 AWKS = ['mawk', 'gawk']
 LIMIT = 20
+# texts that an awk is asked at a time
+TEXTS = 4000000
 
 
 def flow(r):
@@ -112,41 +114,58 @@ def build(options, directory):
 
 
 def awk_seconds(awk, path, turns, what):
+    """Processor time of so many turns over the texts, and the sum of what it adds."""
     text = '{ a[NR] = $0 } END { for (r = 0; r < %d; r++) for (i = 1; i <= NR; i++) n += %s; printf "%%d\\n", n }' % (turns, what)
     start = resource.getrusage(resource.RUSAGE_CHILDREN).ru_utime
     out = subprocess.run([awk, text, path], check=True, capture_output=True, text=True, timeout=LIMIT, env=dict(os.environ, LC_ALL='C')).stdout
     return resource.getrusage(resource.RUSAGE_CHILDREN).ru_utime - start, int(float(out))
 
 
-def awk_time(awk, path, count, mode, ere):
-    """Nanoseconds for a text, loops and reading taken off, and the sum of the answers of a turn; nothing if it takes too long."""
+def awk_sum(awk, path, mode, ere):
+    """The sum of the answers, and how long a turn takes; nothing if it takes too long."""
     what = {'exists': 'a[i] ~ /%s/', 'find': 'match(a[i], /%s/) ? (RSTART - 1) * 1024 + RLENGTH + 1 : 0', 'split': 'split(a[i], b, /%s/) - 1'}[mode] % ere
-    turns = max(1, 400000 // count)
     try:
-        one, _ = awk_seconds(awk, path, 1, what)
-        if one > 1:
-            turns = 1
-        elif one > 0.05:
-            turns = max(1, int(turns * 0.02 / one))
-        seconds, found = awk_seconds(awk, path, turns, what)
-        return (seconds - awk_seconds(awk, path, turns, 'length(a[i]) * 0')[0]) / (count * turns) * 1e9, found / turns
+        return awk_seconds(awk, path, 1, what)
     except subprocess.TimeoutExpired:
         return None
 
 
+class Awk:
+    """An awk over the texts of a row: the least times of a turn, and of the same loop with length()."""
+
+    def __init__(self, awk, path, count, mode, ere):
+        self.awk, self.path, self.count = awk, path, count
+        self.what = {'exists': 'a[i] ~ /%s/', 'find': 'match(a[i], /%s/)', 'split': 'split(a[i], b, /%s/)'}[mode] % ere
+        self.answered = awk_sum(awk, path, mode, ere)
+        one = self.answered and self.answered[0]
+        self.turns = max(1, min(TEXTS // count, int(1 / one) if one and one > 0.05 else TEXTS))
+        self.work = self.loop = 1e18
+
+    def turn(self):
+        if self.answered:
+            self.work = min(self.work, awk_seconds(self.awk, self.path, self.turns, self.what)[0])
+            self.loop = min(self.loop, awk_seconds(self.awk, self.path, self.turns, 'length(a[i])')[0])
+
+    def time(self):
+        """Nanoseconds for a text, loop and reading taken off."""
+        return (self.work - self.loop) / (self.count * self.turns) * 1e9 if self.answered else None
+
+
 def row(program, awks, path, count, mode, ere, rounds):
     least, sums = {}, {}
+    peers = [Awk(awk, path, count, mode, ere) for awk in awks]
     for _ in range(rounds):
         with open(path) as f:
             out = subprocess.run([program, ere, mode, '5'], stdin=f, check=True, capture_output=True, text=True, env=dict(os.environ, LC_ALL='C')).stdout
         for line in out.splitlines():
             name, ns, total = line.split('\t')
             least[name], sums[name] = min(float(ns), least.get(name, 1e18)), int(total)
-        for awk in awks:
-            timed = awk_time(awk, path, count, mode, ere) if least.get(awk, 0) is not None else None
-            least[awk] = timed and min(timed[0], least.get(awk) or 1e18)
-            if timed:
-                sums[awk] = timed[1]
+        for peer in peers:
+            peer.turn()
+    for peer in peers:
+        least[peer.awk] = peer.time()
+        if peer.answered:
+            sums[peer.awk] = peer.answered[1]
     for name in ('regexec', 'RE2', *awks):
         if name in sums and sums[name] != sums['ours']:
             print('match.py: %s: %s for `%s`: %s, not %s' % (mode, name, ere, sums[name], sums['ours']), file=sys.stderr)
@@ -184,4 +203,5 @@ def main():
                 print('| `%s` | %s | %.1f | ' % (ere.replace('|', '\\|'), texts.__name__, least['ours']) + ' | '.join(cells) + ' |', flush=True)
 
 
-main()
+if __name__ == '__main__':
+    main()
