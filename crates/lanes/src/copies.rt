@@ -41,16 +41,35 @@ fn copy_4(dst: &mut [u8], to: usize, src: &[u8], from: usize)
     dst[to + 3] = d;
 }
 
-// Copies less than 16 bytes: the first eight and the last eight, which may overlap, or four and four, or byte by byte.
-fn copy_short(dst: &mut [u8], at: usize, src: &[u8])
-    requires { ⌜ (at + length (now src) ≤ length (now dst)) × (length (now src) < 16) ⌝ }
+// Copies at most three bytes: the first, the middle and the last one, which may be the same. No branch tells one from
+// three, so none is guessed wrong.
+pub fn copy_few(dst: &mut [u8], at: usize, src: &[u8])
+    requires { ⌜ (at + length (now src) ≤ length (now dst)) × (length (now src) < 4) ⌝ }
+    ensures { λ _. ⌜ now (dst .exit) ≡ put (now (dst .entry)) at (now (src .entry)) ⌝ }
+{
+    if src.len() == 0 {
+        return;
+    }
+    let half = src.len() / 2;
+    let last = src.len() - 1;
+    let a = src[0];
+    let b = src[half];
+    let c = src[last];
+    dst[at] = a;
+    dst[at + half] = b;
+    dst[at + last] = c;
+}
+
+// Copies at most 16 bytes: the first eight and the last eight, which may overlap, or four and four, or byte by byte.
+pub fn copy_short(dst: &mut [u8], at: usize, src: &[u8])
+    requires { ⌜ (at + length (now src) ≤ length (now dst)) × (length (now src) ≤ 16) ⌝ }
     ensures { λ _. ⌜ now (dst .exit) ≡ put (now (dst .entry)) at (now (src .entry)) ⌝ }
 {
     if src.len() < 4 {
         buffer::copy(dst, at, src);
         return;
     }
-    if src.len() < 8 {
+    if src.len() <= 8 {
         let last = src.len() - 4;
         copy_4(dst, at, src, 0);
         copy_4(dst, at + last, src, last);

@@ -8,7 +8,9 @@ mod words;
 
 pub use blocks::any_in_32;
 pub use copies::copy;
+pub use copies::copy_few;
 pub use copies::copy_over;
+pub use copies::copy_short;
 pub use pairs::first_byte_from;
 pub use pairs::first_of_two;
 pub use pairs::past_two;
