@@ -24,29 +24,25 @@ use Rattle.run_room.proofs.Outside.{part-before, part-after, outside-sa
 
 -- ---- heads
 
-pub length-head : (k n w : ℕ) → length (headOf k n w) ≡ 16
-unfolding headOf
-length-head k n w = refl
-
 pub head-put : (l : List ℕ) (a k n w : ℕ) {x y : List ℕ} → a + 16 ≤ length l → x ≡ put l a (leBytes 8 (k + 65536 * n)) → y ≡ put x (a + 8) (leBytes 8 w)
     → y ≡ put l a (headOf k n w)
 unfolding headOf
 head-put l a k n w h ex ey =
     ey ∙ ap (λ (r : List ℕ). put r (a + 8) (leBytes 8 w)) ex ∙ put-append l a (leBytes 8 (k + 65536 * n)) (leBytes 8 w) (let z : a + 8 + 8 ≤ length l = omega arith in z)
 
-module _ (room : List ℕ) (a k n w : ℕ) (e : part a 16 room ≡ headOf k n w) (hk : k < 256) (hn : n ≤ textBytes) (hw : w < 2 ^ 64) where
-  pub head-first : wordAt room a ≡ k + 65536 * n
-  unfolding wordAt headOf part
-  head-first =
-      let z : a + 0 ≡ a = omega arith in
-      ap leValue (ap (λ (m : ℕ). part m 8 room) (sym z) ∙ sym (part-part room a 16 0 8 (omega arith)) ∙ ap (part 0 8) e)
-      ∙ le-round 8 (k + 65536 * n) (omega arith)
+-- the first word of a part, whatever comes after it, and the second
+first-word : (room : List ℕ) (a h : ℕ) (g : List ℕ) → part a (8 + length g) room ≡ leBytes 8 h ++ g → h < 2 ^ 64 → wordAt room a ≡ h
+unfolding wordAt part
+first-word room a h g e small =
+    let z : a + 0 ≡ a = omega arith in
+    ap leValue (ap (λ (m : ℕ). part m 8 room) (sym z) ∙ sym (part-part room a (8 + length g) 0 8 (omega arith)) ∙ ap (part 0 8) e)
+    ∙ le-round 8 h small
 
-  pub head-second : wordAt room (a + 8) ≡ w
-  unfolding wordAt headOf part
-  head-second =
-      ap leValue (sym (part-part room a 16 8 8 (omega arith)) ∙ ap (part 8 8) e)
-      ∙ le-round 8 w hw
+second-word : (room : List ℕ) (a h w : ℕ) → part a 16 room ≡ leBytes 8 h ++ leBytes 8 w → w < 2 ^ 64 → wordAt room (a + 8) ≡ w
+unfolding wordAt part
+second-word room a h w e small =
+    ap leValue (sym (part-part room a 16 8 8 (omega arith)) ∙ ap (part 8 8) e)
+    ∙ le-round 8 w small
 
 -- what is packed in one word
 pub low-part : (k m : ℕ) → k < 256 → (k + 256 * m) % 256 ≡ k
@@ -63,17 +59,13 @@ size-in x k n e h g =
     let z : x / 65536 ≡ n = ap (λ (y : ℕ). y / 65536) e ∙ high-part k n (omega arith) in
     omega arith
 
--- a slot with such a head
-pub slot-is : (room : List ℕ) (i k n w : ℕ) → part (i * slotBytes) 16 room ≡ headOf k n w → k < 256 → n ≤ textBytes → w < 2 ^ 64
-    → slotAt room i ≡ valueBy k w (part (i * slotBytes + headSize) n room)
+-- a slot with such a first word
+slot-is : (room : List ℕ) (i k n : ℕ) → wordAt room (i * slotBytes) ≡ k + 65536 * n → k < 256 → n ≤ textBytes
+    → slotAt room i ≡ valueBy k (wordAt room (i * slotBytes + 8)) (part (i * slotBytes + headSize) n room)
 unfolding slotAt
-slot-is room i k n w e hk hn hw =
-    let f : wordAt room (i * slotBytes) ≡ k + 65536 * n = head-first room (i * slotBytes) k n w e hk hn hw in
-    let g : wordAt room (i * slotBytes + 8) ≡ w = head-second room (i * slotBytes) k n w e hk hn hw in
-    let kind : wordAt room (i * slotBytes) % 256 ≡ k = kind-in (wordAt room (i * slotBytes)) k n f hk in
-    let size : sizeIn (wordAt room (i * slotBytes)) ≡ n = size-in (wordAt room (i * slotBytes)) k n f hk hn in
-    ap₂ (λ (x y : ℕ). valueBy x y (part (i * slotBytes + headSize) (sizeIn (wordAt room (i * slotBytes))) room)) kind g
-    ∙ ap (λ (m : ℕ). valueBy k w (part (i * slotBytes + headSize) m room)) size
+slot-is room i k n e hk hn =
+    let h = wordAt room (i * slotBytes) in
+    ap₂ (λ (x m : ℕ). valueBy x (wordAt room (i * slotBytes + 8)) (part (i * slotBytes + headSize) m room)) (kind-in h k n e hk) (size-in h k n e hk hn)
 
 -- ---- a number is its head alone
 
@@ -181,53 +173,87 @@ part-less a n m l h = take-take n m (drop a l) h
 
 -- ---- writers
 
-module _ (x : List ℕ) (i k n w : ℕ) (inside : i * slotBytes + slotBytes ≤ length x) (hk : k < 256) (hn : n ≤ textBytes) (hw : w < 2 ^ 64) where
-  -- a head alone
-  pub slotted-head : {y : List ℕ} → y ≡ put x (i * slotBytes) (headOf k n w) → Slotted x y i (valueBy k w (part (i * slotBytes + headSize) n x)) Unit
-  slotted-head {y} e =
-      let lh = length-head k n w in
-      let same : part (i * slotBytes) 16 y ≡ headOf k n w = ap₂ (λ (m : ℕ) (l : List ℕ). part (i * slotBytes) m l) (sym lh) e ∙ part-put-same x (i * slotBytes) (headOf k n w) (omega arith) in
-      let text : part (i * slotBytes + headSize) n y ≡ part (i * slotBytes + headSize) n x = ap (part (i * slotBytes + headSize) n) e ∙ part-put-above x (i * slotBytes) (headOf k n w) (omega arith) (i * slotBytes + headSize) n (omega arith) in
+-- the word of a kind and a text length at the front of slot i, and right after it g: nothing, or the number's word
+module _ (x : List ℕ) (i k n : ℕ) (g : List ℕ) (inside : i * slotBytes + slotBytes ≤ length x) (hk : k < 256) (hn : n ≤ textBytes) (hg : length g ≤ 8) where
+  abbrev front : List ℕ
+  front = leBytes 8 (k + 65536 * n) ++ g
+
+  length-front : length front ≡ 8 + length g
+  length-front = length-append (leBytes 8 (k + 65536 * n)) g
+
+  -- it is there once it is put, and stays where bytes are put after the head
+  front-there : {y : List ℕ} → y ≡ put x (i * slotBytes) front → part (i * slotBytes) (8 + length g) y ≡ front
+  front-there e = ap₂ (λ (m : ℕ) (l : List ℕ). part (i * slotBytes) m l) (sym length-front) e ∙ part-put-same x (i * slotBytes) front (omega (arith, length-front))
+
+  front-size : {y : List ℕ} → y ≡ put x (i * slotBytes) front → length y ≡ length x
+  front-size e = ap length e ∙ length-put x (i * slotBytes) front (omega (arith, length-front))
+
+  front-kept : {y z : List ℕ} (b : List ℕ) → length b ≤ textBytes + blockSize → y ≡ put x (i * slotBytes) front → z ≡ put y (i * slotBytes + headSize) b
+      → part (i * slotBytes) (8 + length g) z ≡ front
+  front-kept {y} b most e f =
+      let ly : length y ≡ length x = front-size e in
+      ap (part (i * slotBytes) (8 + length g)) f ∙ part-put-below y (i * slotBytes + headSize) b (omega arith) (i * slotBytes) (8 + length g) (omega arith) ∙ front-there e
+
+  front-value : (y : List ℕ) → part (i * slotBytes) (8 + length g) y ≡ front → slotAt y i ≡ valueBy k (wordAt y (i * slotBytes + 8)) (part (i * slotBytes + headSize) n y)
+  front-value y e = slot-is y i k n (first-word y (i * slotBytes) (k + 65536 * n) g e (omega arith)) hk hn
+
+  -- the front alone
+  pub slotted-front : {y : List ℕ} → y ≡ put x (i * slotBytes) (leBytes 8 (k + 65536 * n) ++ g)
+      → Slotted x y i (valueBy k (wordAt y (i * slotBytes + 8)) (part (i * slotBytes + headSize) n x)) Unit
+  slotted-front {y} e =
+      let text : part (i * slotBytes + headSize) n y ≡ part (i * slotBytes + headSize) n x =
+      ap (part (i * slotBytes + headSize) n) e ∙ part-put-above x (i * slotBytes) front (omega (arith, length-front)) (i * slotBytes + headSize) n (omega (arith, length-front)) in
       record {
-        outside = rw e (outside-put (i * slotBytes) (i * slotBytes + slotBytes) x (i * slotBytes) (headOf k n w) (omega arith) (omega arith) (omega arith));
-        value = slot-is y i k n w same hk hn hw ∙ ap (valueBy k w) text;
+        outside = rw e (outside-put (i * slotBytes) (i * slotBytes + slotBytes) x (i * slotBytes) front (omega arith) (omega (arith, length-front)) (omega (arith, length-front)));
+        value = front-value y (front-there e) ∙ ap (valueBy k (wordAt y (i * slotBytes + 8))) text;
         held = λ f. fresh-slot y i;
       }
 
-  -- a head, and bytes after it
-  pub slotted-text : {y z : List ℕ} (b : List ℕ) → n ≤ length b → length b ≤ textBytes + blockSize → y ≡ put x (i * slotBytes) (headOf k n w) → z ≡ put y (i * slotBytes + headSize) b
-      → Slotted x z i (valueBy k w (take n b)) Unit
+  -- the front, and bytes after the head
+  slotted-text : {y z : List ℕ} (b : List ℕ) → n ≤ length b → length b ≤ textBytes + blockSize → y ≡ put x (i * slotBytes) (leBytes 8 (k + 65536 * n) ++ g)
+      → z ≡ put y (i * slotBytes + headSize) b → Slotted x z i (valueBy k (wordAt z (i * slotBytes + 8)) (take n b)) Unit
   slotted-text {y} {z} b few most e f =
-      let lh = length-head k n w in
-      let s = slotted-head e in
-      let ly : length y ≡ length x = s .outside .size in
-      let same : part (i * slotBytes) 16 y ≡ headOf k n w = ap₂ (λ (m : ℕ) (l : List ℕ). part (i * slotBytes) m l) (sym lh) e ∙ part-put-same x (i * slotBytes) (headOf k n w) (omega arith) in
-      let kept : part (i * slotBytes) 16 z ≡ headOf k n w = ap (part (i * slotBytes) 16) f ∙ part-put-below y (i * slotBytes + headSize) b (omega arith) (i * slotBytes) 16 (omega arith) ∙ same in
+      let s = slotted-front e in
+      let ly : length y ≡ length x = front-size e in
       let text : part (i * slotBytes + headSize) n z ≡ take n b =
       sym (part-less (i * slotBytes + headSize) n (length b) z few) ∙ ap (take n) (ap (part (i * slotBytes + headSize) (length b)) f ∙ part-put-same y (i * slotBytes + headSize) b (omega arith)) in
       record {
         outside = outside-on (i * slotBytes) (i * slotBytes + slotBytes) x y z (s .outside) (rw f (outside-put (i * slotBytes) (i * slotBytes + slotBytes) y (i * slotBytes + headSize) b (omega arith) (omega arith) (omega arith)));
-        value = slot-is z i k n w kept hk hn hw ∙ ap (valueBy k w) text;
+        value = front-value z (front-kept b most e f) ∙ ap (valueBy k (wordAt z (i * slotBytes + 8))) text;
         held = λ f. fresh-slot z i;
       }
+
+pub slotted-is : {From : Type 0} (x y : List ℕ) (i : ℕ) (u v : Value) → u ≡ v → Slotted x y i u From → Slotted x y i v From
+slotted-is x y i u v e s = record { outside = s .outside; value = s .value ∙ e; held = s .held }
+
+-- with the number's word
+module _ (x : List ℕ) (i k n w : ℕ) (inside : i * slotBytes + slotBytes ≤ length x) (hk : k < 256) (hn : n ≤ textBytes) (hw : w < 2 ^ 64) where
+  -- a head alone
+  pub slotted-head : {y : List ℕ} → y ≡ put x (i * slotBytes) (headOf k n w) → Slotted x y i (valueBy k w (part (i * slotBytes + headSize) n x)) Unit
+  unfolding headOf
+  slotted-head {y} e =
+      let g = leBytes 8 w in
+      let number : wordAt y (i * slotBytes + 8) ≡ w = second-word y (i * slotBytes) (k + 65536 * n) w (front-there x i k n g inside hk hn (omega arith) e) hw in
+      slotted-is x y i _ _ (ap (λ (m : ℕ). valueBy k m (part (i * slotBytes + headSize) n x)) number) (slotted-front x i k n g inside hk hn (omega arith) e)
 
   -- a head, and a text of another part of the room, by blocks
   pub slotted-part : {y z : List ℕ} {p m : ℕ} (from : ℕ) → y ≡ put x (i * slotBytes) (headOf k n w) → z ≡ put y p (part from m y)
       → p ≡ i * slotBytes + headSize → n ≤ m → m ≤ textBytes + blockSize → i * slotBytes + slotBytes ≤ from → from + m ≤ length x
       → Slotted x z i (valueBy k w (part from n x)) Unit
+  unfolding headOf
   slotted-part {y} {z} {p} {m} from e f place enough most h fits =
-      let lh = length-head k n w in
-      let ly : length y ≡ length x = slotted-head e .outside .size in
-      let lb : length (part from m y) ≡ m = length-part from m y (omega arith) in
-      let s = slotted-text (part from m y) (omega arith) (omega arith) e (f ∙ ap (λ (q : ℕ). put y q (part from m y)) place) in
-      let text : take n (part from m y) ≡ part from n x =
+      let g = leBytes 8 w in
+      let b = part from m y in
+      let few : length g ≤ 8 = omega arith in
+      let ly : length y ≡ length x = front-size x i k n g inside hk hn few e in
+      let lb : length b ≡ m = length-part from m y (omega arith) in
+      let f' : z ≡ put y (i * slotBytes + headSize) b = f ∙ ap (λ (q : ℕ). put y q b) place in
+      let number : wordAt z (i * slotBytes + 8) ≡ w = second-word z (i * slotBytes) (k + 65536 * n) w (front-kept x i k n g inside hk hn few b (omega arith) e f') hw in
+      let text : take n b ≡ part from n x =
       part-less from n m y (omega arith)
       ∙ ap (part from n) e
       ∙ part-put-above x (i * slotBytes) (headOf k n w) (omega arith) from n (omega arith) in
-      record { outside = s .outside; value = s .value ∙ ap (valueBy k w) text; held = s .held }
-
-pub slotted-is : {From : Type 0} (x y : List ℕ) (i : ℕ) (u v : Value) → u ≡ v → Slotted x y i u From → Slotted x y i v From
-slotted-is x y i u v e s = record { outside = s .outside; value = s .value ∙ e; held = s .held }
+      slotted-is x z i _ _ (ap₂ (valueBy k) number text) (slotted-text x i k n g inside hk hn few b (omega arith) (omega arith) e f')
 
 -- a whole slot copied
 pub slotted-copy : (x : List ℕ) (i j n : ℕ) {y : List ℕ} {p q m : ℕ} → y ≡ put x p (part q m x) → p ≡ i * slotBytes → q ≡ j * slotBytes
@@ -344,6 +370,13 @@ text-is w t = refl
 
 pub slotted-words : {From : Type 0} (x y : List ℕ) (i w : ℕ) (t u : List ℕ) → t ≡ u → Slotted x y i (valueBy 2 w t) From → Slotted x y i (text u) From
 slotted-words x y i w t u e s = slotted-is x y i _ _ (text-is w t ∙ ap text e) s
+
+-- its kind's word, and bytes after the head that begin with the text
+pub slotted-copied : (x : List ℕ) (i n : ℕ) (b u : List ℕ) {y z : List ℕ} → i * slotBytes + slotBytes ≤ length x → n ≤ textBytes → n ≤ length b
+    → length b ≤ textBytes + blockSize → take n b ≡ u → y ≡ put x (i * slotBytes) (leBytes 8 (2 + 65536 * n))
+    → z ≡ put y (i * slotBytes + headSize) b → Slotted x z i (text u) Unit
+slotted-copied x i n b u inside hn few most e f g =
+    slotted-words x _ i _ _ u e (slotted-text x i 2 n [] inside (omega arith) hn (omega arith) b few most f g)
 
 pub slotted-unset : {From : Type 0} (x y : List ℕ) (i w : ℕ) (t : List ℕ) → Slotted x y i (valueBy 0 w t) From → Slotted x y i unset From
 unfolding valueBy

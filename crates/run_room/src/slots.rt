@@ -6,6 +6,7 @@ ghost use Rattle.edition.specs.Limits.{textBytes};
 ghost use Rattle.number.specs.Range.{unbias, top};
 ghost use Rattle.values.specs.Value.{unset, number};
 ghost use Rattle.buffer.specs.Parts.{part, put};
+ghost use Rattle.buffer.specs.Words.{leBytes};
 ghost use Rattle.run_room.specs.Layout.{headSize, slotBytes, slotsEnd, slotCount};
 ghost use Rattle.run_room.specs.Room.{headOf, sizeIn, wordAt, valueBy, slotAt, kindOf, Numbered};
 ghost use Rattle.run_room.specs.Held.{SlotHeld, Slotted};
@@ -16,12 +17,20 @@ use crate::layout::SLOT;
 use crate::layout::UNSET;
 use edition::Edition;
 
+// Writes the first word of a slot: kind and text length. Only a number needs the second one.
+pub fn put_kind(work: &mut [u8], at: usize, kind: u8, n: usize)
+    requires { ⌜ (at + headSize ≤ length (now work)) × (n ≤ textBytes) ⌝ }
+    ensures { λ _. ⌜ now (work .exit) ≡ put (now (work .entry)) at (leBytes 8 (kind + 65536 * n)) ⌝ }
+{
+    buffer::put_word(work, at, kind as u64 + 65536 * n as u64);
+}
+
 // Writes the two words at the front of a slot.
-pub fn put_head(work: &mut [u8], at: usize, kind: u8, n: usize, w: u64)
+fn put_head(work: &mut [u8], at: usize, kind: u8, n: usize, w: u64)
     requires { ⌜ (at + headSize ≤ length (now work)) × (n ≤ textBytes) ⌝ }
     ensures { λ _. ⌜ now (work .exit) ≡ put (now (work .entry)) at (headOf kind n w) ⌝ }
 {
-    buffer::put_word(work, at, kind as u64 + 65536 * n as u64);
+    put_kind(work, at, kind, n);
     buffer::put_word(work, at + 8, w);
 }
 
@@ -60,7 +69,7 @@ pub fn set_unset(work: &mut [u8], i: usize)
     requires { ⌜ (slotsEnd ≤ length (now work)) × (i < slotCount) ⌝ }
     ensures { λ _. ⌜ Slotted (now (work .entry)) (now (work .exit)) i unset Unit ⌝ }
 {
-    put_head(work, i * SLOT, UNSET, 0, 0);
+    put_kind(work, i * SLOT, UNSET, 0);
 }
 
 // Sets a slot to a number.

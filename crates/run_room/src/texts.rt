@@ -40,12 +40,26 @@ pub fn slot_text(work: &[u8], i: usize) -> &[u8]
     &work[a..e]
 }
 
-// Sets a slot to a text from elsewhere.
+// Sets a slot to a text from elsewhere. How long it is can't be foreseen, and a branch that is guessed wrong costs more
+// than the copy: so there is none among 1 to 3, among 4 to 8 and among 9 to 16 bytes. Each call of `copy_short` is
+// compiled to one of its cases, and the place, written out at each call, to a part of the copy's addresses.
 pub fn set_text(work: &mut [u8], i: usize, bytes: &[u8])
     requires { ⌜ (slotsEnd ≤ length (now work)) × (i < slotCount) × (length (now bytes) ≤ textBytes) ⌝ }
     ensures { λ _. ⌜ Slotted (now (work .entry)) (now (work .exit)) i (text (now (bytes .entry))) Unit ⌝ }
 {
-    slots::put_head(work, i * SLOT, TEXT, bytes.len(), 0);
+    slots::put_kind(work, i * SLOT, TEXT, bytes.len());
+    if bytes.len() < 4 {
+        lanes::copy_few(work, i * SLOT + HEAD, bytes);
+        return;
+    }
+    if bytes.len() <= 8 {
+        lanes::copy_short(work, i * SLOT + HEAD, bytes);
+        return;
+    }
+    if bytes.len() <= BLOCK {
+        lanes::copy_short(work, i * SLOT + HEAD, bytes);
+        return;
+    }
     lanes::copy(work, i * SLOT + HEAD, bytes);
 }
 
@@ -54,7 +68,7 @@ pub fn set_constant(work: &mut [u8], i: usize, image: &[u8], from: usize, n: usi
     requires { ⌜ (slotsEnd ≤ length (now work)) × (i < slotCount) × (n ≤ textBytes) × (from + n ≤ length (now image)) ⌝ }
     ensures { λ _. ⌜ Slotted (now (work .entry)) (now (work .exit)) i (text (part from n (now (image .entry)))) Unit ⌝ }
 {
-    slots::put_head(work, i * SLOT, TEXT, n, 0);
+    slots::put_kind(work, i * SLOT, TEXT, n);
     let end = from + n;
     if BLOCK <= image.len() - end {
         lanes::copy_over(work, i * SLOT + HEAD, image, from, n);
@@ -68,7 +82,7 @@ pub fn set_length(work: &mut [u8], i: usize, n: usize)
     requires { ⌜ (slotsEnd ≤ length (now work)) × (i < slotCount) × (n ≤ textBytes) ⌝ }
     ensures { λ _. ⌜ Slotted (now (work .entry)) (now (work .exit)) i (text (part (i * slotBytes + headSize) n (now (work .entry)))) Unit ⌝ }
 {
-    slots::put_head(work, i * SLOT, TEXT, n, 0);
+    slots::put_kind(work, i * SLOT, TEXT, n);
 }
 
 // Returns the length of the text of a slot's value, which is in the slot: a number's is written there. The value stays

@@ -3,22 +3,22 @@ use mathlib.Core.Path.{_≡_, refl, ap, _∙_}
 use Prim.Native.Nat.{_+_, _*_}
 use native.Mathlib.Omega.{arith}
 use lib.ListN.{length}
-use lib.Seq.{take-length, take-all}
+use lib.Seq.{take-all}
 use Rattle.buffer.specs.Parts.{part, put}
 use Rattle.buffer.proofs.Parts.{length-part}
 use Rattle.buffer.proofs.Lent.{part-lent}
 use Rattle.lanes.specs.Block.{blocks}
 use Rattle.run_room.specs.Layout.{headSize, slotBytes}
-use Rattle.run_room.proofs.Slotwise.{slotted-text, slotted-words, part-less}
+use Rattle.run_room.proofs.Slotwise.{slotted-copied, part-less}
 use borrow.Author.Needs.{needs}
 use Rattle.run_room.proofs.texts.set_constant.Statement.{statement}
 use Rattle.run_room.proofs.texts.set_constant.Tie as tie
 
-mul-put-head : tie.Need-mul-put-head
-mul-put-head c = search needs
+mul-put-kind : tie.Need-mul-put-kind
+mul-put-kind c = search needs
 
-put-head-requires : tie.Need-put-head-requires
-put-head-requires c κs = search needs
+put-kind-requires : tie.Need-put-kind-requires
+put-kind-requires c κs = search needs
 
 add-end : tie.Need-add-end
 add-end c = search needs
@@ -44,9 +44,8 @@ returns c =
     let x = a .image .now in
     let b = part (a .from) (blocks (a .n)) x in
     let lb : length b ≡ blocks (a .n) = length-part (a .from) (blocks (a .n)) x (omega arith) in
-    slotted-words (a .work .now) _ (a .i) 0 _ (part (a .from) (a .n) x) (part-less (a .from) (a .n) (blocks (a .n)) x (omega arith))
-    (slotted-text (a .work .now) (a .i) 2 (a .n) 0 (omega arith) (omega arith) (omega arith) (omega arith) b (omega arith) (omega arith)
-    (c .before .before .before .before .before .before .before .put-head .ensures) (c .before .before .copy-over .ensures))
+    slotted-copied (a .work .now) (a .i) (a .n) b (part (a .from) (a .n) x) (omega arith) (omega arith) (omega arith) (omega arith) (part-less (a .from) (a .n) (blocks (a .n)) x (omega arith))
+    (c .before .before .before .before .before .before .before .put-kind .ensures) (c .before .before .copy-over .ensures)
 
 mul-copy : tie.Need-mul-copy
 mul-copy c = search needs
@@ -76,16 +75,15 @@ returns-2 c =
     let b = part (a .from) (a .n) x in
     let lb : length b ≡ a .n = length-part (a .from) (a .n) x (omega arith) in
     let lent = part-lent x (a .from) (a .from + a .n) (a .n) refl in
-    slotted-words (a .work .now) _ (a .i) 0 _ b (take-all (a .n) b (omega arith))
-    (slotted-text (a .work .now) (a .i) 2 (a .n) 0 (omega arith) (omega arith) (omega arith) (omega arith) b (omega arith) (omega arith)
-    (c .before .before .before .before .before .before .before .before .put-head .ensures) (c .before .before .copy .ensures ∙ ap (put _ (a .i * slotBytes + headSize)) lent))
+    slotted-copied (a .work .now) (a .i) (a .n) b b (omega arith) (omega arith) (omega arith) (omega arith) (take-all (a .n) b (omega arith))
+    (c .before .before .before .before .before .before .before .before .put-kind .ensures) (c .before .before .copy .ensures ∙ ap (put _ (a .i * slotBytes + headSize)) lent)
 
 pub set-constant-spec : {M : Type 1} → statement M
 set-constant-spec =
     tie.close
     (tie.spec
-    mul-put-head
-    put-head-requires
+    mul-put-kind
+    put-kind-requires
     add-end
     sub-if1
     mul-copy-over
