@@ -32,10 +32,12 @@ lengthOf nowhere = 0
 pub record Searches (t text : List ℕ) (r : ℕ) : Type 0 where
   pub unsized : (length t ≡ tableWords → ⊥) → r ≡ 0
   pub long : textBytes < length text → r ≡ 0
-  pub best : (e : Ere Class) → Serves t e → length t ≡ tableWords → length text ≤ textBytes → r ≡ lengthOf (bestOf accepts text e)
+  pub best : (e : Ere Class) → Serves t e → length t ≡ tableWords → length text ≤ textBytes
+      → r ≡ lengthOf (bestOf accepts text e)
 
 -- 1 if the text has a match, 0 if not; 0 if the table has another size or the text is too long
 pub record Tells (t text : List ℕ) (r : ℕ) : Type 0 where
   pub unsized : (length t ≡ tableWords → ⊥) → r ≡ 0
   pub long : textBytes < length text → r ≡ 0
-  pub any : (e : Ere Class) → Serves t e → length t ≡ tableWords → length text ≤ textBytes → r ≡ cond (isMatch (bestOf accepts text e)) 1 0
+  pub any : (e : Ere Class) → Serves t e → length t ≡ tableWords → length text ≤ textBytes
+      → r ≡ cond (isMatch (bestOf accepts text e)) 1 0

@@ -16,7 +16,8 @@ pub extern "C" fn flowawk_run(
     bytes: &mut u64,
 ) -> u64
     ensures { λ r. ⌜ Ran
-        (runOf (now (image .entry)) (oneFeed (now (lines .entry))) (now (output .entry)) (length (now (work .entry))) budget)
+        (runOf (now (image .entry)) (oneFeed (now (lines .entry))) (now (output .entry)) (length (now (work .entry)))
+        budget)
         (record { outcome = r; steps = now (steps .exit); records = now (records .exit); bytes = now (bytes .exit) })
         (now (output .exit)) (now (work .entry)) (now (work .exit)) ⌝ }
 {

@@ -31,7 +31,8 @@ refusedAt k c = record { more = false; ok = false; at = k; words = c }
 
 -- the words that a step comes to once all of l is read
 unfoldable pub leadsTo : Step → List ℕ → Option (Parsed (List ℕ))
-leadsTo s l = cond (s .more) (worded (s .words) (itemsOf false (drop (s .at) l))) (cond (s .ok) (parsed (s .words) (drop (s .at) l)) none)
+leadsTo s l = cond (s .more) (worded (s .words) (itemsOf false (drop (s .at) l)))
+    (cond (s .ok) (parsed (s .words) (drop (s .at) l)) none)
 
 -- a step from index `at` of l comes to what a definition reads there; unless it refuses, it goes on
 pub record Leads (s : Step) (l : List ℕ) (at : ℕ) (read : Option (Parsed (List ℕ))) : Type 0 where

@@ -58,7 +58,8 @@ fn refused(at: usize, words: [u64; 4]) -> Step
 
 // Reads the rest of a range from the byte low, from the index after its `-` on.
 fn range_to(ere: &[u8], at: usize, low: u8, words: [u64; 4]) -> Step
-    ensures { λ r. ⌜ Leads r (now (ere .entry)) at (worded words (rangeTo (itemsOf false) low (readMember (drop at (now (ere .entry)))))) ⌝ }
+    ensures { λ r. ⌜ Leads r (now (ere .entry)) at
+        (worded words (rangeTo (itemsOf false) low (readMember (drop at (now (ere .entry)))))) ⌝ }
 {
     match members::read_member(ere, at) {
         Member::Byte(high, next) => {
@@ -74,7 +75,8 @@ fn range_to(ere: &[u8], at: usize, low: u8, words: [u64; 4]) -> Step
 
 // Reads a byte or a range, from an index on.
 fn item(ere: &[u8], at: usize, words: [u64; 4]) -> Step
-    ensures { λ r. ⌜ Leads r (now (ere .entry)) at (worded words (afterByte (itemsOf false) (readMember (drop at (now (ere .entry)))))) ⌝ }
+    ensures { λ r. ⌜ Leads r (now (ere .entry)) at
+        (worded words (afterByte (itemsOf false) (readMember (drop at (now (ere .entry)))))) ⌝ }
 {
     match members::read_member(ere, at) {
         Member::Byte(b, next) => {

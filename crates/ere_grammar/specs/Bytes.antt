@@ -17,8 +17,8 @@ escape l b = record { letter = l; byte = b }
 -- "String escapes: `\" \\ \/ \a \b \t \n \v \f \r`"
 abbrev pub stringEscapes : List Escape
 stringEscapes =
-    escape 34 34 ∷ escape 92 92 ∷ escape 47 47 ∷ escape 97 7 ∷ escape 98 8 ∷ escape 116 9 ∷ escape 110 10 ∷ escape 118 11
-    ∷ escape 102 12 ∷ escape 114 13 ∷ []
+    escape 34 34 ∷ escape 92 92 ∷ escape 47 47 ∷ escape 97 7 ∷ escape 98 8 ∷ escape 116 9 ∷ escape 110 10
+    ∷ escape 118 11 ∷ escape 102 12 ∷ escape 114 13 ∷ []
 
 -- "one of `^ $ . [ ] | ( ) * + ? { }`"
 abbrev pub marks : List ℕ

@@ -45,38 +45,43 @@ range a b = record { low = a; high = b }
 pub data Items : Bool → List ℕ → List Range → Type 0 where
   done : Items false [] []
   hyphen : Items false (45 ∷ []) (range 45 45 ∷ [])
-  byte : {first : Bool} {s t : List ℕ} {b : ℕ} {rs : List Range} → Member (senses first) s b → Opened s t → Ends t → Items false t rs
-      → Items first (s ++ t) (range b b ∷ rs)
-  span : {first : Bool} {s u t : List ℕ} {a b : ℕ} {rs : List Range} → Member (senses first) s a → Member (93 ∷ []) u b → Opened u t → a ≤ b
-      → Items false t rs → Items first (s ++ (45 ∷ (u ++ t))) (range a b ∷ rs)
+  byte : {first : Bool} {s t : List ℕ} {b : ℕ} {rs : List Range} → Member (senses first) s b → Opened s t → Ends t
+      → Items false t rs → Items first (s ++ t) (range b b ∷ rs)
+  span : {first : Bool} {s u t : List ℕ} {a b : ℕ} {rs : List Range} → Member (senses first) s a → Member (93 ∷ []) u b
+      → Opened u t → a ≤ b → Items false t rs → Items first (s ++ (45 ∷ (u ++ t))) (range a b ∷ rs)
 
 -- "`[^` takes all other bytes"
 pub data Bracket : List ℕ → Class → Type 0 where
-  taking : {s : List ℕ} {rs : List Range} → Clear (94 ∷ []) s → Items true s rs → Bracket (91 ∷ (s ++ (93 ∷ []))) (record { negated = false; ranges = rs })
-  leaving : {s : List ℕ} {rs : List Range} → Items true s rs → Bracket (91 ∷ 94 ∷ (s ++ (93 ∷ []))) (record { negated = true; ranges = rs })
+  taking : {s : List ℕ} {rs : List Range} → Clear (94 ∷ []) s → Items true s rs
+      → Bracket (91 ∷ (s ++ (93 ∷ []))) (record { negated = false; ranges = rs })
+  leaving : {s : List ℕ} {rs : List Range} → Items true s rs
+      → Bracket (91 ∷ 94 ∷ (s ++ (93 ∷ []))) (record { negated = true; ranges = rs })
 
 -- an ERE is alternatives, each a sequence of pieces; a piece is an anchor, or an atom that may be repeated
 pub data Part : Type 0 where
   alternatives sequence piece atom : Part
 
--- The bytes spell the tree, with at most n groups one inside the other. A later edition adds rules of its own.
-pub data Spells (edition : ℕ) : Part → ℕ → List ℕ → Ere Class → Type 0 where
-  alternative : {n : ℕ} {s : List ℕ} {e : Ere Class} → Spells edition sequence n s e → Spells edition alternatives n s e
-  or : {n : ℕ} {s t : List ℕ} {a b : Ere Class} → Spells edition alternatives n s a → Spells edition sequence n t b
-      → Spells edition alternatives n (s ++ (124 ∷ t)) (alt a b)
-  single : {n : ℕ} {s : List ℕ} {e : Ere Class} → Spells edition piece n s e → Spells edition sequence n s e
-  then : {n : ℕ} {s t : List ℕ} {a b : Ere Class} → Spells edition sequence n s a → Spells edition piece n t b → Spells edition sequence n (s ++ t) (cat a b)
-  start : {n : ℕ} → Spells edition piece n (94 ∷ []) bol
-  end : {n : ℕ} → Spells edition piece n (36 ∷ []) eol
-  once : {n : ℕ} {s : List ℕ} {e : Ere Class} → Spells edition atom n s e → Spells edition piece n s e
-  any-times : {n : ℕ} {s : List ℕ} {e : Ere Class} → Spells edition atom n s e → Spells edition piece n (s ++ (42 ∷ [])) (star e)
-  some-times : {n : ℕ} {s : List ℕ} {e : Ere Class} → Spells edition atom n s e → Spells edition piece n (s ++ (43 ∷ [])) (plus e)
-  at-most-once : {n : ℕ} {s : List ℕ} {e : Ere Class} → Spells edition atom n s e → Spells edition piece n (s ++ (63 ∷ [])) (opt e)
-  byte : {n : ℕ} {b : ℕ} → isPlain b ≡ true → Spells edition atom n (b ∷ []) (place (only b))
-  escaped : {n : ℕ} {b c : ℕ} → escapeOf b ≡ some c → Spells edition atom n (92 ∷ b ∷ []) (place (only c))
-  dot : {n : ℕ} → Spells edition atom n (46 ∷ []) (place anyByte)
-  bracket : {n : ℕ} {s : List ℕ} {c : Class} → Bracket s c → Spells edition atom n s (place c)
-  group : {n : ℕ} {s : List ℕ} {e : Ere Class} → Spells edition alternatives n s e → Spells edition atom (suc n) (40 ∷ (s ++ (41 ∷ []))) e
+module _ (edition : ℕ) where
+  -- The bytes spell the tree, with at most n groups one inside the other. A later edition adds rules of its own.
+  pub data Spells : Part → ℕ → List ℕ → Ere Class → Type 0 where
+    alternative : {n : ℕ} {s : List ℕ} {e : Ere Class} → Spells sequence n s e → Spells alternatives n s e
+    or : {n : ℕ} {s t : List ℕ} {a b : Ere Class} → Spells alternatives n s a → Spells sequence n t b
+        → Spells alternatives n (s ++ (124 ∷ t)) (alt a b)
+    single : {n : ℕ} {s : List ℕ} {e : Ere Class} → Spells piece n s e → Spells sequence n s e
+    then : {n : ℕ} {s t : List ℕ} {a b : Ere Class} → Spells sequence n s a → Spells piece n t b
+        → Spells sequence n (s ++ t) (cat a b)
+    start : {n : ℕ} → Spells piece n (94 ∷ []) bol
+    end : {n : ℕ} → Spells piece n (36 ∷ []) eol
+    once : {n : ℕ} {s : List ℕ} {e : Ere Class} → Spells atom n s e → Spells piece n s e
+    any-times : {n : ℕ} {s : List ℕ} {e : Ere Class} → Spells atom n s e → Spells piece n (s ++ (42 ∷ [])) (star e)
+    some-times : {n : ℕ} {s : List ℕ} {e : Ere Class} → Spells atom n s e → Spells piece n (s ++ (43 ∷ [])) (plus e)
+    at-most-once : {n : ℕ} {s : List ℕ} {e : Ere Class} → Spells atom n s e → Spells piece n (s ++ (63 ∷ [])) (opt e)
+    byte : {n : ℕ} {b : ℕ} → isPlain b ≡ true → Spells atom n (b ∷ []) (place (only b))
+    escaped : {n : ℕ} {b c : ℕ} → escapeOf b ≡ some c → Spells atom n (92 ∷ b ∷ []) (place (only c))
+    dot : {n : ℕ} → Spells atom n (46 ∷ []) (place anyByte)
+    bracket : {n : ℕ} {s : List ℕ} {c : Class} → Bracket s c → Spells atom n s (place c)
+    group : {n : ℕ} {s : List ℕ} {e : Ere Class} → Spells alternatives n s e
+        → Spells atom (suc n) (40 ∷ (s ++ (41 ∷ []))) e
 
 -- "An ERE has at most 512 bytes, 128 places (byte, dot, bracket or anchor) and 16 nested groups."
 pub record Reads (edition : ℕ) (bytes : List ℕ) (e : Ere Class) : Type 0 where

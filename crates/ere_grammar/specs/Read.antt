@@ -63,7 +63,8 @@ module _ (rest : List ℕ → Items) where
 
   unfoldable pub afterByte : Option (Parsed ℕ) → Items
   afterByte none = none
-  afterByte (some g) = cond (joins (g .rest)) (rangeTo (g .value) (readMember (tail (g .rest)))) (withRange (range (g .value) (g .value)) (rest (g .rest)))
+  afterByte (some g) = cond (joins (g .rest)) (rangeTo (g .value) (readMember (tail (g .rest))))
+      (withRange (range (g .value) (g .value)) (rest (g .rest)))
 
 -- the items of a bracket and its end, in at most that number of turns; `first` where none is before them
 unfoldable pub readItems : ℕ → Bool → List ℕ → Items
@@ -79,7 +80,8 @@ bracketOf negated (some g) = parsed (record { negated = negated; ranges = g .val
 
 -- a bracket, after its `[`
 unfoldable pub readBracket : List ℕ → Option (Parsed Class)
-readBracket t = cond (begins (94 ∷ []) t) (bracketOf true (readItems (length t) true (tail t))) (bracketOf false (readItems (suc (length t)) true t))
+readBracket t = cond (begins (94 ∷ []) t) (bracketOf true (readItems (length t) true (tail t)))
+    (bracketOf false (readItems (suc (length t)) true t))
 
 -- ---- atoms that are no groups
 
@@ -148,7 +150,8 @@ readRest (suc turns) n A S (b ∷ t) =
     let last = readRest turns n A (some (andThen S eol)) t in
     let group = readGroup (readRest turns) n A S t in
     let atom = afterAtom (readRest turns) n A S (readAtom b t) in
-    cond (eqb b 41) (finished A S (b ∷ t)) (cond (eqb b 124) bar (cond (eqb b 94) first (cond (eqb b 36) last (cond (eqb b 40) group atom))))
+    cond (eqb b 41) (finished A S (b ∷ t))
+    (cond (eqb b 124) bar (cond (eqb b 94) first (cond (eqb b 36) last (cond (eqb b 40) group atom))))
 
 unfoldable pub whole : Tree → Option (Ere Class)
 whole none = none
@@ -160,4 +163,5 @@ whole (some g) = ended (g .rest) (g .value)
 
 -- the tree that the bytes spell, within the sizes
 unfoldable pub readEre : ℕ → List ℕ → Option (Ere Class)
-readEre edition bytes = cond (leb (length bytes) ereBytes) (whole (readRest (suc (length bytes)) ereGroups none none bytes)) none
+readEre edition bytes = cond (leb (length bytes) ereBytes)
+    (whole (readRest (suc (length bytes)) ereGroups none none bytes)) none

@@ -40,9 +40,7 @@ module _ {A : Type 0} (ok : A → ℕ → Bool) (text : List ℕ) (e : Ere A) wh
   -- the greatest length; there is none exactly if there is no such span.
   abbrev pub BestFrom : ℕ → ℕ → Match → Type 0
   BestFrom from least (found s n) =
-      (Spans ok text e s (s + n))
-      × (from ≤ s)
-      × (least ≤ n)
+      (Spans ok text e s (s + n)) × (from ≤ s) × (least ≤ n)
       × ((k j : ℕ) → from ≤ k → k + least ≤ j → Spans ok text e k j → s ≤ k)
       × ((j : ℕ) → s + least ≤ j → Spans ok text e s j → j ≤ s + n)
   BestFrom from least nowhere = (k j : ℕ) → from ≤ k → k + least ≤ j → Spans ok text e k j → ⊥

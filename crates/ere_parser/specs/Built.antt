@@ -10,11 +10,14 @@ use Rattle.ere_parser.specs.declared.rows.Entry.{Entry}
 
 -- the numbered tree is the tree of classes: at each place, whose number is from lo up to hi, the table has the class
 pub data Agrees (t : List ℕ) (lo hi : ℕ) : Ere ℕ → Ere Class → Type 0 where
-  at-place : {p : ℕ} {c : Class} → lo ≤ p → p < hi → ((b : ℕ) → b < 256 → acceptsAt t p b ≡ accepts c b) → Agrees t lo hi (place p) (place c)
+  at-place : {p : ℕ} {c : Class} → lo ≤ p → p < hi → ((b : ℕ) → b < 256 → acceptsAt t p b ≡ accepts c b)
+      → Agrees t lo hi (place p) (place c)
   at-bol : Agrees t lo hi bol bol
   at-eol : Agrees t lo hi eol eol
-  in-cat : {a b : Ere ℕ} {x y : Ere Class} → Agrees t lo hi a x → Agrees t lo hi b y → Agrees t lo hi (cat a b) (cat x y)
-  in-alt : {a b : Ere ℕ} {x y : Ere Class} → Agrees t lo hi a x → Agrees t lo hi b y → Agrees t lo hi (alt a b) (alt x y)
+  in-cat : {a b : Ere ℕ} {x y : Ere Class} → Agrees t lo hi a x → Agrees t lo hi b y
+      → Agrees t lo hi (cat a b) (cat x y)
+  in-alt : {a b : Ere ℕ} {x y : Ere Class} → Agrees t lo hi a x → Agrees t lo hi b y
+      → Agrees t lo hi (alt a b) (alt x y)
   in-star : {a : Ere ℕ} {x : Ere Class} → Agrees t lo hi a x → Agrees t lo hi (star a) (star x)
   in-plus : {a : Ere ℕ} {x : Ere Class} → Agrees t lo hi a x → Agrees t lo hi (plus a) (plus x)
   in-opt : {a : Ere ℕ} {x : Ere Class} → Agrees t lo hi a x → Agrees t lo hi (opt a) (opt x)

@@ -103,7 +103,9 @@ pub record GroupReads (l : List ℕ) (n at lo count : ℕ) (t u : List ℕ) (r :
   pub inside : r .at ≤ length l
   pub kept : SameBelow lo t u
   pub refused : r .ok ≡ false → Refuses (baseOf l n at lo count)
-  pub read : r .ok ≡ true → (e : Ere Class) × (restFrom n none none (drop at l) ≡ parsed e (drop (r .at) l)) × (count + places e ≡ r .count) × (Built u lo (r .hi) (r .entry) e) × (Closed (drop (r .at) l))
+  pub read : r .ok ≡ true
+      → (e : Ere Class) × (restFrom n none none (drop at l) ≡ parsed e (drop (r .at) l)) × (count + places e ≡ r .count)
+      × (Built u lo (r .hi) (r .entry) e) × (Closed (drop (r .at) l))
 
 -- a byte that begins one
 pub record Begins (b : ℕ) : Type 0 where

@@ -43,25 +43,75 @@ eolEntry = entry acceptAtEnd acceptAtEnd
 -- the state with which a group is begun, and one in which it is refused
 abbrev pub startOf : ℕ → ℕ → ℕ → State
 startOf at lo count =
-    record { over = false; ok = true; some = false; at = at; lo = lo; hi = lo; count = count; alts = noAlts; seq = noSeq }
+    record {
+      over = false;
+      ok = true;
+      some = false;
+      at = at;
+      lo = lo;
+      hi = lo;
+      count = count;
+      alts = noAlts;
+      seq = noSeq;
+    }
 
 abbrev pub refusedOf : State → State
 refusedOf s =
-    record { over = true; ok = false; some = s .some; at = s .at; lo = s .lo; hi = s .hi; count = s .count; alts = s .alts; seq = s .seq }
+    record {
+      over = true;
+      ok = false;
+      some = s .some;
+      at = s .at;
+      lo = s .lo;
+      hi = s .hi;
+      count = s .count;
+      alts = s .alts;
+      seq = s .seq;
+    }
 
 abbrev pub endedOf : State → State
 endedOf s =
-    record { over = true; ok = true; some = s .some; at = s .at; lo = s .lo; hi = s .hi; count = s .count; alts = s .alts; seq = s .seq }
+    record {
+      over = true;
+      ok = true;
+      some = s .some;
+      at = s .at;
+      lo = s .lo;
+      hi = s .hi;
+      count = s .count;
+      alts = s .alts;
+      seq = s .seq;
+    }
 
 -- one alternative more
 abbrev pub barOf : State → State
 barOf s =
-    record { over = false; ok = true; some = false; at = s .at + 1; lo = s .hi; hi = s .hi; count = s .count; alts = joinEntry (s .alts) (s .seq); seq = noSeq }
+    record {
+      over = false;
+      ok = true;
+      some = false;
+      at = s .at + 1;
+      lo = s .hi;
+      hi = s .hi;
+      count = s .count;
+      alts = joinEntry (s .alts) (s .seq);
+      seq = noSeq;
+    }
 
 -- one piece more, whose places start where those of the sequence end
 abbrev pub pushedOf : State → Piece → State
 pushedOf s g =
-    record { over = false; ok = true; some = true; at = g .at; lo = s .lo; hi = g .hi; count = g .count; alts = s .alts; seq = linkEntry (s .seq) (g .entry) }
+    record {
+      over = false;
+      ok = true;
+      some = true;
+      at = g .at;
+      lo = s .lo;
+      hi = g .hi;
+      count = g .count;
+      alts = s .alts;
+      seq = linkEntry (s .seq) (g .entry);
+    }
 
 abbrev pub pushedTable : State → Piece → List ℕ → List ℕ
 pushedTable s g t = linkRows t (s .lo + 2) (s .hi - s .lo) (g .entry .later)
@@ -102,12 +152,14 @@ closedPiece g = pieceOf (g .at + 1) (g .hi) (g .count) (g .entry)
 
 abbrev pub groupedOf : List ℕ → State → Piece → State
 groupedOf l s g =
-    cond (g .ok && eqb (getD l (g .at) 0) 41) (pushedOf s (repeatedOf (getD l (g .at + 1) 0) (closedPiece g))) (refusedOf s)
+    cond (g .ok && eqb (getD l (g .at) 0) 41) (pushedOf s (repeatedOf (getD l (g .at + 1) 0) (closedPiece g)))
+    (refusedOf s)
 
 abbrev pub groupedTable : List ℕ → State → Piece → List ℕ → List ℕ
 groupedTable l s g t =
     cond (g .ok && eqb (getD l (g .at) 0) 41)
-    (pushedTable s (repeatedOf (getD l (g .at + 1) 0) (closedPiece g)) (repeatedTable (getD l (g .at + 1) 0) (closedPiece g) (s .hi) t)) t
+    (pushedTable s (repeatedOf (getD l (g .at + 1) 0) (closedPiece g))
+    (repeatedTable (getD l (g .at + 1) 0) (closedPiece g) (s .hi) t)) t
 
 -- a place more, with a class that ends before next, and with the byte b after it
 abbrev pub leafPiece : State → ℕ → Piece
@@ -121,7 +173,8 @@ abbrev pub refusedPiece : State → Piece
 refusedPiece s = record { ok = false; at = s .at; hi = s .hi; count = s .count; entry = s .seq }
 
 abbrev pub finishOf : State → Piece
-finishOf s = cond (s .ok && s .some) (pieceOf (s .at) (s .hi) (s .count) (joinEntry (s .alts) (s .seq))) (refusedPiece s)
+finishOf s = cond (s .ok && s .some) (pieceOf (s .at) (s .hi) (s .count) (joinEntry (s .alts) (s .seq)))
+    (refusedPiece s)
 
 abbrev pub choiceOf : State → State
 choiceOf s = cond (s .some) (barOf s) (refusedOf s)

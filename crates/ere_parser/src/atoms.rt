@@ -36,7 +36,8 @@ fn read_escaped(ere: &[u8], at: usize) -> Bracket
 // Reads the atom at an index, which is no group, as a class of bytes.
 pub fn read_atom(ere: &[u8], at: usize) -> Bracket
     requires { ⌜ at < length (now ere) ⌝ }
-    ensures { λ r. ⌜ AtomReads r (now (ere .entry)) at (readAtom (getD (now (ere .entry)) at 0) (drop (at + 1) (now (ere .entry)))) ⌝ }
+    ensures { λ r. ⌜ AtomReads r (now (ere .entry)) at
+        (readAtom (getD (now (ere .entry)) at 0) (drop (at + 1) (now (ere .entry)))) ⌝ }
 {
     let b = ere[at];
     let next = at + 1;

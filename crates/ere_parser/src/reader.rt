@@ -24,7 +24,8 @@ use ere_table::NOTHING;
 
 // Appends an atom that is no group, with what repeats it; refuses the 129th place.
 fn atom(ere: &[u8], s: State, t: &mut [u64]) -> State
-    requires { ⌜ (length (now t) ≡ tableWords) × (length (now ere) ≤ ereBytes) × (s .at < length (now ere)) × Safe (now ere) s × Begins (getD (now ere) (s .at) 0) ⌝ }
+    requires { ⌜ (length (now t) ≡ tableWords) × (length (now ere) ≤ ereBytes) × (s .at < length (now ere))
+        × Safe (now ere) s × Begins (getD (now ere) (s .at) 0) ⌝ }
     ensures { λ r. ⌜ ((n : ℕ) → Moves (now (ere .entry)) n (now (t .entry)) (now (t .exit)) s r) ⌝ }
 {
     let at = s.at;
@@ -94,7 +95,8 @@ pub fn read_group(
     count: usize,
     t: &mut [u64],
 ) -> Piece
-    requires { ⌜ (length (now t) ≡ tableWords) × (length (now ere) ≤ ereBytes) × (at ≤ length (now ere)) × (lo ≤ count) × (count ≤ erePlaces) ⌝ }
+    requires { ⌜ (length (now t) ≡ tableWords) × (length (now ere) ≤ ereBytes) × (at ≤ length (now ere)) × (lo ≤ count)
+        × (count ≤ erePlaces) ⌝ }
     ensures { λ r. ⌜ GroupReads (now (ere .entry)) levels at lo count (now (t .entry)) (now (t .exit)) r ⌝ }
 {
     let mut s = turns::start(at, lo, count);

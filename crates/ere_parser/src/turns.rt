@@ -194,8 +194,10 @@ pub fn anchor(s: State, entry: Entry, t: &mut [u64]) -> State
 
 // Appends a group that was read after its `(`, with what repeats it; refuses one without its `)`.
 pub fn grouped(ere: &[u8], s: State, g: Piece, t: &mut [u64]) -> State
-    requires { ⌜ (length (now t) ≡ tableWords) × (s .lo ≤ s .hi) × (s .hi ≤ g .hi) × (g .hi ≤ erePlaces) × (length (now ere) ≤ ereBytes) × (g .at ≤ length (now ere)) ⌝ }
-    ensures { λ r. ⌜ (r ≡ groupedOf (now (ere .entry)) s g) × (now (t .exit) ≡ groupedTable (now (ere .entry)) s g (now (t .entry))) ⌝ }
+    requires { ⌜ (length (now t) ≡ tableWords) × (s .lo ≤ s .hi) × (s .hi ≤ g .hi) × (g .hi ≤ erePlaces)
+        × (length (now ere) ≤ ereBytes) × (g .at ≤ length (now ere)) ⌝ }
+    ensures { λ r. ⌜ (r ≡ groupedOf (now (ere .entry)) s g)
+        × (now (t .exit) ≡ groupedTable (now (ere .entry)) s g (now (t .entry))) ⌝ }
 {
     let at = g.at;
     let lo = s.hi;
@@ -222,7 +224,8 @@ pub fn grouped(ere: &[u8], s: State, g: Piece, t: &mut [u64]) -> State
 // Writes the class and the row of a new place, and returns it as a piece.
 pub fn leaf(words: [u64; 4], next: usize, p: usize, count: usize, t: &mut [u64]) -> Piece
     requires { ⌜ (length (now t) ≡ tableWords) × (p < erePlaces) × (count < erePlaces) ⌝ }
-    ensures { λ r. ⌜ (r ≡ pieceOf next (p + 1) (count + 1) (placeEntry p)) × (now (t .exit) ≡ leafTable p words (now (t .entry))) ⌝ }
+    ensures { λ r. ⌜ (r ≡ pieceOf next (p + 1) (count + 1) (placeEntry p))
+        × (now (t .exit) ≡ leafTable p words (now (t .entry))) ⌝ }
 {
     ere_table::put_class(t, p, words);
     ere_table::put_row(t, p + 2, ACCEPT);

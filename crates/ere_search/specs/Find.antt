@@ -23,4 +23,5 @@ Inside at least len Nowhere = Unit
 -- r is the best match of at least `least` bytes in the text whose bytes from place `at` on are `rest`
 pub record Finds (t rest : List ℕ) (at least : ℕ) (r : Found) : Type 0 where
   pub inside : Inside at least (length rest) r
-  pub best : (e : Ere ℕ) (w : List ℕ) → Tabled t e → at ≤ length w → drop at w ≡ rest → BestFrom (acceptsAt t) w e at least (matchOf r)
+  pub best : (e : Ere ℕ) (w : List ℕ) → Tabled t e → at ≤ length w → drop at w ≡ rest
+      → BestFrom (acceptsAt t) w e at least (matchOf r)

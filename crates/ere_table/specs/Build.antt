@@ -12,7 +12,8 @@ use Rattle.lists.specs.Digit.{bit}
 -- the set x with y in place of its accept bit
 abbrev pub link : List ℕ → List ℕ → List ℕ
 link x y =
-    cond (mem x placeCount) (bitOr (getD x 0 0) (getD y 0 0) ∷ bitOr (getD x 1 0) (getD y 1 0) ∷ bitAnd (getD x 2 0) (getD y 2 0) ∷ [])
+    cond (mem x placeCount)
+    (bitOr (getD x 0 0) (getD y 0 0) ∷ bitOr (getD x 1 0) (getD y 1 0) ∷ bitAnd (getD x 2 0) (getD y 2 0) ∷ [])
     (getD x 0 0 ∷ getD x 1 0 ∷ bitAnd (getD x 2 0) (getD y 2 0) ∷ [])
 
 -- the accept bits of a set's third word: before the text's end (1) and at it (2)

@@ -8,7 +8,8 @@ use crate::reading::Filled;
 // Ends the first `at` bytes with a newline, if there are any and the last is none: so the next file starts a line.
 pub fn separate(room: &mut [u8], at: usize) -> Filled
     requires { ⌜ at ≤ length (now room) ⌝ }
-    ensures { λ r. ⌜ (r ≡ separatedTo (now (room .entry)) at) × (now (room .exit) ≡ separated (now (room .entry)) at) ⌝ }
+    ensures { λ r. ⌜ (r ≡ separatedTo (now (room .entry)) at)
+        × (now (room .exit) ≡ separated (now (room .entry)) at) ⌝ }
 {
     if at == 0 {
         return Filled::To(at);

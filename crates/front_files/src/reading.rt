@@ -21,7 +21,8 @@ enum ReadStep {
 // Reads once, after the first `at` bytes. A call that a signal interrupts is made again.
 fn read_once(fd: i32, room: &mut [u8], at: usize) -> ReadStep
     requires { ⌜ at ≤ length (now room) ⌝ }
-    ensures { λ r. ⌜ ReadFrom at (length (now (room .entry))) r × (take at (now (room .exit)) ≡ take at (now (room .entry))) ⌝ }
+    ensures { λ r. ⌜ ReadFrom at (length (now (room .entry))) r
+        × (take at (now (room .exit)) ≡ take at (now (room .entry))) ⌝ }
 {
     let rest = &mut room[at..];
     let got = libc::read(fd, rest);
@@ -41,7 +42,8 @@ fn read_once(fd: i32, room: &mut [u8], at: usize) -> ReadStep
 // Reads until the file ends. A room that is full is not enough: one byte more than the file has is asked for, so that
 // the end is seen.
 pub fn fill(fd: i32, room: &mut [u8], from: usize) -> Filled
-    ensures { λ r. ⌜ FilledTo from (length (now (room .entry))) r × (take from (now (room .exit)) ≡ take from (now (room .entry))) ⌝ }
+    ensures { λ r. ⌜ FilledTo from (length (now (room .entry))) r
+        × (take from (now (room .exit)) ≡ take from (now (room .entry))) ⌝ }
 {
     let size = room.len();
     let mut at = from;

@@ -46,14 +46,16 @@ unfoldable pub countsText : ℕ → ℕ → ℕ → List ℕ
 countsText records steps bytes =
     says "; "
     ++ (decimalDigits records
-    ++ (says " records begun, " ++ (decimalDigits steps ++ (says " steps, " ++ (decimalDigits bytes ++ says " bytes written\n")))))
+    ++ (says " records begun, "
+    ++ (decimalDigits steps ++ (says " steps, " ++ (decimalDigits bytes ++ says " bytes written\n")))))
 
 -- ---- whole messages
 
 -- why a filter is refused
 unfoldable pub refusalText : List ℕ → List ℕ → ℕ → ℕ → List ℕ
 refusalText name text place outcome =
-    placeText name (lineAt text place) (columnAt text place) ++ (outcomeText outcome ++ (says "\n" ++ caretOf text place))
+    placeText name (lineAt text place) (columnAt text place)
+    ++ (outcomeText outcome ++ (says "\n" ++ caretOf text place))
 
 -- how a run ended
 unfoldable pub summaryText : ℕ → ℕ → ℕ → ℕ → List ℕ

@@ -27,7 +27,8 @@ pub record Decides (i : Image) (ok part : Bool) : Type 0 where
 pub record SectionJudged (context : Context) (l : List ℕ) (at : ℕ) (r : Listed) : Type 0 where
   pub inside : r .ok ≡ true → r .end ≤ length l
   pub there : r .ok ≡ true
-      → (xs : List Instruction) × (counted fromBytes (instruction fromBytes (context .edition)) (drop at l) ≡ parsed xs (drop (r .end) l))
+      → (xs : List Instruction)
+      × (counted fromBytes (instruction fromBytes (context .edition)) (drop at l) ≡ parsed xs (drop (r .end) l))
   pub judged : (i : Image) (s : Section) (t : List ℕ) → ContextOf context i s
       → counted fromBytes (instruction fromBytes (i .edition)) (drop at l) ≡ parsed (sectionOf i s) t
       → (Decides i (r .ok) (sectionChecks i s)) × (r .ok ≡ true → t ≡ drop (r .end) l)
@@ -39,6 +40,8 @@ pub record ImageJudged (l : List ℕ) (ok : Bool) : Type 0 where
 
 -- the three sections, from their place on; if they pass, they are there to the last byte
 pub record SectionsJudged (edition users constants eres : ℕ) (l : List ℕ) (at : ℕ) (ok : Bool) : Type 0 where
-  pub judged : (i : Image) → edition ≡ i .edition → users ≡ i .users → constants ≡ length (i .constants) → eres ≡ length (i .eres) → SectionsIn i (drop at l)
+  pub judged : (i : Image) → edition ≡ i .edition → users ≡ i .users → constants ≡ length (i .constants)
+      → eres ≡ length (i .eres) → SectionsIn i (drop at l)
       → Decides i ok (sectionChecks i begin && (sectionChecks i main && sectionChecks i end))
-  pub there : ok ≡ true → (begins records ends : List Instruction) × (SectionsOf edition begins records ends (drop at l))
+  pub there : ok ≡ true
+      → (begins records ends : List Instruction) × (SectionsOf edition begins records ends (drop at l))

@@ -20,7 +20,8 @@ pub enum Verdict {
 
 // Reads the section at a place with its index, and checks its instructions.
 fn section(image: &[u8], context: Context, at: usize, index: &mut [u32]) -> Listed
-    requires { ⌜ (at ≤ length (now image)) × (length (now image) < imageBound) × (instructionCount ≤ length (now index)) × (context .users ≤ userNames) ⌝ }
+    requires { ⌜ (at ≤ length (now image)) × (length (now image) < imageBound) × (instructionCount ≤ length (now index))
+        × (context .users ≤ userNames) ⌝ }
     ensures { λ r. ⌜ SectionJudged context (now (image .entry)) at r ⌝ }
 {
     let s = image_index::list_at(image, context.edition, Kind::Instructions, at, index);

@@ -44,7 +44,8 @@ code o a b kinds = record { operation = o; pops = λ ns. a; pushes = λ ns. b; i
 
 -- "29 print n (n-0)"
 abbrev pub printing : Code
-printing = record { operation = action print; pops = λ ns. getD ns 0 0; pushes = λ ns. 0; immediates = a-positive-count ∷ [] }
+printing =
+    record { operation = action print; pops = λ ns. getD ns 0 0; pushes = λ ns. 0; immediates = a-positive-count ∷ [] }
 
 -- all codes that there are, from 0 on
 unfoldable pub codes : List Code

@@ -46,7 +46,8 @@ module _ (source : Source) where
   instructionOf c none l = none
   instructionOf c (some k) l =
       bind (source .number l) (λ depth l.
-      bind (many (source .number) (length (k .immediates)) l) (λ named. succeed (record { code = c; depth = depth; immediates = named })))
+      bind (many (source .number) (length (k .immediates)) l)
+      (λ named. succeed (record { code = c; depth = depth; immediates = named })))
 
   abbrev pub instruction : ℕ → Parser Instruction
   instruction edition l = bind (source .number l) (λ c. instructionOf c (codeOf edition c))
@@ -59,7 +60,15 @@ module _ (source : Source) where
       bind (counted (instruction edition) l) (λ begin l.
       bind (counted (instruction edition) l) (λ main l.
       bind (counted (instruction edition) l) (λ end.
-      succeed (record { edition = edition; users = users; constants = constants; eres = eres; begin = begin; main = main; end = end })))))))
+      succeed (record {
+        edition = edition;
+        users = users;
+        constants = constants;
+        eres = eres;
+        begin = begin;
+        main = main;
+        end = end;
+      })))))))
 
   -- "Nothing follows."
   abbrev pub ended : Option (Parsed Image) → Option Image

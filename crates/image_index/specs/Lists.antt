@@ -77,7 +77,8 @@ module _ (edition : ℕ) where
     -- an item that fits, and its entry
     pub record EntryAt (at : ℕ) (r : Entry) : Type 0 where
       pub refused : r .ok ≡ false → (a : ItemOf k) (t : List ℕ) → takerOf k (drop at l) ≡ parsed a t → FitsOf k a → ⊥
-      pub found : r .ok ≡ true → (a : ItemOf k) × (Stands (takerOf k) l at a (r .end)) × (FitsOf k a) × (TellsOf k l (r .entry) a)
+      pub found : r .ok ≡ true
+          → (a : ItemOf k) × (Stands (takerOf k) l at a (r .end)) × (FitsOf k a) × (TellsOf k l (r .entry) a)
 
     -- each entry that the index has tells its item
     abbrev pub Indexes : List (ItemOf k) → List ℕ → Type 0
@@ -91,15 +92,18 @@ module _ (edition : ℕ) where
 
     -- n items, each of which fits
     pub record ItemsAt (n at : ℕ) (r : Listed) (index : List ℕ) : Type 0 where
-      pub refused : r .ok ≡ false → (xs : List (ItemOf k)) (t : List ℕ) → many (takerOf k) n (drop at l) ≡ parsed xs t → Every (FitsOf k) xs → ⊥
+      pub refused : r .ok ≡ false → (xs : List (ItemOf k)) (t : List ℕ) → many (takerOf k) n (drop at l) ≡ parsed xs t
+          → Every (FitsOf k) xs → ⊥
       pub found : r .ok ≡ true
-          → (xs : List (ItemOf k)) × (many (takerOf k) n (drop at l) ≡ parsed xs (drop (r .end) l)) × (at ≤ r .end) × (r .end ≤ length l) × (r .count ≡ n)
-          × (length xs ≡ n) × (Every (FitsOf k) xs) × (Indexes xs index)
+          → (xs : List (ItemOf k)) × (many (takerOf k) n (drop at l) ≡ parsed xs (drop (r .end) l)) × (at ≤ r .end)
+          × (r .end ≤ length l) × (r .count ≡ n) × (length xs ≡ n) × (Every (FitsOf k) xs) × (Indexes xs index)
 
     pub record ListAt (at : ℕ) (r : Listed) (index : List ℕ) : Type 0 where
-      pub refused : r .ok ≡ false → (xs : List (ItemOf k)) (t : List ℕ) → counted fromBytes (takerOf k) (drop at l) ≡ parsed xs t → Fits xs → ⊥
+      pub refused : r .ok ≡ false → (xs : List (ItemOf k)) (t : List ℕ)
+          → counted fromBytes (takerOf k) (drop at l) ≡ parsed xs t → Fits xs → ⊥
       pub found : r .ok ≡ true
-          → (xs : List (ItemOf k)) × (Stands (counted fromBytes (takerOf k)) l at xs (r .end)) × (r .count ≡ length xs) × (Fits xs) × (Indexes xs index)
+          → (xs : List (ItemOf k)) × (Stands (counted fromBytes (takerOf k)) l at xs (r .end)) × (r .count ≡ length xs)
+          × (Fits xs) × (Indexes xs index)
 
 -- ---- what an entry leads to
 

@@ -44,7 +44,9 @@ pub fn constant(image: &[u8], index: &[u32], n: usize) -> Found
 pub fn constant_bytes<'a, 'b>(image: &'a [u8], index: &'b [u32], n: usize) -> &'a [u8]
     requires { ⌜ (n < length (now index)) × (getD (now index) n 0 ≤ length (now image)) ⌝ }
     ensures { λ r. ⌜ (IsPart (now (image .entry)) (image .entry .ptr) (now r) (r .ptr))
-        × ((edition : ℕ) (bytes : List ℕ) → TellsOf edition Constants (now (image .entry)) (getD (now (index .entry)) n 0) (text bytes) → now r ≡ bytes) ⌝ }
+        × ((edition : ℕ) (bytes : List ℕ)
+        → TellsOf edition Constants (now (image .entry)) (getD (now (index .entry)) n 0) (text bytes)
+        → now r ≡ bytes) ⌝ }
 {
     let c = image_items::constant_at(image, index[n] as usize);
     let start = c.start;
@@ -56,7 +58,8 @@ pub fn constant_bytes<'a, 'b>(image: &'a [u8], index: &'b [u32], n: usize) -> &'
 pub fn ere_bytes<'a, 'b>(image: &'a [u8], index: &'b [u32], n: usize) -> &'a [u8]
     requires { ⌜ (n < length (now index)) × (getD (now index) n 0 ≤ length (now image)) ⌝ }
     ensures { λ r. ⌜ (IsPart (now (image .entry)) (image .entry .ptr) (now r) (r .ptr))
-        × ((edition : ℕ) (bytes : List ℕ) → TellsOf edition Eres (now (image .entry)) (getD (now (index .entry)) n 0) bytes → now r ≡ bytes) ⌝ }
+        × ((edition : ℕ) (bytes : List ℕ)
+        → TellsOf edition Eres (now (image .entry)) (getD (now (index .entry)) n 0) bytes → now r ≡ bytes) ⌝ }
 {
     let e = image_items::text_at(image, index[n] as usize);
     let start = e.start;

@@ -51,7 +51,8 @@ module _ (r : Context) (count : ℕ) where
   -- "code 0 last in its section and only there; depth 0 at its start, at 0, 30 and 31, and at most 32"
   abbrev pub placedOf : ℕ → ℕ → ℕ → Bool → Bool
   placedOf n c d rest =
-      agree (eqb c 0) (eqb (suc n) count) && ((not (eqb n 0) || eqb d 0) && ((not (terminatesOf c) || eqb d 0) && (leb d operandDepth && rest)))
+      agree (eqb c 0) (eqb (suc n) count)
+      && ((not (eqb n 0) || eqb d 0) && ((not (terminatesOf c) || eqb d 0) && (leb d operandDepth && rest)))
 
   -- "each successor inside the section and its depth as the instruction leaves it": `has m d` says that instruction m
   -- is there, with the depth d before it

@@ -28,7 +28,8 @@ module _ (i : Image) where
   SectionsIn = SectionsOf (i .edition) (i .begin) (i .main) (i .end)
 
   abbrev pub ListsIn : List ℕ → Type 0
-  ListsIn = Follows (constant fromBytes) (i .constants) (Follows (counted fromBytes (wordUpTo 255)) (i .eres) SectionsIn)
+  ListsIn = Follows (constant fromBytes) (i .constants)
+      (Follows (counted fromBytes (wordUpTo 255)) (i .eres) SectionsIn)
 
 -- the numbers before the lists
 pub record HeaderAt (l : List ℕ) (h : Header) : Type 0 where
@@ -37,4 +38,5 @@ pub record HeaderAt (l : List ℕ) (h : Header) : Type 0 where
       → (h .edition ≡ i .edition) × (h .users ≡ i .users) × (ListsIn i (drop (h .at) l))
   pub inside : h .ok ≡ true → h .at ≤ length l
   pub there : h .ok ≡ true
-      → (t : List ℕ) × (takeNumber l ≡ parsed (h .edition) t) × (known (h .edition) ≡ true) × (takeNumber t ≡ parsed (h .users) (drop (h .at) l))
+      → (t : List ℕ) × (takeNumber l ≡ parsed (h .edition) t) × (known (h .edition) ≡ true)
+      × (takeNumber t ≡ parsed (h .users) (drop (h .at) l))

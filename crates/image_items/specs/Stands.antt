@@ -88,7 +88,8 @@ pub record NumbersAt (n code depth : ℕ) (l : List ℕ) (at : ℕ) (r : Fetched
 pub record InstructionAt (edition : ℕ) (l : List ℕ) (at : ℕ) (r : Fetched) : Type 0 where
   pub refused : r .ok ≡ false → instruction fromBytes edition (drop at l) ≡ none
   pub found : r .ok ≡ true
-      → Stands (instruction fromBytes edition) l at (instructionOf edition (r .code) (r .depth) (r .first) (r .second)) (r .end)
+      → Stands (instruction fromBytes edition) l at (instructionOf edition (r .code) (r .depth) (r .first) (r .second))
+      (r .end)
   pub known : r .ok ≡ true → r .code < codeCount edition
   pub no-first : r .ok ≡ true → operandsIn (codeOf edition (r .code)) ≡ 0 → r .first ≡ 0
   pub no-second : r .ok ≡ true → operandsIn (codeOf edition (r .code)) ≤ 1 → r .second ≡ 0

@@ -55,7 +55,8 @@ fn sections(
     end: &mut [u32],
 ) -> Counts
     requires { ⌜ (at ≤ length (now image)) × (length (now image) < imageBound) ⌝ }
-    ensures { λ r. ⌜ SectionsLoaded edition (now (image .entry)) at r (now (begin .exit)) (now (main .exit)) (now (end .exit)) ⌝ }
+    ensures { λ r. ⌜ SectionsLoaded edition (now (image .entry)) at r (now (begin .exit)) (now (main .exit))
+        (now (end .exit)) ⌝ }
 {
     let b = image_index::list_at(image, edition, Kind::Instructions, at, begin);
     if !b.ok {

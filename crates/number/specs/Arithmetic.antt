@@ -23,7 +23,8 @@ isZero z = eqb (natAbs z) 0
 
 -- "Inexact `/`: 12."
 unfoldable pub quotientOf : ℤ → ℤ → Answer
-quotientOf a b = cond (isZero b) (stop divisorZero) (cond (isZero (remZ a b)) (ranged (quotZ a b)) (stop numberNotWhole))
+quotientOf a b = cond (isZero b) (stop divisorZero)
+    (cond (isZero (remZ a b)) (ranged (quotZ a b)) (stop numberNotWhole))
 
 -- "`%` takes the sign of the left operand, or is 0."
 unfoldable pub remainderOf : ℤ → ℤ → Answer

@@ -21,7 +21,8 @@ capped n = min n (numberBound + 1)
 -- the judgement by values
 unfoldable pub judgedBy : Bool → ℕ → ℕ → Answer
 judgedBy negative whole fraction =
-    cond (ltb numberBound whole) (stop numberOutOfRange) (cond (ltb 0 fraction) (stop numberNotWhole) (number (withSign negative whole)))
+    cond (ltb numberBound whole) (stop numberOutOfRange)
+    (cond (ltb 0 fraction) (stop numberNotWhole) (number (withSign negative whole)))
 
 pub record ReadsDigits (r : Digits) (t : List ℕ) : Type 0 where
   pub counted : r .count ≡ leading isDigit t

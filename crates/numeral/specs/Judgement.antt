@@ -37,7 +37,8 @@ judged negative whole fraction =
 
 -- the number of a text without leading blanks: "that of its longest prefix of this form", "without one, 0"
 unfoldable pub prefixNumber : List ℕ → Answer
-prefixNumber t = cond (eqb (prefixLength t) 0) (number (pos 0)) (judged (isNegative t) (wholeDigits t) (fractionDigits t))
+prefixNumber t = cond (eqb (prefixLength t) 0) (number (pos 0))
+    (judged (isNegative t) (wholeDigits t) (fractionDigits t))
 
 -- "A text's number is that of its longest prefix of this form after leading blanks; without one, 0."
 unfoldable pub numberOf : List ℕ → Answer

@@ -69,7 +69,8 @@ pub fn decimal_length(w: u64) -> usize
 // Writes a number's text from index `at` on, and answers its length.
 pub fn write_decimal(out: &mut [u8], at: usize, w: u64) -> usize
     requires { ⌜ (w ≤ top) × (at + length (decimalText (unbias w)) ≤ length (now out)) ⌝ }
-    ensures { λ r. ⌜ (r ≡ length (decimalText (unbias w))) × (now (out .exit) ≡ put (now (out .entry)) at (decimalText (unbias w))) ⌝ }
+    ensures { λ r. ⌜ (r ≡ length (decimalText (unbias w)))
+        × (now (out .exit) ≡ put (now (out .entry)) at (decimalText (unbias w))) ⌝ }
 {
     if w < Edition::NUMBER {
         let n = Edition::NUMBER - w;

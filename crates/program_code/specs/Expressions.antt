@@ -64,15 +64,13 @@ compile (matches-ere e r) n d = compile e n d ++ emit (action matches) (d + 1) (
 compile (no-match e r) n d = compile e n d ++ (emit (action matches) (d + 1) (the-ere r) ++ act negation (d + 1))
 -- "`a && b`: a, 28 L, b, not, not, 27 E, L: constant 0, E"
 compile (both a b) n d =
-    compile a n d
-    ++ (emit (flow jump-if-false) (d + 1) (the-instruction (n + size a + 1 + size b + 3))
+    compile a n d ++ (emit (flow jump-if-false) (d + 1) (the-instruction (n + size a + 1 + size b + 3))
     ++ (compile b (n + size a + 1) d
     ++ (doubleNot (d + 1)
     ++ (emit (flow jump) (d + 1) (the-instruction (n + size a + 1 + size b + 4)) ++ numeral 0 d))))
 -- "`a || b`: a, 28 L, constant 1, 27 E, L: b, not, not, E"
 compile (either a b) n d =
-    compile a n d
-    ++ (emit (flow jump-if-false) (d + 1) (the-instruction (n + size a + 3))
+    compile a n d ++ (emit (flow jump-if-false) (d + 1) (the-instruction (n + size a + 3))
     ++ (numeral 1 d
     ++ (emit (flow jump) (d + 1) (the-instruction (n + size a + 3 + size b + 2))
     ++ (compile b (n + size a + 3) d ++ doubleNot (d + 1)))))

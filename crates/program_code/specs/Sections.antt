@@ -52,18 +52,16 @@ compileStatement (expression e) n = compile e n 0 ++ act drop 1
 compileStatement (print es) n = compilePrint es n
 -- "`if`: c, 28 to the else part (or past); then-part; with `else`, 27 past it"
 compileStatement (if c a) n =
-    compile c n 0
-    ++ (emit (flow jump-if-false) 1 (the-instruction (n + size c + 1 + sizeOf a)) ++ compileStatement a (n + size c + 1))
+    compile c n 0 ++ (emit (flow jump-if-false) 1 (the-instruction (n + size c + 1 + sizeOf a))
+    ++ compileStatement a (n + size c + 1))
 compileStatement (if-else c a b) n =
-    compile c n 0
-    ++ (emit (flow jump-if-false) 1 (the-instruction (n + size c + 1 + sizeOf a + 1))
+    compile c n 0 ++ (emit (flow jump-if-false) 1 (the-instruction (n + size c + 1 + sizeOf a + 1))
     ++ (compileStatement a (n + size c + 1)
     ++ (emit (flow jump) 0 (the-instruction (n + size c + 1 + sizeOf a + 1 + sizeOf b))
     ++ compileStatement b (n + size c + 1 + sizeOf a + 1))))
 -- "`while`: T: c, 28 past, body, 27 T"
 compileStatement (while c a) n =
-    compile c n 0
-    ++ (emit (flow jump-if-false) 1 (the-instruction (n + size c + 1 + sizeOf a + 1))
+    compile c n 0 ++ (emit (flow jump-if-false) 1 (the-instruction (n + size c + 1 + sizeOf a + 1))
     ++ (compileStatement a (n + size c + 1) ++ emit (flow jump) 0 (the-instruction n)))
 compileStatement (block b) n = compileStatement b n
 compileStatement next n = emit (flow next-flow) 0 nothing

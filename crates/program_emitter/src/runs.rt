@@ -19,7 +19,8 @@ pub fn put(section: &mut [u64], n: usize, instruction: u64)
 // Stores instruction n with its operand, if there is room, and gives the number of the next.
 pub fn emit(section: &mut [u64], n: usize, op: u64, depth: u64, operand: u64) -> usize
     requires { ⌜ Fits op depth operand 0 × (n < 1048576) ⌝ }
-    ensures { λ r. ⌜ (r ≡ n + 1) × (now (section .exit) ≡ sets (now (section .entry)) n (word op depth operand ∷ [])) ⌝ }
+    ensures { λ r. ⌜ (r ≡ n + 1)
+        × (now (section .exit) ≡ sets (now (section .entry)) n (word op depth operand ∷ [])) ⌝ }
 {
     put(section, n, words::instruction(op, depth, operand, 0));
     n + 1
@@ -38,7 +39,9 @@ pub fn emit_ere(section: &mut [u64], n: usize, depth: u64, place: usize) -> usiz
 // Stores what follows the right side of `&&`, and then the jump before it, which is instruction j.
 pub fn emit_both(section: &mut [u64], n: usize, depth: u64, j: usize) -> usize
     requires { ⌜ (n < 1000000) × (j < 1000000) × (depth < 65000) ⌝ }
-    ensures { λ r. ⌜ (r ≡ n + 4) × (now (section .exit) ≡ sets (sets (now (section .entry)) n (bothWords n depth)) j (word 28 (depth + 1) (n + 3) ∷ [])) ⌝ }
+    ensures { λ r. ⌜ (r ≡ n + 4)
+        × (now (section .exit)
+        ≡ sets (sets (now (section .entry)) n (bothWords n depth)) j (word 28 (depth + 1) (n + 3) ∷ [])) ⌝ }
 {
     emit(section, n, words::NOT, depth + 1, 0);
     emit(section, n + 1, words::NOT, depth + 1, 0);
@@ -51,7 +54,9 @@ pub fn emit_both(section: &mut [u64], n: usize, depth: u64, j: usize) -> usize
 // Stores what follows the right side of `||`, and then the three instructions before it, from j on.
 pub fn emit_either(section: &mut [u64], n: usize, depth: u64, j: usize) -> usize
     requires { ⌜ (n < 1000000) × (j < 1000000) × (depth < 65000) ⌝ }
-    ensures { λ r. ⌜ (r ≡ n + 2) × (now (section .exit) ≡ sets (sets (now (section .entry)) n (notWords depth)) j (eitherWords j depth (n + 2))) ⌝ }
+    ensures { λ r. ⌜ (r ≡ n + 2)
+        × (now (section .exit)
+        ≡ sets (sets (now (section .entry)) n (notWords depth)) j (eitherWords j depth (n + 2))) ⌝ }
 {
     emit(section, n, words::NOT, depth + 1, 0);
     emit(section, n + 1, words::NOT, depth + 1, 0);

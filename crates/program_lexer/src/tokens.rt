@@ -65,7 +65,8 @@ fn word(s: &[u8], a: usize, edition: Edition) -> Token
 // Reads a STRING, from its first quote on.
 fn string(s: &[u8], a: usize) -> Token
     requires { ⌜ a < length (now s) ⌝ }
-    ensures { λ r. ⌜ r ≡ coded (stringToken a (drop (suc a) (now (s .entry))) (readString false (drop (suc a) (now (s .entry))))) ⌝ }
+    ensures { λ r. ⌜ r ≡ coded
+        (stringToken a (drop (suc a) (now (s .entry))) (readString false (drop (suc a) (now (s .entry))))) ⌝ }
 {
     let Close::At(stop) = program_scanner::string_close(s, a + 1) else {
         return Token {
@@ -159,7 +160,9 @@ pub fn token_after(s: &[u8], t: Token, edition: Edition) -> Token
 // Reads an ERE, from its first slash on.
 fn ere_at(s: &[u8], a: usize, edition: Edition) -> Token
     requires { ⌜ a ≤ length (now s) ⌝ }
-    ensures { λ r. ⌜ r ≡ coded (ereToken (edition .number) a (drop (suc a) (now (s .entry))) (ereLength false (drop (suc a) (now (s .entry))))) ⌝ }
+    ensures { λ r. ⌜ r ≡ coded
+        (ereToken (edition .number) a (drop (suc a) (now (s .entry)))
+        (ereLength false (drop (suc a) (now (s .entry))))) ⌝ }
 {
     let Close::At(end) = program_scanner::ere_close(s, a + 1) else {
         return Token {

@@ -53,7 +53,8 @@ module _ (edition : ℕ) (s : List ℕ) where
   -- words stand for instructions, one for one
   pub data Spell : List ℕ → List Emitted → Type 0 where
     none-left : Spell [] []
-    one-more : {w : ℕ} {i : Emitted} {ws : List ℕ} {is : List Emitted} → Means w i → Spell ws is → Spell (w ∷ ws) (i ∷ is)
+    one-more : {w : ℕ} {i : Emitted} {ws : List ℕ} {is : List Emitted} → Means w i → Spell ws is
+        → Spell (w ∷ ws) (i ∷ is)
 
   -- a section that was xs is ys once words for some instructions are stored from instruction n on
   pub record Wrote (xs : List ℕ) (n : ℕ) (is : List Emitted) (ys : List ℕ) : Type 0 where

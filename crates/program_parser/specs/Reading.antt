@@ -56,7 +56,13 @@ success t n form = record { token = coded t; count = n; outcome = 0; form = form
 
 -- an outcome and its place
 abbrev pub refusal : ℕ → ℕ → Read
-refusal outcome place = record { token = record { start = place; kind = 0; stop = 0 }; count = 0; outcome = outcome; form = 0 }
+refusal outcome place =
+    record {
+      token = record { start = place; kind = 0; stop = 0 };
+      count = 0;
+      outcome = outcome;
+      form = 0;
+    }
 
 -- the outcome of a token that can't continue any program: "at one token 3, 5, 4"
 abbrev pub refusedBy : Token → ℕ
@@ -81,7 +87,8 @@ module _ (edition : ℕ) (s : List ℕ) where
   -- after a user name"
   unfoldable pub Placed : Token → Type 0
   Placed t =
-      (t ≡ tokenFrom edition s (t .start)) ⊎ ((t ≡ asOperand edition s (tokenFrom edition s (t .start))) ⊎ (is call-paren t ≡ true))
+      (t ≡ tokenFrom edition s (t .start))
+      ⊎ ((t ≡ asOperand edition s (tokenFrom edition s (t .start))) ⊎ (is call-paren t ≡ true))
 
   -- a token of the text, at or after a place
   pub record Good (p : ℕ) (t : Token) : Type 0 where
@@ -100,7 +107,8 @@ module _ (edition : ℕ) (s : List ℕ) where
 
   -- ---- reading an expression from the token t on, with n instructions written, at the depth d: the answer is r, and
   -- the section, which was xs, is ys
-  pub record ReadExpression (t : Token) (n d : ℕ) (xs : List ℕ) (e : Expression) (u : Token) (r : Read) (ys : List ℕ) : Type 0 where
+  pub record ReadExpression (t : Token) (n d : ℕ) (xs : List ℕ) (e : Expression) (u : Token) (r : Read)
+      (ys : List ℕ) : Type 0 where
     pub answer : r ≡ success u (n + size e) (formOf edition e)
     pub good : Good (t .stop) u
     pub bound : size e + 8 * t .start < 8 * u .start
@@ -112,7 +120,8 @@ module _ (edition : ℕ) (s : List ℕ) where
   Reading t n d xs (no outcome place) r ys = (r ≡ refusal outcome place) × (outcome ≡ 0 → ⊥)
 
   -- ---- the same for a statement, at depth 0
-  pub record ReadStatement (t : Token) (n : ℕ) (xs : List ℕ) (a : Statement) (u : Token) (r : Read) (ys : List ℕ) : Type 0 where
+  pub record ReadStatement (t : Token) (n : ℕ) (xs : List ℕ) (a : Statement) (u : Token) (r : Read)
+      (ys : List ℕ) : Type 0 where
     pub answer : r ≡ success u (n + sizeOf a) (endOf a)
     pub good : Good (t .stop) u
     pub bound : sizeOf a + 8 * t .start ≤ 8 * u .start

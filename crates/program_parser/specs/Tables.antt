@@ -69,7 +69,8 @@ shapesCode (x ∷ l) = shapeCode x + 4 * shapesCode l
 
 -- a function's numbers, in the editions that have it
 abbrev pub withSince : ℕ → ℕ → ℕ → ℕ → Coded
-withSince op shapes since edition = cond (leb since edition) (record { op = op; shapes = shapes }) (record { op = 0; shapes = 0 })
+withSince op shapes since edition = cond (leb since edition) (record { op = op; shapes = shapes })
+    (record { op = 0; shapes = 0 })
 
 -- what the code says of a function; without one its code is 0
 abbrev pub described : Option Function → Coded

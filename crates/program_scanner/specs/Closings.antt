@@ -14,7 +14,8 @@ use Rattle.program_scanner.specs.declared.closings.Close.the-variants.{A
 -- what a byte of a STRING is: 0 a byte of its value, 1 a backslash, 2 the closing quote, 3 refused
 unfoldable pub stringTurn : Bool → ℕ → ℕ
 stringTurn escaped b =
-    cond escaped (cond (isSome (lookup stringEscapes b)) 0 3) (cond (eqb b 34) 2 (cond (eqb b 10) 3 (cond (eqb b 92) 1 0)))
+    cond escaped (cond (isSome (lookup stringEscapes b)) 0 3)
+    (cond (eqb b 34) 2 (cond (eqb b 10) 3 (cond (eqb b 92) 1 0)))
 
 -- the place after the closing quote of a STRING that was read
 unfoldable pub stringClose : List ℕ → Option (Parsed (List ℕ)) → Close

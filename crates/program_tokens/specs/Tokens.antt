@@ -127,8 +127,7 @@ tokenAt edition s p =
 unfoldable pub tokenAfter : ℕ → List ℕ → Token → Token
 tokenAfter edition s t =
     cond (is user-name t && beginsWith (λ b. eqb b 40) (drop (t .stop) s))
-    (token (t .stop) call-paren 1)
-    (tokenAt edition s (t .stop))
+    (token (t .stop) call-paren 1) (tokenAt edition s (t .stop))
 
 -- ---- EREs
 

@@ -39,8 +39,8 @@ words =
     ∷ word "sub" SUB ∷ word "gsub" GSUB ∷ word "atan2" other-function ∷ word "close" other-function
     ∷ word "cos" other-function ∷ word "exp" other-function ∷ word "int" other-function ∷ word "log" other-function
     ∷ word "rand" other-function ∷ word "sin" other-function ∷ word "split" other-function
-    ∷ word "sprintf" other-function ∷ word "sqrt" other-function ∷ word "srand" other-function ∷ word "system" other-function
-    ∷ word "tolower" other-function ∷ word "toupper" other-function
+    ∷ word "sprintf" other-function ∷ word "sqrt" other-function ∷ word "srand" other-function
+    ∷ word "system" other-function ∷ word "tolower" other-function ∷ word "toupper" other-function
     -- "NF NR FS OFS ORS RSTART RLENGTH"; "NF, NR, RSTART, RLENGTH can't be assigned"
     ∷ word "FS" variable ∷ word "OFS" variable ∷ word "ORS" variable ∷ word "NF" fixed-variable
     ∷ word "NR" fixed-variable ∷ word "RSTART" fixed-variable ∷ word "RLENGTH" fixed-variable

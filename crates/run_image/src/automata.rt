@@ -94,7 +94,8 @@ fn add(
         × ((xs : List (List ℕ)) × (Readable (edition .number) (now image) (now index) xs)
         × (Filled (edition .number) xs (now pool) k)) ⌝ }
     ensures { λ _. ⌜ ((xs : List (List ℕ)) → Readable (edition .number) (now (image .entry)) (now (index .entry)) xs
-        → Filled (edition .number) xs (now (pool .entry)) k → Filled (edition .number) xs (now (pool .exit)) (k + 1)) ⌝ }
+        → Filled (edition .number) xs (now (pool .entry)) k
+        → Filled (edition .number) xs (now (pool .exit)) (k + 1)) ⌝ }
 {
     let at = pool[k] as usize;
     let pairs = uses::share(asked, k, pool.len() - at);

@@ -15,7 +15,8 @@ use Rattle.run_room.specs.declared.lines.Line.{Line}
 use Rattle.run_lines.specs.Records.{ofsSlot, Safe, InForce, Forced, Same, Becomes}
 
 -- what is told of the world: its record is that of the room, and FS and OFS are those of their slots
-pub record Stands (edition : ℕ) (t : List ℕ) (kind : Kind) (x : List ℕ) (l : Line) (s : Separator) (w : World) : Type 0 where
+pub record Stands (edition : ℕ) (t : List ℕ) (kind : Kind) (x : List ℕ) (l : Line) (s : Separator)
+    (w : World) : Type 0 where
   pub tells : Tells edition (special w FS) t kind
   pub force : InForce edition (special w FS) l s
   pub current : w .current ≡ recordOf (lineOf x l) (fieldsOf x l s)
@@ -34,7 +35,8 @@ abbrev pub Effected : ℕ → List ℕ → List ℕ → List ℕ → Line → Li
 Effected edition fs x y l r a outcome (gives e) =
     (outcome ≡ 0) × (Forced edition fs r) × (e .left ≡ slotAt x (a + 1) ∷ [])
     × ((s s' : Separator) → InForce edition fs r s'
-    → storeOf y r s' ≡ withSlot (withLine (storeOf x l s) (e .world .current .line) (e .world .current .fields)) a (slotAt x (a + 1)))
+    → storeOf y r s' ≡ withSlot (withLine (storeOf x l s) (e .world .current .line) (e .world .current .fields)) a
+    (slotAt x (a + 1)))
 Effected edition fs x y l r a outcome (stops z) = (z ≡ stop outcome) × (outcome ≡ 0 → ⊥) × (Same edition fs x y l r)
 
 abbrev pub Stores : ℕ → List ℕ → Kind → List ℕ → List ℕ → Line → Line → ℕ → ℕ → Type 0

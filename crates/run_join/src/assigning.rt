@@ -39,9 +39,12 @@ pub fn set_field(
     k: usize,
     v: usize,
 ) -> Begun
-    requires { ⌜ (baseEnd ≤ length (now work)) × Lined line × Sized kind (now t) × (k < fieldCount) × (v < operandDepth) ⌝ }
-    ensures { λ r. ⌜ Did (now (work .entry)) line (now (work .exit)) (r .line) (Safe (now (work .entry)) (now (work .exit)) (r .line))
-        ((fs : List ℕ) → Tells (edition .number) fs (now (t .entry)) kind → (s : Separator) → InForce (edition .number) fs line s → (w : World)
+    requires { ⌜ (baseEnd ≤ length (now work)) × Lined line × Sized kind (now t) × (k < fieldCount)
+        × (v < operandDepth) ⌝ }
+    ensures { λ r. ⌜ Did (now (work .entry)) line (now (work .exit)) (r .line)
+        (Safe (now (work .entry)) (now (work .exit)) (r .line))
+        ((fs : List ℕ) → Tells (edition .number) fs (now (t .entry)) kind → (s : Separator)
+        → InForce (edition .number) fs line s → (w : World)
         → w .current ≡ recordOf (lineOf (now (work .entry)) line) (fieldsOf (now (work .entry)) line s)
         → special w OFS ≡ textOf (slotAt (now (work .entry)) ofsSlot)
         → Becomes (edition .number) fs (now (work .entry)) (now (work .exit)) line (r .line) (r .outcome)
@@ -79,8 +82,10 @@ fn assign(
     k: usize,
     v: usize,
 ) -> Begun
-    requires { ⌜ (baseEnd ≤ length (now work)) × Lined line × Sized kind (now t) × (k ≤ fieldCount) × (v < operandDepth) ⌝ }
-    ensures { λ r. ⌜ Assigns (edition .number) (now (t .entry)) kind (now (work .entry)) (now (work .exit)) line (r .line) k v (r .outcome) ⌝ }
+    requires { ⌜ (baseEnd ≤ length (now work)) × Lined line × Sized kind (now t) × (k ≤ fieldCount)
+        × (v < operandDepth) ⌝ }
+    ensures { λ r. ⌜ Assigns (edition .number) (now (t .entry)) kind (now (work .entry)) (now (work .exit)) line
+        (r .line) k v (r .outcome) ⌝ }
 {
     if k == 0 {
         return run_records::set_record(work, t, kind, edition, line, v);
@@ -99,7 +104,8 @@ pub fn store_field(
     a: usize,
 ) -> Begun
     requires { ⌜ (baseEnd ≤ length (now work)) × Lined line × Sized kind (now t) × (a + 1 < operandDepth) ⌝ }
-    ensures { λ r. ⌜ Stores (edition .number) (now (t .entry)) kind (now (work .entry)) (now (work .exit)) line (r .line) a (r .outcome) ⌝ }
+    ensures { λ r. ⌜ Stores (edition .number) (now (t .entry)) kind (now (work .entry)) (now (work .exit)) line
+        (r .line) a (r .outcome) ⌝ }
 {
     let f = run_lines::field_number(work, a);
     if f.stop != 0 {

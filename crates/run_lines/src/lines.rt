@@ -14,7 +14,8 @@ use separators::Kind;
 
 // Splits the next field off, or finds that there is none.
 fn split_one(work: &mut [u8], t: &[u64], kind: Kind, edition: Edition, line: Line) -> Line
-    requires { ⌜ (baseEnd ≤ length (now work)) × Placed line × Sized kind (now t) × (line .after ≤ line .size) × (line .known < fieldCount) ⌝ }
+    requires { ⌜ (baseEnd ≤ length (now work)) × Placed line × Sized kind (now t) × (line .after ≤ line .size)
+        × (line .known < fieldCount) ⌝ }
     ensures { λ r. ⌜ (line .after < r .after) × (r .known ≤ line .known + 1)
         × (Splits (edition .number) (now (t .entry)) kind (now (work .entry)) (now (work .exit)) line r) ⌝ }
 {

@@ -58,7 +58,8 @@ pub record Turned (x z : List ℕ) (l : Line) (k v i at r : ℕ) (between : List
   pub place : r ≡ at + length (gapOf between i) + length (textOf (newField x l k v i))
   pub grown : Grown x mid (1 - l .side) at (gapOf between i ++ textOf (newField x l k v i))
   pub entry : Outside (entriesStart + i * entryBytes) (entriesStart + i * entryBytes + entryBytes) mid z
-  pub value : (line : List ℕ) → part (at + length (gapOf between i)) (length (textOf (newField x l k v i))) line ≡ textOf (newField x l k v i)
+  pub value : (line : List ℕ)
+      → part (at + length (gapOf between i)) (length (textOf (newField x l k v i))) line ≡ textOf (newField x l k v i)
       → entryAt line z i ≡ newField x l k v i
   pub held : (line : List ℕ) → EntryHeld line z i
 

@@ -25,7 +25,8 @@ fn grow_text(work: &mut [u8], side: usize, at: usize, from: usize, n: usize)
 
 // Writes what is between fields before field i, unless it is the first; returns the place after it.
 fn put_gap(work: &mut [u8], side: usize, i: usize, at: usize, from: usize, n: usize) -> usize
-    requires { ⌜ (baseEnd ≤ length (now work)) × (side < 2) × (at + length (gapOf (part from n (now work)) i) ≤ textBytes)
+    requires { ⌜ (baseEnd ≤ length (now work)) × (side < 2)
+        × (at + length (gapOf (part from n (now work)) i) ≤ textBytes)
         × (n ≤ textBytes) × (from + n + 15 ≤ slotsEnd) ⌝ }
     ensures { λ r. ⌜ (r ≡ at + length (gapOf (part from n (now (work .entry))) i))
         × (Grown (now (work .entry)) (now (work .exit)) side at (gapOf (part from n (now (work .entry))) i)) ⌝ }
@@ -42,7 +43,8 @@ fn put_text(work: &mut [u8], side: usize, at: usize, p: Part) -> usize
     requires { ⌜ (baseEnd ≤ length (now work)) × (side < 2) × PartOf side p
         × (at + length (textOf (valueBy (p .kind) (p .word) (part (p .from) (p .size) (now work)))) ≤ textBytes) ⌝ }
     ensures { λ r. ⌜ (r ≡ length (textOf (valueBy (p .kind) (p .word) (part (p .from) (p .size) (now (work .entry))))))
-        × (Grown (now (work .entry)) (now (work .exit)) side at (textOf (valueBy (p .kind) (p .word) (part (p .from) (p .size) (now (work .entry)))))) ⌝ }
+        × (Grown (now (work .entry)) (now (work .exit)) side at
+        (textOf (valueBy (p .kind) (p .word) (part (p .from) (p .size) (now (work .entry)))))) ⌝ }
 {
     let k = p.kind;
     if k == run_room::NUMBER {
@@ -67,8 +69,10 @@ fn join_one(
     from: usize,
     n: usize,
 ) -> usize
-    requires { ⌜ (baseEnd ≤ length (now work)) × Placed line × (i < fieldCount) × (v < slotCount) × (n ≤ textBytes) × (from + n + 15 ≤ slotsEnd)
-        × (at + length (gapOf (part from n (now work)) i) + length (textOf (newField (now work) line k v i)) ≤ textBytes) ⌝ }
+    requires { ⌜ (baseEnd ≤ length (now work)) × Placed line × (i < fieldCount) × (v < slotCount) × (n ≤ textBytes)
+        × (from + n + 15 ≤ slotsEnd)
+        × (at + length (gapOf (part from n (now work)) i) + length (textOf (newField (now work) line k v i))
+        ≤ textBytes) ⌝ }
     ensures { λ r. ⌜ Turned (now (work .entry)) (now (work .exit)) line k v i at r (part from n (now (work .entry))) ⌝ }
 {
     let side = 1 - line.side;
@@ -95,7 +99,8 @@ pub fn join_all(
     from: usize,
     n: usize,
 ) -> usize
-    requires { ⌜ (baseEnd ≤ length (now work)) × Placed line × (count ≤ fieldCount) × (v < slotCount) × (n ≤ textBytes) × (from + n + 15 ≤ slotsEnd)
+    requires { ⌜ (baseEnd ≤ length (now work)) × Placed line × (count ≤ fieldCount) × (v < slotCount) × (n ≤ textBytes)
+        × (from + n + 15 ≤ slotsEnd)
         × (length (joinedText (part from n (now work)) (newFields (now work) line k v count)) ≤ textBytes) ⌝ }
     ensures { λ r. ⌜ Joins (now (work .entry)) (now (work .exit)) line k v (part from n (now (work .entry))) count r ⌝ }
 {

@@ -43,7 +43,8 @@ fn gap_length(i: usize, n: usize) -> usize
 
 // Returns the size of all fields joined, or more than a text may have.
 fn measure(work: &[u8], line: Line, k: usize, v: usize, count: usize, n: usize) -> usize
-    requires { ⌜ (baseEnd ≤ length (now work)) × Placed line × (count ≤ fieldCount) × (v < slotCount) × (n ≤ textBytes) ⌝ }
+    requires { ⌜ (baseEnd ≤ length (now work)) × Placed line × (count ≤ fieldCount) × (v < slotCount)
+        × (n ≤ textBytes) ⌝ }
     ensures { λ r. ⌜ Measured (now (work .entry)) line k v count n r ⌝ }
 {
     let mut sum = 0;

@@ -27,7 +27,8 @@ pub fn least_word(a: u64, b: u64) -> u64
 // Returns field i, from 0 on, where field k is to be the value of slot v.
 pub fn field_part(work: &[u8], line: Line, k: usize, v: usize, i: usize) -> Part
     requires { ⌜ (baseEnd ≤ length (now work)) × Placed line × (i < fieldCount) × (v < slotCount) ⌝ }
-    ensures { λ r. ⌜ (valueBy (r .kind) (r .word) (part (r .from) (r .size) (now (work .entry))) ≡ newField (now (work .entry)) line k v i)
+    ensures { λ r. ⌜ (valueBy (r .kind) (r .word) (part (r .from) (r .size) (now (work .entry)))
+        ≡ newField (now (work .entry)) line k v i)
         × ((side : ℕ) → side + line .side ≡ 1 → PartOf side r) ⌝ }
 {
     if i == k {

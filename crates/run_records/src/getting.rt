@@ -22,7 +22,8 @@ use separators::Kind;
 // Sets a slot to field k, where the record is split as far as that.
 fn put_field(work: &mut [u8], line: Line, k: usize, slot: usize)
     requires { ⌜ (baseEnd ≤ length (now work)) × Lined line × (k ≤ fieldCount) × (slot < slotCount) ⌝ }
-    ensures { λ _. ⌜ Slotted (now (work .entry)) (now (work .exit)) slot (knownField (now (work .entry)) line k) Unit ⌝ }
+    ensures { λ _. ⌜ Slotted (now (work .entry)) (now (work .exit)) slot (knownField (now (work .entry)) line k)
+        Unit ⌝ }
 {
     let start = run_room::record_start(line.side);
     if k == 0 {
@@ -47,9 +48,11 @@ pub fn get_field(
     k: usize,
     slot: usize,
 ) -> Line
-    requires { ⌜ (baseEnd ≤ length (now work)) × Lined line × Sized kind (now t) × (k ≤ fieldCount) × (slot < slotCount) ⌝ }
+    requires { ⌜ (baseEnd ≤ length (now work)) × Lined line × Sized kind (now t) × (k ≤ fieldCount)
+        × (slot < slotCount) ⌝ }
     ensures { λ r. ⌜ Did (now (work .entry)) line (now (work .exit)) r (Safe (now (work .entry)) (now (work .exit)) r)
-        ((fs : List ℕ) → Tells (edition .number) fs (now (t .entry)) kind → (s : Separator) → InForce (edition .number) fs line s
+        ((fs : List ℕ) → Tells (edition .number) fs (now (t .entry)) kind → (s : Separator)
+        → InForce (edition .number) fs line s
         → (w : World) → w .current ≡ recordOf (lineOf (now (work .entry)) line) (fieldsOf (now (work .entry)) line s)
         → (InForce (edition .number) fs r s)
         × (storeOf (now (work .exit)) r s ≡ withSlot (storeOf (now (work .entry)) line s) slot (fieldAt w k))) ⌝ }
@@ -70,10 +73,10 @@ pub fn get_count(
 ) -> Line
     requires { ⌜ (baseEnd ≤ length (now work)) × Lined line × Sized kind (now t) × (slot < slotCount) ⌝ }
     ensures { λ r. ⌜ Did (now (work .entry)) line (now (work .exit)) r (Safe (now (work .entry)) (now (work .exit)) r)
-        ((fs : List ℕ) → Tells (edition .number) fs (now (t .entry)) kind → (s : Separator) → InForce (edition .number) fs line s
-        → (InForce (edition .number) fs r s)
-        × (storeOf (now (work .exit)) r s
-        ≡ withSlot (storeOf (now (work .entry)) line s) slot (number (pos (length (fieldsOf (now (work .entry)) line s)))))) ⌝ }
+        ((fs : List ℕ) → Tells (edition .number) fs (now (t .entry)) kind → (s : Separator)
+        → InForce (edition .number) fs line s → (InForce (edition .number) fs r s) × (storeOf (now (work .exit)) r s
+        ≡ withSlot (storeOf (now (work .entry)) line s) slot
+        (number (pos (length (fieldsOf (now (work .entry)) line s)))))) ⌝ }
 {
     let r = run_lines::split_all(work, t, kind, edition, line);
     run_room::set_number(work, slot, Edition::NUMBER + r.known as u64);
@@ -90,8 +93,10 @@ pub fn load_field(
     a: usize,
 ) -> Begun
     requires { ⌜ (baseEnd ≤ length (now work)) × Lined line × Sized kind (now t) × (a < slotCount) ⌝ }
-    ensures { λ r. ⌜ Did (now (work .entry)) line (now (work .exit)) (r .line) (Safe (now (work .entry)) (now (work .exit)) (r .line))
-        ((fs : List ℕ) → Tells (edition .number) fs (now (t .entry)) kind → (s : Separator) → InForce (edition .number) fs line s
+    ensures { λ r. ⌜ Did (now (work .entry)) line (now (work .exit)) (r .line)
+        (Safe (now (work .entry)) (now (work .exit)) (r .line))
+        ((fs : List ℕ) → Tells (edition .number) fs (now (t .entry)) kind → (s : Separator)
+        → InForce (edition .number) fs line s
         → (w : World) → w .current ≡ recordOf (lineOf (now (work .entry)) line) (fieldsOf (now (work .entry)) line s)
         → Leaves (edition .number) fs s w (now (work .entry)) (now (work .exit)) line (r .line) a (r .outcome)
         (getField (slotAt (now (work .entry)) a) w)) ⌝ }

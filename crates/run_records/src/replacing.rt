@@ -26,7 +26,8 @@ pub fn set_record(
     v: usize,
 ) -> Begun
     requires { ⌜ (baseEnd ≤ length (now work)) × Lined line × Sized kind (now t) × (v < slotCount) ⌝ }
-    ensures { λ r. ⌜ Did (now (work .entry)) line (now (work .exit)) (r .line) (Safe (now (work .entry)) (now (work .exit)) (r .line))
+    ensures { λ r. ⌜ Did (now (work .entry)) line (now (work .exit)) (r .line)
+        (Safe (now (work .entry)) (now (work .exit)) (r .line))
         ((w : World) → Tells (edition .number) (special w FS) (now (t .entry)) kind
         → Becomes (edition .number) (special w FS) (now (work .entry)) (now (work .exit)) line (r .line) (r .outcome)
         (assigned (edition .number) w 0 (slotAt (now (work .entry)) v))) ⌝ }

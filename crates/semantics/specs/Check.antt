@@ -62,9 +62,8 @@ module _ (i : Image) where
   eresRead = all (λ l. isSome (readEre (i .edition) l)) (i .eres)
 
   abbrev pub sizes : Bool
-  sizes =
-      leb (i .users) userNames
-      && (leb (length (i .constants)) constantCount && (all smallConstant (i .constants) && leb (length (i .eres)) ereCount))
+  sizes = leb (i .users) userNames && (leb (length (i .constants)) constantCount
+      && (all smallConstant (i .constants) && leb (length (i .eres)) ereCount))
 
   module _ (s : Section) where
     -- ---- one instruction
@@ -93,9 +92,9 @@ module _ (i : Image) where
         && (agree (isEnd (k .operation)) (eqb (suc n) (length (sectionOf i s)))
         && ((not (eqb n 0) || eqb d 0)
         && ((not (terminates (k .operation)) || eqb d 0)
-        && (leb d operandDepth
-        && (leb ((k .pops) ns) d
-        && (all (λ m. depthIs (d - (k .pops) ns + (k .pushes) ns) (nth (sectionOf i s) m)) (successors (k .operation) n ns)
+        && (leb d operandDepth && (leb ((k .pops) ns) d
+        && (all
+        (λ m. depthIs (d - (k .pops) ns + (k .pushes) ns) (nth (sectionOf i s) m)) (successors (k .operation) n ns)
         && (not (isNext (k .operation)) || inMain s)))))))
 
     abbrev pub byCode : ℕ → Instruction → Option Code → Bool
@@ -107,8 +106,8 @@ module _ (i : Image) where
 
     -- a section has its code 0, so it isn't empty
     abbrev pub sectionChecks : Bool
-    sectionChecks =
-        leb 1 (length (sectionOf i s)) && (leb (length (sectionOf i s)) instructionCount && allFrom instructionChecks 0 (sectionOf i s))
+    sectionChecks = leb 1 (length (sectionOf i s))
+        && (leb (length (sectionOf i s)) instructionCount && allFrom instructionChecks 0 (sectionOf i s))
 
   unfoldable pub check : Bool
   check = sizes && (eresRead && (sectionChecks begin && (sectionChecks main && sectionChecks end)))

@@ -38,21 +38,27 @@ module _ (i : Image) (c : Config) where
 
   pub data Stuck : Type 0 where
     no-instruction : (s : Section) (n : ℕ) → c .control .location ≡ at s n → nth (sectionOf i s) n ≡ none → Stuck
-    no-code : (s : Section) (n : ℕ) (j : Instruction) → c .control .location ≡ at s n → nth (sectionOf i s) n ≡ some j → codeOf (i .edition) (j .code) ≡ none → Stuck
-    no-number : {s : Section} {j : Instruction} {k : Code} → There s j k → (length (j .immediates) ≡ length (k .immediates) → ⊥) → Stuck
-    no-operand : {s : Section} {j : Instruction} {k : Code} → There s j k → length (j .immediates) ≡ length (k .immediates)
+    no-code : (s : Section) (n : ℕ) (j : Instruction) → c .control .location ≡ at s n → nth (sectionOf i s) n ≡ some j
+        → codeOf (i .edition) (j .code) ≡ none → Stuck
+    no-number : {s : Section} {j : Instruction} {k : Code} → There s j k
+        → (length (j .immediates) ≡ length (k .immediates) → ⊥) → Stuck
+    no-operand : {s : Section} {j : Instruction} {k : Code} → There s j k
+        → length (j .immediates) ≡ length (k .immediates)
         → length (c .control .operands) < (k .pops) (j .immediates) → Stuck
-    no-constant : {s : Section} {j : Instruction} {k : Code} {v : ℕ} → Ready s j k → k .operation ≡ action constant → j .immediates ≡ v ∷ []
-        → nth (i .constants) v ≡ none → Stuck
-    no-variable : {s : Section} {j : Instruction} {k : Code} {v : ℕ} → Ready s j k → k .operation ≡ action get → j .immediates ≡ v ∷ []
-        → valueAt (i .edition) (c .world) v ≡ none → Stuck
-    no-variable-to-set : {s : Section} {j : Instruction} {k : Code} {v : ℕ} → Ready s j k → k .operation ≡ action set → j .immediates ≡ v ∷ []
-        → length (c .world .variables) ≤ v → Stuck
-    not-assignable : {s : Section} {j : Instruction} {k : Code} {v : ℕ} → Ready s j k → k .operation ≡ action set → j .immediates ≡ v ∷ []
-        → assignable (i .edition) v ≡ false → Stuck
-    no-ere : {s : Section} {j : Instruction} {k : Code} (v : ℕ) → Ready s j k → Names an-ere v (k .immediates) (j .immediates)
-        → nth (i .eres) v ≡ none → Stuck
-    unread-ere : {s : Section} {j : Instruction} {k : Code} (v : ℕ) {l : List ℕ} → Ready s j k → Names an-ere v (k .immediates) (j .immediates)
+    no-constant : {s : Section} {j : Instruction} {k : Code} {v : ℕ} → Ready s j k → k .operation ≡ action constant
+        → j .immediates ≡ v ∷ [] → nth (i .constants) v ≡ none → Stuck
+    no-variable : {s : Section} {j : Instruction} {k : Code} {v : ℕ} → Ready s j k → k .operation ≡ action get
+        → j .immediates ≡ v ∷ [] → valueAt (i .edition) (c .world) v ≡ none → Stuck
+    no-variable-to-set : {s : Section} {j : Instruction} {k : Code} {v : ℕ} → Ready s j k → k .operation ≡ action set
+        → j .immediates ≡ v ∷ [] → length (c .world .variables) ≤ v → Stuck
+    not-assignable : {s : Section} {j : Instruction} {k : Code} {v : ℕ} → Ready s j k → k .operation ≡ action set
+        → j .immediates ≡ v ∷ [] → assignable (i .edition) v ≡ false → Stuck
+    no-ere : {s : Section} {j : Instruction} {k : Code} (v : ℕ) → Ready s j k
+        → Names an-ere v (k .immediates) (j .immediates) → nth (i .eres) v ≡ none → Stuck
+    unread-ere : {s : Section} {j : Instruction} {k : Code} (v : ℕ) {l : List ℕ} → Ready s j k
+        → Names an-ere v (k .immediates) (j .immediates)
         → nth (i .eres) v ≡ some l → readEre (i .edition) l ≡ none → Stuck
-    print-nothing : {s : Section} {j : Instruction} {k : Code} → Ready s j k → k .operation ≡ action print → (k .pops) (j .immediates) ≡ 0 → Stuck
-    next-elsewhere : {s : Section} {j : Instruction} {k : Code} → Ready s j k → k .operation ≡ flow next → (s ≡ main → ⊥) → Stuck
+    print-nothing : {s : Section} {j : Instruction} {k : Code} → Ready s j k → k .operation ≡ action print
+        → (k .pops) (j .immediates) ≡ 0 → Stuck
+    next-elsewhere : {s : Section} {j : Instruction} {k : Code} → Ready s j k → k .operation ≡ flow next
+        → (s ≡ main → ⊥) → Stuck

@@ -17,7 +17,8 @@ pub enum Kind {
 // Compiles a separator that is an ERE into the table.
 fn by_pattern(separator: &[u8], edition: Edition, t: &mut [u64]) -> Kind
     requires { ⌜ (1 < length (now separator)) × (length (now t) ≡ tableWords) ⌝ }
-    ensures { λ r. ⌜ (Tells (edition .number) (now (separator .entry)) (now (t .exit)) r) × (Sized r (now (t .exit))) ⌝ }
+    ensures { λ r. ⌜ (Tells (edition .number) (now (separator .entry)) (now (t .exit)) r)
+        × (Sized r (now (t .exit))) ⌝ }
 {
     if ere::compile(separator, edition, t) {
         return Kind::Pattern;
@@ -28,7 +29,8 @@ fn by_pattern(separator: &[u8], edition: Edition, t: &mut [u64]) -> Kind
 // Returns the kind of a separator; writes the table where it is an ERE.
 pub fn kind_of(separator: &[u8], edition: Edition, t: &mut [u64]) -> Kind
     requires { ⌜ (1 < length (now separator) → length (now t) ≡ tableWords) ⌝ }
-    ensures { λ r. ⌜ (Tells (edition .number) (now (separator .entry)) (now (t .exit)) r) × (Sized r (now (t .exit))) ⌝ }
+    ensures { λ r. ⌜ (Tells (edition .number) (now (separator .entry)) (now (t .exit)) r)
+        × (Sized r (now (t .exit))) ⌝ }
 {
     if separator.len() == 0 {
         return Kind::Refused;

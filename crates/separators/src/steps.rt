@@ -61,7 +61,8 @@ fn next_word(text: &[u8], edition: Edition, at: usize) -> Step
 // Returns the next field up to the byte b.
 fn next_by_byte(text: &[u8], b: u8, at: usize) -> Step
     requires { ⌜ at ≤ length (now text) ⌝ }
-    ensures { λ r. ⌜ (Goes at (length (now (text .entry))) (nextOf r)) × (nextOf r ≡ nextField (now (text .entry)) (byte b) at) ⌝ }
+    ensures { λ r. ⌜ (Goes at (length (now (text .entry))) (nextOf r))
+        × (nextOf r ≡ nextField (now (text .entry)) (byte b) at) ⌝ }
 {
     let end = lanes::first_byte_from(text, at, b);
     Step {
@@ -100,7 +101,8 @@ fn next_by_pattern(t: &[u64], text: &[u8], at: usize) -> Step
 pub fn next_field(text: &[u8], kind: Kind, edition: Edition, t: &[u64], at: usize) -> Step
     requires { ⌜ Sized kind (now t) ⌝ }
     ensures { λ r. ⌜ (Goes at (length (now (text .entry))) (nextOf r))
-        × ((s : Separator) → Means (edition .number) (now (t .entry)) kind s → nextOf r ≡ nextField (now (text .entry)) s at) ⌝ }
+        × ((s : Separator) → Means (edition .number) (now (t .entry)) kind s
+        → nextOf r ≡ nextField (now (text .entry)) s at) ⌝ }
 {
     if text.len() < at {
         return Step {

@@ -26,7 +26,8 @@ pub data Next : Type 0 where
 
 -- A turn goes on: the field lies in a text of `end` bytes, at or after `at`, and the next place is after both.
 abbrev pub Goes : ℕ → ℕ → Next → Type 0
-Goes at end (field f b) = (at ≤ f .start) × (f .start + f .size ≤ end) × (f .start + f .size ≤ b) × (at < b) × (b ≤ suc end)
+Goes at end (field f b) = (at ≤ f .start) × (f .start + f .size ≤ end) × (f .start + f .size ≤ b) × (at < b)
+    × (b ≤ suc end)
 Goes at end none = Unit
 
 -- b is in the set, or is not
@@ -54,7 +55,8 @@ module _ (text : List ℕ) where
       cond (leb at (length text)) (field (span at n) (suc (at + n))) none
   -- "each separator starts at the leftmost place after the last separator where a nonempty match exists, and is the
   -- longest there"
-  nextField (ere e) at = cond (leb at (length text)) (untilSeparator at (length text) (bestFrom accepts text e at 1)) none
+  nextField (ere e) at = cond (leb at (length text)) (untilSeparator at (length text) (bestFrom accepts text e at 1))
+      none
 
   abbrev pub follow : (ℕ → List Span) → Next → List Span
   follow rest none = []

@@ -14,7 +14,8 @@ use Rattle.splitting.specs.Field.{Span, span, isIn}
 -- The bytes are no b; or some that are no b, one b, and bytes that have these fields too.
 pub data ByteSplit (b : ℕ) : List ℕ → List (List ℕ) → Type 0 where
   last : {f : List ℕ} → All (isIn false (b ∷ [])) f → ByteSplit b f (f ∷ [])
-  more : {f t : List ℕ} {fs : List (List ℕ)} → All (isIn false (b ∷ [])) f → ByteSplit b t fs → ByteSplit b (f ++ (b ∷ t)) (f ∷ fs)
+  more : {f t : List ℕ} {fs : List (List ℕ)} → All (isIn false (b ∷ [])) f → ByteSplit b t fs
+      → ByteSplit b (f ++ (b ∷ t)) (f ∷ fs)
 
 -- how often b is in the bytes
 pub data Occurs (b : ℕ) : ℕ → List ℕ → Type 0 where
@@ -30,21 +31,23 @@ pub data Behind (set : List ℕ) : List ℕ → Type 0 where
 -- fields too.
 pub data BlankSplit (set : List ℕ) : List ℕ → List (List ℕ) → Type 0 where
   blanks : {l : List ℕ} → All (isIn true set) l → BlankSplit set l []
-  word : {l t : List ℕ} {b : ℕ} {f : List ℕ} {fs : List (List ℕ)} → All (isIn true set) l → All (isIn false set) (b ∷ f) → Behind set t → BlankSplit set t fs
-      → BlankSplit set (l ++ ((b ∷ f) ++ t)) ((b ∷ f) ∷ fs)
+  word : {l t : List ℕ} {b : ℕ} {f : List ℕ} {fs : List (List ℕ)} → All (isIn true set) l → All (isIn false set) (b ∷ f)
+      → Behind set t → BlankSplit set t fs → BlankSplit set (l ++ ((b ∷ f) ++ t)) ((b ∷ f) ∷ fs)
 
 -- From a place on: no nonempty span is left and the rest is the last field; or the leftmost of the nonempty spans from
 -- there on, the longest at its start, ends a field, and the others are those from its end on. `BestFrom` says that with
 -- `Spans`.
 pub data EreSplit (e : Ere Class) (text : List ℕ) : ℕ → List Span → Type 0 where
-  last : {at : ℕ} → at ≤ length text → BestFrom accepts text e at 1 nowhere → EreSplit e text at (span at (length text - at) ∷ [])
+  last : {at : ℕ} → at ≤ length text → BestFrom accepts text e at 1 nowhere
+      → EreSplit e text at (span at (length text - at) ∷ [])
   more : {at s n : ℕ} {fs : List Span} → BestFrom accepts text e at 1 (found s n) → EreSplit e text (s + n) fs
       → EreSplit e text at (span at (s - at) ∷ fs)
 
 -- The fields, with what is before, between and after them, from a place on, put together.
 abbrev pub pieces : List ℕ → ℕ → List Span → List ℕ
 pieces text at [] = drop at text
-pieces text at (f ∷ fs) = part at (f .start - at) text ++ (part (f .start) (f .size) text ++ pieces text (f .start + f .size) fs)
+pieces text at (f ∷ fs) = part at (f .start - at) text
+    ++ (part (f .start) (f .size) text ++ pieces text (f .start + f .size) fs)
 
 -- in order, none over another, from the place `at` on and up to `end`
 abbrev pub Ordered : ℕ → ℕ → List Span → Type 0

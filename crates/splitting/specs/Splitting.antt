@@ -27,7 +27,7 @@ separated text none = bad-separator
 separated text (some s) = counted (fieldsOf text s)
 
 unfoldable pub splitOf : ℕ → List ℕ → List ℕ → Split
-splitOf edition separator text = cond (leb (length text) recordBytes) (separated text (separatorOf edition separator)) long-record
+splitOf edition fs text = cond (leb (length text) recordBytes) (separated text (separatorOf edition fs)) long-record
 
 -- the outcome, and the count of fields
 pub record Counting : Type 0 where

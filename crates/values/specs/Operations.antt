@@ -93,7 +93,8 @@ atMost x y = not (negative (y -ℤ x))
 -- the bytes of positions from p on, with m ≤ position < e
 unfoldable pub between : ℤ → ℤ → ℕ → List ℕ → List ℕ
 between m e p [] = []
-between m e p (b ∷ t) = cond (atMost m (pos p) && not (atMost e (pos p))) (b ∷ between m e (suc p) t) (between m e (suc p) t)
+between m e p (b ∷ t) = cond (atMost m (pos p) && not (atMost e (pos p))) (b ∷ between m e (suc p) t)
+    (between m e (suc p) t)
 
 -- "`substr` gives the bytes at positions p >= 1 with m <= p < m+n."
 unfoldable pub substrOf : Value → Value → Value → Result Value

@@ -21,4 +21,5 @@ TakesAt l at Nothing = takeNumber (drop at l) ≡ none
 -- a number with its last group g
 abbrev pub lastOf : ℕ → ℕ → ℕ → ℕ → Taken
 lastOf value scale g end =
-    cond (eqb g 0 && not (eqb scale 1)) Nothing (cond (ltb numberBound (value + scale * g)) Nothing (Number (value + scale * g) end))
+    cond (eqb g 0 && not (eqb scale 1)) Nothing
+    (cond (ltb numberBound (value + scale * g)) Nothing (Number (value + scale * g) end))
