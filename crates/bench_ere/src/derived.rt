@@ -9,6 +9,15 @@ use ere_search::Found;
 
 // The words of the automata.
 const ROOM: usize = 8192;
+
+// A match as one number: 16 bits of its start, and 10 of its length and 1.
+const STARTS: usize = 65536;
+
+const LAST: u64 = 65535;
+
+const LENGTHS: u64 = 1024;
+
+const LONGEST: usize = 1023;
 // What is answered where an ERE has no automaton that fits.
 const NONE: u64 = 1152921504606846976;
 // The bytes of many texts at most.
@@ -47,9 +56,9 @@ fn one_if(yes: bool) -> u64 {
 
 // Returns a place and a length as one number.
 fn packed(start: usize, length: usize) -> u64 {
-    if start < 65536 {
-        if length < 1023 {
-            return start as u64 * 1024 + length as u64 + 1;
+    if start < STARTS {
+        if length < LONGEST {
+            return start as u64 * LENGTHS + length as u64 + 1;
         }
     }
     0
@@ -63,7 +72,7 @@ fn coded(f: Found) -> u64 {
     }
 }
 
-// Finds the leftmost longest match of at least so many bytes by the table. `rest` is a text from place `at` on.
+// Finds the leftmost longest match of at least `least` bytes by the table. `rest` is a text from place `at` on.
 #[no_mangle]
 pub extern "C" fn prepared_seek(table: &[u64], rest: &[u8], at: u64, least: u64) -> u64 {
     if table.len() != ere_table::TABLE_WORDS {
@@ -72,7 +81,7 @@ pub extern "C" fn prepared_seek(table: &[u64], rest: &[u8], at: u64, least: u64)
     if Edition::TEXT < rest.len() {
         return 0;
     }
-    if 65535 < at {
+    if LAST < at {
         return 0;
     }
     if 1 < least {
@@ -81,7 +90,7 @@ pub extern "C" fn prepared_seek(table: &[u64], rest: &[u8], at: u64, least: u64)
     coded(ere_search::find_from(table, rest, at as usize, least as usize))
 }
 
-// The same by automata, if there are.
+// Finds the match that `prepared_seek` finds, by automata; 0 if there are none.
 #[no_mangle]
 pub extern "C" fn derived_seek(table: &[u64], rest: &[u8], at: u64, least: u64) -> u64 {
     if table.len() != ere_table::TABLE_WORDS {
@@ -90,7 +99,7 @@ pub extern "C" fn derived_seek(table: &[u64], rest: &[u8], at: u64, least: u64) 
     if Edition::TEXT < rest.len() {
         return 0;
     }
-    if 65535 < at {
+    if LAST < at {
         return 0;
     }
     if 1 < least {

@@ -10,6 +10,15 @@ pub enum Escaped {
     Nothing,
 }
 
+// The control bytes that have no letter of their own in code.
+const BELL: u8 = 7;
+
+const BACKSPACE: u8 = 8;
+
+const VERTICAL_TAB: u8 = 11;
+
+const FORM_FEED: u8 = 12;
+
 // A bit for each byte that is a mark.
 const MARKS: [u64; 4] = [0x80004f1000000000, 0x3800000068000000, 0, 0];
 
@@ -24,7 +33,7 @@ fn is_mark(b: u8) -> bool
 pub fn is_plain(b: u8) -> bool
     ensures { λ r. ⌜ r ≡ isPlain b ⌝ }
 {
-    (b == 93) | !((b == 92) | is_mark(b))
+    (b == b']') | !((b == b'\\') | is_mark(b))
 }
 
 // Returns the byte that a backslash and `b` spell in a STRING.
@@ -32,16 +41,16 @@ pub fn string_escape_of(b: u8) -> Escaped
     ensures { λ r. ⌜ escapedOf r ≡ lookup stringEscapes b ⌝ }
 {
     match b {
-        34 => Escaped::Byte(34),
-        92 => Escaped::Byte(92),
-        47 => Escaped::Byte(47),
-        97 => Escaped::Byte(7),
-        98 => Escaped::Byte(8),
-        116 => Escaped::Byte(9),
-        110 => Escaped::Byte(10),
-        118 => Escaped::Byte(11),
-        102 => Escaped::Byte(12),
-        114 => Escaped::Byte(13),
+        b'"' => Escaped::Byte(b'"'),
+        b'\\' => Escaped::Byte(b'\\'),
+        b'/' => Escaped::Byte(b'/'),
+        b'a' => Escaped::Byte(BELL),
+        b'b' => Escaped::Byte(BACKSPACE),
+        b't' => Escaped::Byte(b'\t'),
+        b'n' => Escaped::Byte(b'\n'),
+        b'v' => Escaped::Byte(VERTICAL_TAB),
+        b'f' => Escaped::Byte(FORM_FEED),
+        b'r' => Escaped::Byte(b'\r'),
         _ => Escaped::Nothing,
     }
 }

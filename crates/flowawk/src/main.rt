@@ -1,11 +1,12 @@
 // The program with rooms of its own, for the gate. Such a program has no exit status, so the status is printed last.
 ghost use mathlib.Core.Path.{_≡_};
 ghost use lib.ListN.{length};
+ghost use Rattle.edition.specs.Limits.{workingRoom};
 use edition::Edition;
 
 // Returns a working room.
 fn working_room() -> [u8; Edition::WORKING_ROOM]
-    ensures { λ r. ⌜ 49152 ≡ length r ⌝ }
+    ensures { λ r. ⌜ workingRoom ≡ length r ⌝ }
 {
     [0; Edition::WORKING_ROOM]
 }

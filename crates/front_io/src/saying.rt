@@ -2,6 +2,12 @@
 use libc::STDERR_FILENO;
 use libc::STDOUT_FILENO;
 
+// Bytes of a file's name, a word or a reason that are said: more would not fit a message.
+const NAME: usize = 4096;
+
+// Bytes of the room of a message, which is `io::large_buffer`'s.
+const MESSAGE: usize = 65536;
+
 // Writes a text to standard error.
 pub fn say(text: &[u8]) {
     front_files::write_whole(STDERR_FILENO, text);
@@ -9,14 +15,14 @@ pub fn say(text: &[u8]) {
 
 // Says why the last call of the system failed, in the system's words, and on what.
 pub fn fail(name: &[u8]) {
-    if 4096 < name.len() {
+    if NAME < name.len() {
         os::fail(b"flowawk");
         return;
     }
     let mut room = io::large_buffer();
     let a = front_messages::put_text(&mut room, 0, b"flowawk: ");
     let n = front_messages::put_text(&mut room, a, name);
-    if n <= 65536 {
+    if n <= MESSAGE {
         os::fail(&room[0..n]);
     }
 }
@@ -32,7 +38,7 @@ pub fn print(bytes: &[u8]) -> bool {
 
 // Says why a filter is refused: the place, the outcome, the line and a caret under the place.
 pub fn refuse_filter(name: &[u8], text: &[u8], place: usize, outcome: u64) {
-    if 4096 < name.len() {
+    if NAME < name.len() {
         return;
     }
     if 4294967295 < text.len() {
@@ -43,19 +49,19 @@ pub fn refuse_filter(name: &[u8], text: &[u8], place: usize, outcome: u64) {
     }
     let mut room = io::large_buffer();
     let n = front_messages::put_refusal(&mut room, name, text, place, outcome);
-    if n <= 65536 {
+    if n <= MESSAGE {
         say(&room[0..n]);
     }
 }
 
 // Says why an image is refused.
 pub fn refuse_image(name: &[u8], outcome: u64) {
-    if 4096 < name.len() {
+    if NAME < name.len() {
         return;
     }
     let mut room = io::large_buffer();
     let n = front_messages::put_image_refusal(&mut room, name, outcome);
-    if n <= 65536 {
+    if n <= MESSAGE {
         say(&room[0..n]);
     }
 }
@@ -64,7 +70,7 @@ pub fn refuse_image(name: &[u8], outcome: u64) {
 pub fn summarize(outcome: u64, records: u64, steps: u64, bytes: u64) {
     let mut room = io::large_buffer();
     let n = front_messages::put_summary(&mut room, outcome, records, steps, bytes);
-    if n <= 65536 {
+    if n <= MESSAGE {
         say(&room[0..n]);
     }
 }
@@ -79,24 +85,24 @@ pub fn refuse_size(size: usize) {
     );
     let b = front_messages::put_decimal(&mut room, a, size as u64);
     let n = front_messages::put_text(&mut room, b, b" bytes\n");
-    if n <= 65536 {
+    if n <= MESSAGE {
         say(&room[0..n]);
     }
 }
 
 // Says what is wrong with a word of the command line.
 pub fn refuse_word(word: &[u8], reason: &[u8]) {
-    if 4096 < word.len() {
+    if NAME < word.len() {
         return;
     }
-    if 4096 < reason.len() {
+    if NAME < reason.len() {
         return;
     }
     let mut room = io::large_buffer();
     let a = front_messages::put_text(&mut room, 0, b"flowawk: ");
     let b = front_messages::put_text(&mut room, a, word);
     let c = front_messages::put_text(&mut room, b, reason);
-    if c <= 65536 {
+    if c <= MESSAGE {
         say(&room[0..c]);
     }
 }

@@ -14,7 +14,11 @@ fn put_shown_byte(room: &mut [u8], k: usize, b: u8) -> usize
     if front_places::prints(b) {
         return put::put_text(room, k, &[b]);
     }
-    put::put_text(room, k, &[b'\\', 48 + b / 64, 48 + b / 8 % 8, 48 + b % 8])
+    put::put_text(
+        room,
+        k,
+        &[b'\\', b'0' + b / 64, b'0' + b / 8 % 8, b'0' + b % 8],
+    )
 }
 
 // Writes what is under a byte before the caret, from byte k on; returns the index after it.

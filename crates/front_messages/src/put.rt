@@ -23,10 +23,10 @@ pub fn put_decimal(room: &mut [u8], k: usize, n: u64) -> usize
     ensures { λ r. ⌜ Puts (now (room .entry)) k (decimalDigits n) r (now (room .exit)) × (r ≤ k + 20) ⌝ }
 {
     if n < 10 {
-        varint::put_byte(room, k, 48 + n as u8);
+        varint::put_byte(room, k, b'0' + n as u8);
         return k + 1;
     }
     let end = put_decimal(room, k, n / 10);
-    varint::put_byte(room, end, 48 + (n % 10) as u8);
+    varint::put_byte(room, end, b'0' + (n % 10) as u8);
     end + 1
 }

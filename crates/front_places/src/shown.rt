@@ -21,7 +21,7 @@ pub struct Window {
 pub fn prints(b: u8) -> bool
     ensures { λ r. ⌜ r ≡ Shown·prints b ⌝ }
 {
-    b == b'\t' || (32 <= b && b <= 126)
+    b == b'\t' || (b' ' <= b && b <= b'~')
 }
 
 // Returns the columns that a byte takes.

@@ -49,7 +49,7 @@ fn write_digits(out: &mut [u8], at: usize, n: u64, count: usize)
     let mut rest = n;
     while 0 < i {
         i -= 1;
-        out[at + i] = 48 + (rest % 10) as u8;
+        out[at + i] = b'0' + (rest % 10) as u8;
         rest /= 10;
     }
 }
@@ -75,7 +75,7 @@ pub fn write_decimal(out: &mut [u8], at: usize, w: u64) -> usize
     if w < Edition::NUMBER {
         let n = Edition::NUMBER - w;
         let count = digit_count(n);
-        out[at] = 45;
+        out[at] = b'-';
         write_digits(out, at + 1, n, count);
         1 + count
     } else {

@@ -18,14 +18,14 @@ pub struct Digits {
 pub fn is_blank(b: u8) -> bool
     ensures { λ r. ⌜ r ≡ isBlank b ⌝ }
 {
-    b == 32 || b == 9
+    b == b' ' || b == b'\t'
 }
 
 // Tells whether a byte is a digit.
 pub fn is_digit(b: u8) -> bool
     ensures { λ r. ⌜ r ≡ isDigit b ⌝ }
 {
-    48 <= b && b <= 57
+    b'0' <= b && b <= b'9'
 }
 
 // Returns how many blanks the text begins with.
@@ -47,7 +47,7 @@ fn with_digit(value: u64, digit: u8) -> u64
     requires { ⌜ (value ≤ numberBound + 1) × (48 ≤ digit) × (digit ≤ 57) ⌝ }
     ensures { λ r. ⌜ r ≡ capped (appended value digit) ⌝ }
 {
-    let next = value * 10 + (digit - 48) as u64;
+    let next = value * 10 + (digit - b'0') as u64;
     if next <= Edition::NUMBER {
         next
     } else {

@@ -27,7 +27,7 @@ fn byte_at(t: &[u8], at: usize) -> u8
 fn is_sign(b: u8) -> bool
     ensures { λ r. ⌜ r ≡ isSign b ⌝ }
 {
-    b == 43 || b == 45
+    b == b'+' || b == b'-'
 }
 
 // Returns how many bytes the sign takes that a text with this first byte begins with.
@@ -49,12 +49,12 @@ pub fn read_prefix(t: &[u8]) -> Prefix
     ensures { λ r. ⌜ ReadsPrefix r (now (t .entry)) ⌝ }
 {
     let first = byte_at(t, 0);
-    let negative = first == 45;
+    let negative = first == b'-';
     let sign = sign_length(first);
     let whole = digits::read_digits(&t[sign..]);
     let count = whole.count;
     let point = sign + count;
-    if byte_at(t, point) != 46 {
+    if byte_at(t, point) != b'.' {
         return Prefix {
             length: with_digits(count, point),
             negative,

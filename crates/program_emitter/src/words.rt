@@ -3,7 +3,7 @@ ghost use mathlib.Core.Path.{_≡_};
 ghost use Rattle.program_emitter.specs.Words.{packed, Fits, opIn, depthIn, firstIn, secondIn};
 use edition::Edition;
 
-// The codes of the instructions that are not in a table of operators or functions.
+// The codes of the instructions.
 pub const SECTION_END: u64 = 0;
 
 pub const CONSTANT: u64 = 1;
@@ -18,15 +18,45 @@ pub const SET_FIELD: u64 = 5;
 
 pub const DROP: u64 = 6;
 
+pub const ADD: u64 = 7;
+
+pub const SUBTRACT: u64 = 8;
+
+pub const MULTIPLY: u64 = 9;
+
+pub const DIVIDE: u64 = 10;
+
+pub const REMAINDER: u64 = 11;
+
 pub const NEGATE: u64 = 12;
 
 pub const TO_NUMBER: u64 = 13;
 
 pub const NOT: u64 = 14;
 
+pub const LESS: u64 = 15;
+
+pub const AT_MOST: u64 = 16;
+
+pub const EQUAL: u64 = 17;
+
+pub const DIFFERENT: u64 = 18;
+
+pub const GREATER: u64 = 19;
+
+pub const AT_LEAST: u64 = 20;
+
 pub const JOIN: u64 = 21;
 
 pub const MATCHES: u64 = 22;
+
+pub const MATCH: u64 = 23;
+
+pub const LENGTH: u64 = 24;
+
+pub const INDEX: u64 = 25;
+
+pub const SUBSTR: u64 = 26;
 
 pub const JUMP: u64 = 27;
 
@@ -43,38 +73,49 @@ pub const ZERO: u64 = Edition::FILTER_TEXT as u64;
 
 pub const ONE: u64 = Edition::FILTER_TEXT as u64 + 1;
 
+// What a depth and each of the operands are multiplied with in a word, and how many depths and operands there are.
+const DEPTH: u64 = 256;
+
+const FIRST: u64 = 16777216;
+
+const SECOND: u64 = 17592186044416;
+
+const DEPTHS: u64 = 65536;
+
+const OPERANDS: u64 = 1048576;
+
 // Packs an instruction: its code, the depth before it, and two operands.
 pub fn instruction(op: u64, depth: u64, first: u64, second: u64) -> u64
     requires { ⌜ Fits op depth first second ⌝ }
     ensures { λ r. ⌜ r ≡ packed op depth first second ⌝ }
 {
-    op + 256 * depth + 16777216 * first + 17592186044416 * second
+    op + DEPTH * depth + FIRST * first + SECOND * second
 }
 
 // Returns the code of a packed instruction.
 pub fn op_in(word: u64) -> u64
     ensures { λ r. ⌜ r ≡ opIn word ⌝ }
 {
-    word % 256
+    word % DEPTH
 }
 
 // Returns the depth before a packed instruction.
 pub fn depth_in(word: u64) -> u64
     ensures { λ r. ⌜ r ≡ depthIn word ⌝ }
 {
-    word / 256 % 65536
+    word / DEPTH % DEPTHS
 }
 
 // Returns the first operand of a packed instruction.
 pub fn first_in(word: u64) -> u64
     ensures { λ r. ⌜ r ≡ firstIn word ⌝ }
 {
-    word / 16777216 % 1048576
+    word / FIRST % OPERANDS
 }
 
 // Returns the second operand of a packed instruction.
 pub fn second_in(word: u64) -> u64
     ensures { λ r. ⌜ r ≡ secondIn word ⌝ }
 {
-    word / 17592186044416
+    word / SECOND
 }

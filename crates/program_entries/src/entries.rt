@@ -39,11 +39,11 @@ pub fn is_named(what: u64, op: u64) -> bool
     ensures { λ r. ⌜ r ≡ isNamed what op ⌝ }
 {
     match op {
-        1 => what == CONSTANTS,
-        2 => what == VARIABLES,
-        3 => what == VARIABLES,
-        22 => what == ERES,
-        23 => what == ERES,
+        program_emitter::CONSTANT => what == CONSTANTS,
+        program_emitter::GET => what == VARIABLES,
+        program_emitter::SET => what == VARIABLES,
+        program_emitter::MATCHES => what == ERES,
+        program_emitter::MATCH => what == ERES,
         _ => false,
     }
 }

@@ -18,6 +18,15 @@ pub const AN_EXPRESSION: u64 = 1;
 
 pub const AN_ERE: u64 = 2;
 
+// The shapes of one, two and three expressions, and of an expression and an ERE.
+const ONE: u64 = AN_EXPRESSION;
+
+const TWO: u64 = AN_EXPRESSION + 4 * ONE;
+
+const THREE: u64 = AN_EXPRESSION + 4 * TWO;
+
+const ONE_AND_ERE: u64 = AN_EXPRESSION + 4 * AN_ERE;
+
 // Returns a function to the editions that have it.
 fn with_since(op: u64, shapes: u64, since: u64, edition: Edition) -> Function
     ensures { λ r. ⌜ r ≡ withSince op shapes since (edition .number) ⌝ }
@@ -34,10 +43,10 @@ pub fn function_of(kind: u64, edition: Edition) -> Function
     ensures { λ r. ⌜ r ≡ described (functionOf (edition .number) (kindOf kind)) ⌝ }
 {
     match kind {
-        kinds::LENGTH => with_since(24, 1, 1, edition),
-        kinds::INDEX => with_since(25, 5, 1, edition),
-        kinds::SUBSTR => with_since(26, 21, 1, edition),
-        kinds::MATCH => with_since(23, 9, 1, edition),
+        kinds::LENGTH => with_since(program_emitter::LENGTH, ONE, Edition::FIRST, edition),
+        kinds::INDEX => with_since(program_emitter::INDEX, TWO, Edition::FIRST, edition),
+        kinds::SUBSTR => with_since(program_emitter::SUBSTR, THREE, Edition::FIRST, edition),
+        kinds::MATCH => with_since(program_emitter::MATCH, ONE_AND_ERE, Edition::FIRST, edition),
         _ => Function { op: 0, shapes: 0 },
     }
 }

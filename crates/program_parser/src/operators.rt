@@ -80,17 +80,17 @@ pub fn operator_code(kind: u64) -> u64
     ensures { λ r. ⌜ r ≡ operatorCode (kindOf kind) ⌝ }
 {
     match kind {
-        kinds::PLUS => 7,
-        kinds::MINUS => 8,
-        kinds::STAR => 9,
-        kinds::SLASH => 10,
-        kinds::PERCENT => 11,
-        kinds::LESS => 15,
-        kinds::AT_MOST => 16,
-        kinds::EQUAL => 17,
-        kinds::DIFFERENT => 18,
-        kinds::GREATER => 19,
-        kinds::AT_LEAST => 20,
+        kinds::PLUS => program_emitter::ADD,
+        kinds::MINUS => program_emitter::SUBTRACT,
+        kinds::STAR => program_emitter::MULTIPLY,
+        kinds::SLASH => program_emitter::DIVIDE,
+        kinds::PERCENT => program_emitter::REMAINDER,
+        kinds::LESS => program_emitter::LESS,
+        kinds::AT_MOST => program_emitter::AT_MOST,
+        kinds::EQUAL => program_emitter::EQUAL,
+        kinds::DIFFERENT => program_emitter::DIFFERENT,
+        kinds::GREATER => program_emitter::GREATER,
+        kinds::AT_LEAST => program_emitter::AT_LEAST,
         _ => program_emitter::JOIN,
     }
 }

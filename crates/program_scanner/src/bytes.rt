@@ -20,7 +20,7 @@ pub fn byte_at(s: &[u8], i: usize) -> u8
 pub fn is_letter(b: u8) -> bool
     ensures { λ r. ⌜ r ≡ isLetter b ⌝ }
 {
-    ((97 <= b) & (b <= 122)) | (((65 <= b) & (b <= 90)) | (b == b'_'))
+    ((b'a' <= b) & (b <= b'z')) | (((b'A' <= b) & (b <= b'Z')) | (b == b'_'))
 }
 
 // Tells whether a word can go on with a byte.

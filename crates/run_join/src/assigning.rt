@@ -16,6 +16,7 @@ ghost use Rattle.run_room.specs.Held.{Did};
 ghost use Rattle.run_lines.specs.Records.{ofsSlot, Safe, InForce, Becomes};
 ghost use Rattle.run_join.specs.Stores.{Assigns, Stores};
 use edition::Edition;
+use edition::Outcome;
 use run_records::Begun;
 use run_room::Line;
 use separators::Kind;
@@ -55,7 +56,7 @@ pub fn set_field(
     let count = field_count(all.known, k);
     if run_parts::too_long(work, all, k, v, count, n) {
         return Begun {
-            outcome: 14,
+            outcome: Outcome::TEXT_TOO_LONG,
             line: all,
         };
     }

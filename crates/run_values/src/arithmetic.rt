@@ -10,6 +10,7 @@ ghost use Rattle.values.specs.Value.{result};
 ghost use Rattle.values.specs.Operations.{computed as Value·computed, aNumber, arithmeticOf, negateOf, toNumberOf};
 ghost use Rattle.run_values.specs.Codes.{arithmeticBy};
 ghost use Rattle.run_values.specs.Left.{Left};
+use edition::Outcome;
 use number::Computed;
 
 // Computes what a code says.
@@ -36,9 +37,9 @@ fn put_computed(work: &mut [u8], a: usize, c: Computed) -> u64
             run_room::set_number(work, a, w);
             0
         }
-        Computed::OutOfRange => 11,
-        Computed::NotWhole => 12,
-        Computed::ZeroDivisor => 13,
+        Computed::OutOfRange => Outcome::NUMBER_OUT_OF_RANGE,
+        Computed::NotWhole => Outcome::NUMBER_NOT_WHOLE,
+        Computed::ZeroDivisor => Outcome::DIVISOR_ZERO,
     }
 }
 

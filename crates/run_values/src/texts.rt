@@ -15,6 +15,7 @@ ghost use Rattle.run_room.specs.Room.{slotAt};
 ghost use Rattle.values.specs.Operations.{joinOf, lengthOf, placeOf, indexOf, between, substrOf};
 ghost use Rattle.run_values.specs.Left.{Left};
 use edition::Edition;
+use edition::Outcome;
 
 // Joins the texts of two values: 14.
 pub fn join(work: &mut [u8], a: usize) -> u64
@@ -25,7 +26,7 @@ pub fn join(work: &mut [u8], a: usize) -> u64
     let n = run_room::show(work, a);
     let m = run_room::show(work, a + 1);
     if Edition::TEXT < n + m {
-        return 14;
+        return Outcome::TEXT_TOO_LONG;
     }
     let to = a * run_room::SLOT + run_room::HEAD;
     run_room::copy_blocks(work, to + run_room::SLOT, to + n, m);

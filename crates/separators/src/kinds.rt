@@ -39,7 +39,7 @@ pub fn kind_of(separator: &[u8], edition: Edition, t: &mut [u64]) -> Kind
         return by_pattern(separator, edition, t);
     }
     let b = separator[0];
-    if b == 32 {
+    if b == b' ' {
         return Kind::Blank;
     }
     Kind::Byte(b)

@@ -28,9 +28,9 @@ fn run_end(text: &[u8], edition: Edition, blank: bool, at: usize) -> usize
     ensures { λ r. ⌜ r ≡ at + leading (isIn «blank» (blanks (edition .number))) (drop at (now (text .entry))) ⌝ }
 {
     if blank {
-        return lanes::past_two(text, at, 32, 9);
+        return lanes::past_two(text, at, b' ', b'\t');
     }
-    lanes::first_of_two(text, at, 32, 9)
+    lanes::first_of_two(text, at, b' ', b'\t')
 }
 
 // Returns the next field between blanks.
