@@ -43,9 +43,13 @@ implied v = filterText + v
 
 -- ---- runs of instructions, of "Translation"
 
+-- "constant 0 .., field", and an instruction on that
+abbrev pub recordWords : ℕ → ℕ → ℕ → List ℕ
+recordWords op depth operand = word 1 depth (implied 0) ∷ word 4 (depth + 1) 0 ∷ word op (depth + 1) operand ∷ []
+
 -- "bare ERE is constant 0 .., field, matches"
 abbrev pub ereWords : ℕ → ℕ → List ℕ
-ereWords depth place = word 1 depth (implied 0) ∷ word 4 (depth + 1) 0 ∷ word 22 (depth + 1) place ∷ []
+ereWords depth place = recordWords 22 depth place
 
 -- "not, not"
 abbrev pub notWords : ℕ → List ℕ
@@ -62,4 +66,4 @@ eitherWords j depth e = word 28 (depth + 1) (j + 3) ∷ word 1 depth (implied 1)
 
 -- "Bare `print` prints `$0`."
 abbrev pub printWords : List ℕ
-printWords = word 1 0 (implied 0) ∷ word 4 1 0 ∷ word 29 1 1 ∷ []
+printWords = recordWords 29 0 1

@@ -4,7 +4,7 @@ ghost use mathlib.Core.List.{[], _∷_};
 ghost use Prim.Native.Nat.{_+_, _≤_, _<_};
 ghost use lib.ListN.{set};
 ghost use lib.Seq.{sets};
-ghost use Rattle.program_emitter.specs.Words.{Fits, word, ereWords, notWords, bothWords, eitherWords, printWords};
+ghost use Rattle.program_emitter.specs.Words.{Fits, word, recordWords, ereWords, notWords, bothWords, eitherWords, printWords};
 use crate::words;
 
 // Stores instruction n, if there is room.
@@ -26,14 +26,39 @@ pub fn emit(section: &mut [u64], n: usize, op: u64, depth: u64, operand: u64) ->
     n + 1
 }
 
+// Stores an instruction on `$0`: constant 0, field, and it.
+fn emit_on_record(section: &mut [u64], n: usize, op: u64, depth: u64, operand: u64) -> usize
+    requires { ⌜ (n < 1000000) × (op < 256) × (depth < 65000) × (operand < 1048576) ⌝ }
+    ensures { λ r. ⌜ (r ≡ n + 3) × (now (section .exit) ≡ sets (now (section .entry)) n (recordWords op depth operand)) ⌝ }
+{
+    emit(section, n, words::CONSTANT, depth, words::ZERO);
+    emit(section, n + 1, words::FIELD, depth + 1, 0);
+    emit(section, n + 2, op, depth + 1, operand)
+}
+
 // Stores an ERE alone: constant 0, field, matches.
 pub fn emit_ere(section: &mut [u64], n: usize, depth: u64, place: usize) -> usize
     requires { ⌜ (n < 1000000) × (depth < 65000) × (place < 1048576) ⌝ }
     ensures { λ r. ⌜ (r ≡ n + 3) × (now (section .exit) ≡ sets (now (section .entry)) n (ereWords depth place)) ⌝ }
 {
-    emit(section, n, words::CONSTANT, depth, words::ZERO);
-    emit(section, n + 1, words::FIELD, depth + 1, 0);
-    emit(section, n + 2, words::MATCHES, depth + 1, place as u64)
+    emit_on_record(section, n, words::MATCHES, depth, place as u64)
+}
+
+// Stores `print` alone: constant 0, field, print 1.
+pub fn emit_print(section: &mut [u64], n: usize) -> usize
+    requires { ⌜ n < 1000000 ⌝ }
+    ensures { λ r. ⌜ (r ≡ n + 3) × (now (section .exit) ≡ sets (now (section .entry)) n printWords) ⌝ }
+{
+    emit_on_record(section, n, words::PRINT, 0, 1)
+}
+
+// Stores not, not.
+fn emit_nots(section: &mut [u64], n: usize, depth: u64)
+    requires { ⌜ (n < 1000000) × (depth < 65000) ⌝ }
+    ensures { λ _. ⌜ now (section .exit) ≡ sets (now (section .entry)) n (notWords depth) ⌝ }
+{
+    emit(section, n, words::NOT, depth + 1, 0);
+    emit(section, n + 1, words::NOT, depth + 1, 0);
 }
 
 // Stores what follows the right side of `&&`, and then the jump before it, which is instruction j.
@@ -43,8 +68,7 @@ pub fn emit_both(section: &mut [u64], n: usize, depth: u64, j: usize) -> usize
         × (now (section .exit)
         ≡ sets (sets (now (section .entry)) n (bothWords n depth)) j (word 28 (depth + 1) (n + 3) ∷ [])) ⌝ }
 {
-    emit(section, n, words::NOT, depth + 1, 0);
-    emit(section, n + 1, words::NOT, depth + 1, 0);
+    emit_nots(section, n, depth);
     emit(section, n + 2, words::JUMP, depth + 1, (n + 4) as u64);
     emit(section, n + 3, words::CONSTANT, depth, words::ZERO);
     emit(section, j, words::JUMP_IF_FALSE, depth + 1, (n + 3) as u64);
@@ -58,20 +82,9 @@ pub fn emit_either(section: &mut [u64], n: usize, depth: u64, j: usize) -> usize
         × (now (section .exit)
         ≡ sets (sets (now (section .entry)) n (notWords depth)) j (eitherWords j depth (n + 2))) ⌝ }
 {
-    emit(section, n, words::NOT, depth + 1, 0);
-    emit(section, n + 1, words::NOT, depth + 1, 0);
+    emit_nots(section, n, depth);
     emit(section, j, words::JUMP_IF_FALSE, depth + 1, (j + 3) as u64);
     emit(section, j + 1, words::CONSTANT, depth, words::ONE);
     emit(section, j + 2, words::JUMP, depth + 1, (n + 2) as u64);
     n + 2
-}
-
-// Stores `print` alone: constant 0, field, print 1.
-pub fn emit_print(section: &mut [u64], n: usize) -> usize
-    requires { ⌜ n < 1000000 ⌝ }
-    ensures { λ r. ⌜ (r ≡ n + 3) × (now (section .exit) ≡ sets (now (section .entry)) n printWords) ⌝ }
-{
-    emit(section, n, words::CONSTANT, 0, words::ZERO);
-    emit(section, n + 1, words::FIELD, 1, 0);
-    emit(section, n + 2, words::PRINT, 1, 1)
 }

@@ -7,15 +7,19 @@ use Rattle.program_emitter.proofs.runs.emit_either.Tie as tie
 use Rattle.program_emitter.proofs.runs.emit_either.Reads as reads
 use Rattle.program_emitter.proofs.runs.emit_either.Lts as lts
 use Rattle.program_emitter.proofs.runs.emit.Reads as emit-reads
+use Rattle.program_emitter.proofs.runs.emit_nots.Reads as emit-nots-reads
+
+emit-nots-requires : tie.Need-emit-nots-requires
+emit-nots-requires c κs = search needs
 
 add-emit : tie.Need-add-emit
 add-emit c = search needs
 
-emit-requires : tie.Need-emit-requires
-emit-requires c κs = search needs
-
 add-emit-2 : tie.Need-add-emit-2
 add-emit-2 c = search needs
+
+emit-requires : tie.Need-emit-requires
+emit-requires c κs = search needs
 
 add-emit-3 : tie.Need-add-emit-3
 add-emit-3 c = search needs
@@ -29,26 +33,11 @@ add-emit-4 c = search needs
 add-emit-5 : tie.Need-add-emit-5
 add-emit-5 c = search needs
 
-emit-requires-3 : tie.Need-emit-requires-3
-emit-requires-3 c κs = search needs
-
 add-emit-6 : tie.Need-add-emit-6
 add-emit-6 c = search needs
 
-emit-requires-4 : tie.Need-emit-requires-4
-emit-requires-4 c κs = search needs
-
-add-emit-7 : tie.Need-add-emit-7
-add-emit-7 c = search needs
-
-add-emit-8 : tie.Need-add-emit-8
-add-emit-8 c = search needs
-
-add-emit-9 : tie.Need-add-emit-9
-add-emit-9 c = search needs
-
-emit-requires-5 : tie.Need-emit-requires-5
-emit-requires-5 c κs = search needs
+emit-requires-3 : tie.Need-emit-requires-3
+emit-requires-3 c κs = search needs
 
 add-result : tie.Need-add-result
 add-result c = search needs
@@ -58,31 +47,25 @@ same-length c = search needs
 
 returns : tie.Need-returns
 returns c =
-    let n : ℕ = c .before .before .before .before .before .before .before .before .before .before .before .before .before .before .before .before .before .before .before .before .before .args .n in
-    let j : ℕ = c .before .before .before .before .before .before .before .before .before .before .before .before .before .before .before .before .before .before .before .before .before .args .j in
-    let n1 : n + 1 ≡ suc (n) = omega arith in
+    let j : ℕ = c .before .before .before .before .before .before .before .before .before .before .before .before .before .before .before .before .before .args .j in
     let j1 : j + 1 ≡ suc (j) = omega arith in
     let j2 : j + 2 ≡ suc (suc (j)) = omega arith in
-    (search needs, cc (n1, j1, j2))
+    (search needs, cc (j1, j2))
 
 pub emit-either-spec : {M : Type 1} → statement M
 emit-either-spec =
     tie.close
     (tie.spec
+    emit-nots-requires
     add-emit
-    emit-requires
     add-emit-2
+    emit-requires
     add-emit-3
     emit-requires-2
     add-emit-4
     add-emit-5
-    emit-requires-3
     add-emit-6
-    emit-requires-4
-    add-emit-7
-    add-emit-8
-    add-emit-9
-    emit-requires-5
+    emit-requires-3
     add-result
     same-length
     returns)

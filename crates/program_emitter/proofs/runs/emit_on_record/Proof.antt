@@ -2,10 +2,10 @@ use mathlib.Core.Path.{_≡_}
 use Prim.Native.Nat.{ℕ, suc, _+_}
 use native.Mathlib.Omega.{arith}
 use borrow.Author.Needs.{needs}
-use Rattle.program_emitter.proofs.runs.emit_ere.Statement.{statement}
-use Rattle.program_emitter.proofs.runs.emit_ere.Tie as tie
-use Rattle.program_emitter.proofs.runs.emit_ere.Reads as reads
-use Rattle.program_emitter.proofs.runs.emit_ere.Lts as lts
+use Rattle.program_emitter.proofs.runs.emit_on_record.Statement.{statement}
+use Rattle.program_emitter.proofs.runs.emit_on_record.Tie as tie
+use Rattle.program_emitter.proofs.runs.emit_on_record.Reads as reads
+use Rattle.program_emitter.proofs.runs.emit_on_record.Lts as lts
 use Rattle.program_emitter.proofs.runs.emit.Reads as emit-reads
 
 emit-requires : tie.Need-emit-requires
@@ -39,8 +39,8 @@ returns c =
     let n2 : n + 2 ≡ suc (suc (n)) = omega arith in
     (omega (arith, c .before .before .emit3 .ensures .0), cc (n1, n2))
 
-pub emit-ere-spec : {M : Type 1} → statement M
-emit-ere-spec =
+pub emit-on-record-spec : {M : Type 1} → statement M
+emit-on-record-spec =
     tie.close
     (tie.spec
     emit-requires
