@@ -9,6 +9,13 @@ use Rattle.ere_table.specs.Wiring.{stopIn}
 use Rattle.ere_automaton.specs.Layout.{rowsAt}
 use Rattle.ere_sets.specs.Modes.{changeBy}
 
+-- how many states an automaton has at most, and the words of their sets, three each
+abbrev pub stateCount : ℕ
+stateCount = 96
+
+abbrev pub setWords : ℕ
+setWords = 288
+
 -- where a match may end before the text's end, it may at it
 pub record Fair (s : List ℕ) : Type 0 where
   pub fair : stopIn s false ≡ true → stopIn s true ≡ true

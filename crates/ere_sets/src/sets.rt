@@ -7,7 +7,7 @@ ghost use Rattle.ere_table.specs.Table.{tableWords, row};
 ghost use Rattle.ere_automaton.specs.Sets.{collapsed as collapsedOf, after as afterOf};
 ghost use Rattle.ere_automaton.specs.Follows.{pendingAfter};
 ghost use Rattle.ere_sets.specs.Modes.{changeBy, firstBy, laterBy, lastBy};
-ghost use Rattle.ere_sets.specs.Growth.{Fair, Put, Enters};
+ghost use Rattle.ere_sets.specs.Growth.{stateCount, setWords, Fair, Put, Enters};
 use ere_table::PLACES;
 
 // What the states of an automaton stand for: all starts, one at each place; one start; the starts before a place.
@@ -144,9 +144,7 @@ fn put(sets: &mut [u64], i: usize, s: [u64; 3])
     requires { ⌜ 3 * i + 3 ≤ length (now sets) ⌝ }
     ensures { λ _. ⌜ Put (now (sets .entry)) i s (now (sets .exit)) ⌝ }
 {
-    sets[3 * i] = s[0];
-    sets[3 * i + 1] = s[1];
-    sets[3 * i + 2] = s[2];
+    ere_table::put_three(sets, 3 * i, s);
 }
 
 // Sets, how many, or more than there is room for; and the number of the one that was sought.
@@ -157,7 +155,7 @@ pub struct Entered {
 
 // Enters a set, if it is new; most is how many there is room for.
 pub fn enter(sets: &mut [u64], count: usize, most: usize, s: [u64; 3]) -> Entered
-    requires { ⌜ (count ≤ most) × (most ≤ 96) × (length (now sets) ≡ 288) ⌝ }
+    requires { ⌜ (count ≤ most) × (most ≤ stateCount) × (length (now sets) ≡ setWords) ⌝ }
     ensures { λ r. ⌜ Enters (now (sets .entry)) count most s (r .count) (r .number) (now (sets .exit)) ⌝ }
 {
     let i = find(sets, count, s);

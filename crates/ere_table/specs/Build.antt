@@ -34,18 +34,21 @@ acceptAtEnd = 0 ∷ 0 ∷ 2 ∷ []
 abbrev pub single : ℕ → List ℕ
 single p = cond (ltb p 64) (1 * 2 ^ p % 2 ^ 64 ∷ 0 ∷ 0 ∷ []) (0 ∷ 1 * 2 ^ (p - 64) % 2 ^ 64 ∷ 0 ∷ [])
 
+-- three words, and four, from index i on
+abbrev pub threeAt : List ℕ → ℕ → List ℕ → List ℕ
+threeAt t i x = set (set (set t i (getD x 0 0)) (i + 1) (getD x 1 0)) (i + 2) (getD x 2 0)
+
+abbrev pub fourAt : List ℕ → ℕ → List ℕ → List ℕ
+fourAt t i x = set (threeAt t i x) (i + 3) (getD x 3 0)
+
 -- the table t with the row r set to x
 abbrev pub withRow : List ℕ → ℕ → List ℕ → List ℕ
-withRow t r x = set (set (set t (3 * r) (getD x 0 0)) (3 * r + 1) (getD x 1 0)) (3 * r + 2) (getD x 2 0)
+withRow t r x = threeAt t (3 * r) x
 
 -- the rows from r on, n of them, with y in place of their accept bits
 unfoldable pub linkRows : List ℕ → ℕ → ℕ → List ℕ → List ℕ
 linkRows t r zero y = t
 linkRows t r (suc n) y = withRow (linkRows t r n y) (r + n) (link (row (linkRows t r n y) (r + n)) y)
-
--- four words from index i on
-abbrev pub fourAt : List ℕ → ℕ → List ℕ → List ℕ
-fourAt t i c = set (set (set (set t i (getD c 0 0)) (i + 1) (getD c 1 0)) (i + 2) (getD c 2 0)) (i + 3) (getD c 3 0)
 
 -- the table t with the class of the place p set to c
 abbrev pub withClass : List ℕ → ℕ → List ℕ → List ℕ

@@ -3,7 +3,7 @@ ghost use mathlib.Core.Path.{_≡_};
 ghost use Prim.Native.Nat.{_+_, _≤_, _<_};
 ghost use lib.ListN.{length};
 ghost use Rattle.ere_table.specs.Table.{tableWords, placeCount, row, join};
-ghost use Rattle.ere_table.specs.Build.{withRow, linkRows, withClass, entered, beginOf, emptyOf, sealed};
+ghost use Rattle.ere_table.specs.Build.{threeAt, fourAt, withRow, linkRows, withClass, entered, beginOf, emptyOf, sealed};
 ghost use Rattle.ere_table.specs.Build.{link as linkOf, gather as gatherOf, single as singleOf, joinClass, orStop};
 use crate::layout;
 use crate::layout::ACCEPT_BITS;
@@ -47,14 +47,33 @@ pub fn single(p: usize) -> [u64; 3]
     [0, 1 << (p - 64), 0]
 }
 
+// Stores three words, from index `at` on.
+pub fn put_three(s: &mut [u64], at: usize, x: [u64; 3])
+    requires { ⌜ at + 3 ≤ length (now s) ⌝ }
+    ensures { λ u. ⌜ now (s .exit) ≡ threeAt (now (s .entry)) at x ⌝ }
+{
+    s[at] = x[0];
+    s[at + 1] = x[1];
+    s[at + 2] = x[2];
+}
+
+// Stores four words, from index `at` on.
+fn put_four(s: &mut [u64], at: usize, c: [u64; 4])
+    requires { ⌜ at + 4 ≤ length (now s) ⌝ }
+    ensures { λ u. ⌜ now (s .exit) ≡ fourAt (now (s .entry)) at c ⌝ }
+{
+    s[at] = c[0];
+    s[at + 1] = c[1];
+    s[at + 2] = c[2];
+    s[at + 3] = c[3];
+}
+
 // Sets row r of the table.
 pub fn put_row(t: &mut [u64], r: usize, x: [u64; 3])
     requires { ⌜ (length (now t) ≡ tableWords) × (r < placeCount + 2) ⌝ }
     ensures { λ u. ⌜ now (t .exit) ≡ withRow (now (t .entry)) r x ⌝ }
 {
-    t[3 * r] = x[0];
-    t[3 * r + 1] = x[1];
-    t[3 * r + 2] = x[2];
+    put_three(t, 3 * r, x);
 }
 
 // Replaces the accept bits of row r by y.
@@ -84,10 +103,7 @@ pub fn put_class(t: &mut [u64], p: usize, c: [u64; 4])
     requires { ⌜ (length (now t) ≡ tableWords) × (p < placeCount) ⌝ }
     ensures { λ u. ⌜ now (t .exit) ≡ withClass (now (t .entry)) p c ⌝ }
 {
-    t[ROWS + 4 * p] = c[0];
-    t[ROWS + 4 * p + 1] = c[1];
-    t[ROWS + 4 * p + 2] = c[2];
-    t[ROWS + 4 * p + 3] = c[3];
+    put_four(t, ROWS + 4 * p, c);
 }
 
 // Tells whether a match may begin with the place p.
@@ -159,9 +175,6 @@ pub fn put_first_bytes(t: &mut [u64])
 {
     let c = begin(t);
     let e = empty(t);
-    t[BEGIN] = c[0];
-    t[BEGIN + 1] = c[1];
-    t[BEGIN + 2] = c[2];
-    t[BEGIN + 3] = c[3];
+    put_four(t, BEGIN, c);
     t[EMPTY] = e;
 }

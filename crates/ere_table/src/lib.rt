@@ -12,6 +12,7 @@ pub use build::or_stop;
 pub use build::put_class;
 pub use build::put_first_bytes;
 pub use build::put_row;
+pub use build::put_three;
 pub use build::single;
 pub use build::union;
 pub use layout::ACCEPT;

@@ -1,75 +1,26 @@
-use native.Mathlib.Omega.{arith}
-use lib.ListN.{length-set}
+use mathlib.Core.Path.{sym, subst}
+use Rattle.ere_sets.specs.Growth.{Put}
 use Rattle.ere_sets.proofs.Grown.{put-is}
 use borrow.Author.Needs.{needs}
 use Rattle.ere_sets.proofs.sets.put.Statement.{statement}
 use Rattle.ere_sets.proofs.sets.put.Tie as tie
+use Rattle.ere_sets.proofs.sets.put.Reads as reads
+use Rattle.ere_sets.proofs.sets.put.Lts as lts
+use Rattle.ere_table.proofs.put_three.Reads as put-three-reads
 
-array-read-sets : tie.Need-array-read-sets
-array-read-sets c = search needs
+mul-put-three : tie.Need-mul-put-three
+mul-put-three c = search needs
 
-mul-sets : tie.Need-mul-sets
-mul-sets c = search needs
-
-mul-sets-2 : tie.Need-mul-sets-2
-mul-sets-2 c = search needs
-
-slice-write-sets : tie.Need-slice-write-sets
-slice-write-sets c = search needs
-
-array-read-sets-2 : tie.Need-array-read-sets-2
-array-read-sets-2 c = search needs
-
-mul-sets-3 : tie.Need-mul-sets-3
-mul-sets-3 c = search needs
-
-add-sets : tie.Need-add-sets
-add-sets c = search needs
-
-mul-sets-4 : tie.Need-mul-sets-4
-mul-sets-4 c = search needs
-
-slice-write-sets-2 : tie.Need-slice-write-sets-2
-slice-write-sets-2 c = simp length-set (omega arith)
-
-array-read-sets-3 : tie.Need-array-read-sets-3
-array-read-sets-3 c = search needs
-
-mul-sets-5 : tie.Need-mul-sets-5
-mul-sets-5 c = search needs
-
-add-sets-2 : tie.Need-add-sets-2
-add-sets-2 c = search needs
-
-mul-sets-6 : tie.Need-mul-sets-6
-mul-sets-6 c = search needs
-
-slice-write-sets-3 : tie.Need-slice-write-sets-3
-slice-write-sets-3 c = simp length-set (omega arith)
+put-three-requires : tie.Need-put-three-requires
+put-three-requires c κs = search needs
 
 same-length : tie.Need-same-length
 same-length c = search needs
 
 returns : tie.Need-returns
-returns c = put-is (c .args .sets .now) (c .args .i) (c .args .t3) (c .pre) (c .good .1 .1 .0 .1 .0 .1)
+returns c =
+    let p = c .before .before .before .before .before in
+    subst (Put (p .args .sets .now) (p .args .i) (p .args .s)) (sym (c .before .before .put-three .ensures)) (put-is (p .args .sets .now) (p .args .i) (p .args .s) (p .pre) (p .good .1 .1 .0 .1 .0 .1))
 
 pub put-spec : {M : Type 1} → statement M
-put-spec =
-    tie.close
-    (tie.spec
-    array-read-sets
-    mul-sets
-    mul-sets-2
-    slice-write-sets
-    array-read-sets-2
-    mul-sets-3
-    add-sets
-    mul-sets-4
-    slice-write-sets-2
-    array-read-sets-3
-    mul-sets-5
-    add-sets-2
-    mul-sets-6
-    slice-write-sets-3
-    same-length
-    returns)
+put-spec = tie.close (tie.spec mul-put-three put-three-requires same-length returns)

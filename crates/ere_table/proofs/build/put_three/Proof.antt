@@ -1,0 +1,65 @@
+-- `put_three` meets its contract: its indices are in the slice.
+use native.Mathlib.Omega.{arith}
+use lib.ListN.{length-set}
+use borrow.Author.Needs.{needs}
+use Rattle.ere_table.proofs.build.put_three.Statement.{statement}
+use Rattle.ere_table.proofs.build.put_three.Tie as tie
+use Rattle.ere_table.proofs.build.put_three.Reads as reads
+use Rattle.ere_table.proofs.build.put_three.Lts as lts
+
+array-read-s : tie.Need-array-read-s
+array-read-s c = search needs
+
+mul-s : tie.Need-mul-s
+mul-s c = search needs
+
+slice-write-s : tie.Need-slice-write-s
+slice-write-s c = search needs
+
+array-read-s-2 : tie.Need-array-read-s-2
+array-read-s-2 c = search needs
+
+add-s : tie.Need-add-s
+add-s c = search needs
+
+mul-s-2 : tie.Need-mul-s-2
+mul-s-2 c = search needs
+
+slice-write-s-2 : tie.Need-slice-write-s-2
+slice-write-s-2 c = simp length-set (omega arith)
+
+array-read-s-3 : tie.Need-array-read-s-3
+array-read-s-3 c = search needs
+
+add-s-2 : tie.Need-add-s-2
+add-s-2 c = search needs
+
+mul-s-3 : tie.Need-mul-s-3
+mul-s-3 c = search needs
+
+slice-write-s-3 : tie.Need-slice-write-s-3
+slice-write-s-3 c = simp length-set (omega arith)
+
+same-length : tie.Need-same-length
+same-length c = search needs
+
+returns : tie.Need-returns
+returns c = search needs
+
+pub put-three-spec : {M : Type 1} → statement M
+put-three-spec =
+    tie.close
+    (tie.spec
+    array-read-s
+    mul-s
+    slice-write-s
+    array-read-s-2
+    add-s
+    mul-s-2
+    slice-write-s-2
+    array-read-s-3
+    add-s-2
+    mul-s-3
+    slice-write-s-3
+    same-length
+    returns)
