@@ -47,7 +47,7 @@ opcode-row (flow next) = refl
 opcode-row (flow exit) = refl
 
 -- the row of an operation has that operation
-row-operation : (o : Operation) → rowOf o .operation ≡ o
+pub row-operation : (o : Operation) → rowOf o .operation ≡ o
 row-operation (action constant) = refl
 row-operation (action get) = refl
 row-operation (action set) = refl

@@ -14,7 +14,7 @@ use Rattle.lists.specs.Elements.{nth, all}
 use Rattle.edition.specs.Limits.{textBytes, userNames, constantCount, ereCount, instructionCount, operandDepth}
 use Rattle.ere_meaning.specs.Tree.{Class, Ere}
 use Rattle.ere_grammar.specs.Read.{readEre}
-use Rattle.image_format.specs.Codes.{ImmediateKind, codeOf, Operation, action, flow, constant, get, set, field, set-field, drop as drop-action, arithmetic, negate, to-number, negation, compare, join, matches, match, length-of, index, substr, print, section-end, jump, jump-if-false, next, exit}
+use Rattle.image_format.specs.Codes.{ImmediateKind, codeOf, Operation, action, flow, constant, get, set, matches, match, print, section-end, jump, jump-if-false, next, exit}
 use Rattle.image_format.specs.Image.{Constant, number, text, Instruction, Image}
 use Rattle.semantics.specs.Variables.{specialCount, assignable}
 use Rattle.semantics.specs.World.{variableCount}
@@ -33,7 +33,7 @@ use Rattle.program_reader.proofs.Fine.{Good}
 use Rattle.program_reader.proofs.Tokens.{Readable, Spelled, IsName, Said, read-fine}
 use Rattle.program_code.specs.Emitted.{Operand, nothing, the-constant, the-variable, the-ere, the-instruction, the-count, Emitted, opcode}
 use Rattle.program_code.specs.Sections.{compileStatement, partsOf, sectionCode}
-use Rattle.program_code.proofs.Opcodes.{opcode-row}
+use Rattle.program_code.proofs.Opcodes.{opcode-row, row-operation}
 use Rattle.program_code.proofs.Flows.{Leads, FlowsAt, Stands, Flows}
 use Rattle.program_code.proofs.Sections.{flows-section}
 use Rattle.program_numbering.specs.Names.{has, numberOf, usersOf}
@@ -49,31 +49,6 @@ use Rattle.translation.proofs.Sound.{tag, emitted, Sound, plain, consta
 use Rattle.translation.proofs.Tables.{Listed, names-listed, constants-listed, eres-listed, set-allowed, names-count, join-named}
 
 -- ---- lists
-
-row-operation : (o : Operation) → rowOf o .operation ≡ o
-row-operation (action constant) = refl
-row-operation (action get) = refl
-row-operation (action set) = refl
-row-operation (action field) = refl
-row-operation (action set-field) = refl
-row-operation (action drop-action) = refl
-row-operation (action (arithmetic o)) = refl
-row-operation (action negate) = refl
-row-operation (action to-number) = refl
-row-operation (action negation) = refl
-row-operation (action (compare o)) = refl
-row-operation (action join) = refl
-row-operation (action matches) = refl
-row-operation (action match) = refl
-row-operation (action length-of) = refl
-row-operation (action index) = refl
-row-operation (action substr) = refl
-row-operation (action print) = refl
-row-operation (flow section-end) = refl
-row-operation (flow jump) = refl
-row-operation (flow jump-if-false) = refl
-row-operation (flow next) = refl
-row-operation (flow exit) = refl
 
 abbrev numbered : Tables → Emitted → Instruction
 numbered t i = record { code = opcode (i .operation); depth = i .depth; immediates = numbersOf t (i .operand) }
