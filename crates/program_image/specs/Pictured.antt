@@ -2,14 +2,18 @@
 use mathlib.Core.Path.{_≡_}
 use mathlib.Core.Bool.{true, false}
 use mathlib.Core.List.{List, map}
-use Prim.Native.Nat.{ℕ, _*_, _≤_}
+use Prim.Native.Nat.{ℕ, _*_, _-_, _≤_}
 use lib.ListN.{length}
-use Rattle.edition.specs.Limits.{instructionCount}
+use Rattle.edition.specs.Limits.{filterText, numberBound, instructionCount}
 use Rattle.image_format.specs.Image.{Image}
 use Rattle.image_format.specs.Writing.{bytesOf}
+use Rattle.semantics.specs.Variables.{specialCount}
 use Rattle.varint.specs.Room.{withAll}
 use Rattle.program_tables.specs.Tables.{AllInside, entriesFrom}
-use Rattle.program_image.specs.Written.{textOf, instructionsOf}
+use Rattle.program_image.specs.Written.{textOf, instructionsOf, AllSmall}
+use Rattle.program_image.specs.Fitting.{countsFit}
+use Rattle.program_image.specs.declared.images.Counts.{Counts}
+use Rattle.program_image.specs.declared.images.Sections.{Sections}
 
 -- the first entries of two tables, over a filter's text, and the first words of three sections
 unfoldable pub imageIn : ℕ → ℕ → List ℕ → List ℕ → ℕ → List ℕ → ℕ → List ℕ → ℕ → List ℕ → ℕ → List ℕ → ℕ → Image
@@ -38,3 +42,21 @@ pub record Tabled (s table : List ℕ) (n : ℕ) : Type 0 where
 pub record Sectioned (section : List ℕ) (n : ℕ) : Type 0 where
   pub room : n ≤ length section
   pub few : n ≤ instructionCount
+
+module _ (edition : ℕ) (s : List ℕ) (counts : Counts) (constants eres : List ℕ) (sections : Sections)
+    (begin main end : List ℕ) where
+  -- tables and sections of which an image is made
+  abbrev pub Pictures : Type 0
+  Pictures =
+      (length s ≤ filterText) × (edition ≤ numberBound)
+      × (specialCount edition ≤ counts .variables)
+      × (countsFit edition (counts .variables) (counts .constants) (counts .eres) ≡ true)
+      × Tabled s constants (counts .constants) × AllSmall constants (counts .constants)
+      × Tabled s eres (counts .eres) × Sectioned begin (sections .begin)
+      × Sectioned main (sections .main) × Sectioned end (sections .end)
+
+  -- the image
+  abbrev pub pictured : Image
+  pictured =
+      imageIn edition (counts .variables - specialCount edition) s constants (counts .constants) eres (counts .eres)
+      begin (sections .begin) main (sections .main) end (sections .end)

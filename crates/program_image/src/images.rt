@@ -3,10 +3,8 @@ ghost use mathlib.Core.Path.{_≡_};
 ghost use mathlib.Core.Bool.{true};
 ghost use Prim.Native.Nat.{_+_, _-_, _≤_, _<_};
 ghost use lib.ListN.{length};
-ghost use Rattle.edition.specs.Limits.{filterText, numberBound};
-ghost use Rattle.semantics.specs.Variables.{specialCount};
-ghost use Rattle.program_image.specs.Written.{AllSmall, instructionsOf};
-ghost use Rattle.program_image.specs.Pictured.{imageIn, WritesImage, Tabled, Sectioned};
+ghost use Rattle.program_image.specs.Written.{instructionsOf};
+ghost use Rattle.program_image.specs.Pictured.{WritesImage, Pictures, pictured};
 ghost use Rattle.program_image.specs.Fitting.{countsFit, sectionsFit};
 use crate::sizes;
 use crate::writing;
@@ -60,16 +58,11 @@ pub fn put_image(
     edition: Edition,
     room: &mut [u8],
 ) -> usize
-    requires { ⌜ (length (now s) ≤ filterText) × (edition .number ≤ numberBound)
-        × (specialCount (edition .number) ≤ counts .variables)
-        × (countsFit (edition .number) (counts .variables) (counts .constants) (counts .eres) ≡ true)
-        × Tabled (now s) (now constants) (counts .constants) × AllSmall (now constants) (counts .constants)
-        × Tabled (now s) (now eres) (counts .eres) × Sectioned (now begin) (sections .begin)
-        × Sectioned (now main) (sections .main) × Sectioned (now end) (sections .end) ⌝ }
-    ensures { λ r. ⌜ WritesImage (now (room .entry)) (imageIn (edition .number)
-        (counts .variables - specialCount (edition .number)) (now (s .entry)) (now (constants .entry))
-        (counts .constants) (now (eres .entry)) (counts .eres) (now (begin .entry)) (sections .begin)
-        (now (main .entry)) (sections .main) (now (end .entry)) (sections .end)) r (now (room .exit)) ⌝ }
+    requires { ⌜ Pictures (edition .number) (now s) counts (now constants) (now eres) sections (now begin) (now main)
+        (now end) ⌝ }
+    ensures { λ r. ⌜ WritesImage (now (room .entry))
+        (pictured (edition .number) (now (s .entry)) counts (now (constants .entry)) (now (eres .entry)) sections
+        (now (begin .entry)) (now (main .entry)) (now (end .entry))) r (now (room .exit)) ⌝ }
 {
     let users = counts.variables as u64 - opcodes::specials(edition.number);
     let e = varint::put_number(room, 0, edition.number);

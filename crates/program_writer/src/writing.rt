@@ -9,7 +9,7 @@ ghost use Rattle.semantics.specs.Variables.{specialCount};
 ghost use Rattle.image_format.specs.Writing.{bytesOf};
 ghost use Rattle.translation.specs.Translation.{refused, stored, sized};
 ghost use Rattle.program_image.specs.Written.{AllSmall};
-ghost use Rattle.program_image.specs.Pictured.{imageIn, Tabled, Sectioned};
+ghost use Rattle.program_image.specs.Pictured.{Tabled, Sectioned, Pictures, pictured};
 ghost use Rattle.program_image.specs.Fitting.{countsFit};
 ghost use Rattle.program_writer.specs.Answer.{translationOf};
 use edition::Edition;
@@ -37,16 +37,11 @@ fn write_image(
     edition: Edition,
     image: &mut [u8],
 ) -> Translation
-    requires { ⌜ (length (now s) ≤ filterText) × (edition .number ≤ numberBound)
-        × (specialCount (edition .number) ≤ counts .variables)
-        × (countsFit (edition .number) (counts .variables) (counts .constants) (counts .eres) ≡ true)
-        × Tabled (now s) (now constants) (counts .constants) × AllSmall (now constants) (counts .constants)
-        × Tabled (now s) (now eres) (counts .eres) × Sectioned (now begin) (sections .begin)
-        × Sectioned (now main) (sections .main) × Sectioned (now end) (sections .end) ⌝ }
+    requires { ⌜ Pictures (edition .number) (now s) counts (now constants) (now eres) sections (now begin) (now main)
+        (now end) ⌝ }
     ensures { λ r. ⌜ translationOf r (now (image .exit)) ≡ stored (now (image .entry)) (now (s .entry)) (bytesOf
-        (imageIn (edition .number) (counts .variables - specialCount (edition .number)) (now (s .entry))
-        (now (constants .entry)) (counts .constants) (now (eres .entry)) (counts .eres) (now (begin .entry))
-        (sections .begin) (now (main .entry)) (sections .main) (now (end .entry)) (sections .end))) ⌝ }
+        (pictured (edition .number) (now (s .entry)) counts (now (constants .entry)) (now (eres .entry)) sections
+        (now (begin .entry)) (now (main .entry)) (now (end .entry)))) ⌝ }
 {
     let n = program_image::put_image(
         s,
@@ -105,10 +100,9 @@ pub fn write_fitting(
         × Sectioned (now end) (sections .end) ⌝ }
     ensures { λ r. ⌜ translationOf r (now (image .exit))
         ≡ cond (countsFit (edition .number) (counts .variables) (counts .constants) (counts .eres))
-        (sized (now (image .entry)) (now (s .entry)) (imageIn (edition .number)
-        (counts .variables - specialCount (edition .number)) (now (s .entry)) (now (constants .entry))
-        (counts .constants) (now (eres .entry)) (counts .eres) (now (begin .entry)) (sections .begin)
-        (now (main .entry)) (sections .main) (now (end .entry)) (sections .end)))
+        (sized (now (image .entry)) (now (s .entry))
+        (pictured (edition .number) (now (s .entry)) counts (now (constants .entry)) (now (eres .entry)) sections
+        (now (begin .entry)) (now (main .entry)) (now (end .entry))))
         (refused (now (image .entry)) sizePassed (length (now (s .entry)))) ⌝ }
 {
     let too_large = Translation {
