@@ -1,13 +1,14 @@
 #!/usr/bin/env python3
-"""Writes the data files of the program crate front_cases: messages and command lines with what is expected of them.
+"""Writes the data files of the groups of vectors_front: messages and command lines with what is expected of them.
 
 The expectations come from the model below, which says the definitions of front_places, front_messages and front_options again in
-Python. For each group there is a file of cases, and a file `wrong_..` of the same cases with one expectation changed."""
+Python. For each group there is a file of cases, and a file `wrong_..` of the same cases with one expectation changed. tests/vectors.py
+calls `written`, after its own groups, for the lines of crates/vectors/stdout."""
 import os
 import random
 import struct
 
-DATA = os.path.join(os.path.dirname(os.path.abspath(__file__)), "..", "crates", "front_cases", "data")
+DATA = os.path.join(os.path.dirname(os.path.abspath(__file__)), "..", "crates", "vectors", "data")
 MEANINGS = [
     "done", "filter text too long", "NUL byte in the filter text", "bad token", "misplaced token", "bad ERE or its sizes",
     "other size passed", "image or content room too small", "image bytes malformed", "image fails the check", "budget spent",
@@ -145,10 +146,11 @@ def frames(cases):
 
 
 def write(name, right, wrong):
+    """Writes a group's two files; the lines that the program has to write of them."""
     for n, cases in ((name, right), ("wrong_" + name, wrong)):
         with open(os.path.join(DATA, n), "wb") as f:
             f.write(frames(cases))
-        print(n, len(cases))
+    return ["%s: %d of %d\n" % (name, len(right), len(right)), "wrong_%s: 0 of %d\n" % (name, len(wrong))]
 
 
 def changed(case, at):
@@ -156,16 +158,17 @@ def changed(case, at):
     return case[:at] + bytes([case[at] ^ 1]) + case[at + 1:]
 
 
-def main():
+def written():
+    """Writes the files; the lines that the program has to write."""
     os.makedirs(DATA, exist_ok=True)
     r = random.Random(19)
-    right, wrong = [], []
+    lines, right, wrong = [], [], []
     for name, text, place, outcome in refusals(r):
         message = refusal(name, text, place, outcome)
         case = refusal_case(name, text, place, outcome, message)
         right.append(case)
         wrong.append(changed(case, len(case) - 1 - r.randrange(len(message))))
-    write("refusals", right, wrong)
+    lines += write("refusals", right, wrong)
     right, wrong = [], []
     for outcome in range(21):
         for _ in range(4):
@@ -174,22 +177,23 @@ def main():
             case = struct.pack("<BQQQ", outcome, *n) + message
             right.append(case)
             wrong.append(changed(case, len(case) - 1 - r.randrange(len(message))))
-    write("summaries", right, wrong)
+    lines += write("summaries", right, wrong)
     right, wrong = [], []
     for words in command_lines(r):
         stage, operand, given = options(words)
         case = option_case(words, stage, operand, given, action(stage, operand, given, len(words)))
         right.append(case)
         wrong.append(changed(case, r.randrange(24)))
-    write("options", right, wrong)
+    lines += write("options", right, wrong)
     right, wrong = [], []
     for w in budgets(r):
         is_budget = w.isdigit() and int(w) < 2 ** 64
         case = struct.pack("<BQ", is_budget, int(w) if is_budget else 0) + w
         right.append(case)
         wrong.append(changed(case, r.randrange(9) if is_budget else 0))
-    write("budgets", right, wrong)
+    lines += write("budgets", right, wrong)
+    return lines
 
 
 if __name__ == "__main__":
-    main()
+    print("".join(written()), end="")

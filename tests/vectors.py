@@ -11,6 +11,8 @@ write the function under @group, in the order of the program's `main`, and the m
 
 Beside data/NAME stands data/wrong_NAME: some of its cases, each with another byte in what is expected. None of them may pass.
 
+The groups of vectors_front, which are cases on messages and command lines, are program_cases.py's.
+
 A file is a list of frames: the payload's length, 2 bytes, and the payload. All numbers are unsigned, the low byte first. A number of
 the rules, -2^53 to 2^53, is 8 bytes: what it is above -2^53. Payloads, field by field, with the bytes of each:
 
@@ -53,6 +55,7 @@ import sys
 import filter_cases
 import filter_texts
 import image_cases
+import program_cases
 import run_cases
 import whole_runs
 
@@ -1004,6 +1007,7 @@ def main():
             with open(os.path.join(crate, 'data', file), 'wb') as f:
                 f.writelines(short(len(p)) + p for p in made)
             lines.append('%s: %d of %d\n' % (file, passed, len(made)))
+    lines += program_cases.written()
     with open(os.path.join(crate, 'stdout'), 'w') as f:
         f.writelines(lines)
     sys.stdout.writelines(lines)

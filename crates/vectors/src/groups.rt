@@ -19,6 +19,10 @@ pub enum Group {
     Runs,
     Translate,
     Ways,
+    Refusals,
+    Summaries,
+    Options,
+    Budgets,
 }
 
 // Tells whether the case in a frame's payload passes.
@@ -43,5 +47,9 @@ pub fn passes(group: Group, p: &[u8]) -> bool {
         Group::Runs => vectors_programs::runs::passes(p),
         Group::Translate => vectors_programs::translating::passes(p),
         Group::Ways => vectors_programs::ways::passes(p),
+        Group::Refusals => vectors_front::refusals::passes(p),
+        Group::Summaries => vectors_front::summaries::passes(p),
+        Group::Options => vectors_front::options::passes(p),
+        Group::Budgets => vectors_front::budgets::passes(p),
     }
 }

@@ -2,14 +2,15 @@
 // group: how many of how many passed. Of the cases of a file `wrong_..`, whose expectations are wrong, none may pass.
 //
 // A group is a module of a crate `vectors_..`, whose function `passes` judges one case; its variant and its arm in
-// groups.rt; its line of `main`; and a function of tests/vectors.py, which makes the group's file. The judges are in
-// crates of their own, so that no check takes long.
+// groups.rt; its line of `main`; and a function of tests/vectors.py or tests/program_cases.py, which makes the group's
+// file. The judges are in crates of their own, so that no check takes long.
 mod groups;
 mod walk;
 
 use groups::Group;
 use walk::run;
 
+// Runs every group: its cases, and those whose expectations are wrong.
 fn main() {
     run(Group::Limits, b"limits");
     run(Group::Limits, b"wrong_limits");
@@ -49,4 +50,12 @@ fn main() {
     run(Group::Translate, b"wrong_translate");
     run(Group::Ways, b"ways");
     run(Group::Ways, b"wrong_ways");
+    run(Group::Refusals, b"refusals");
+    run(Group::Refusals, b"wrong_refusals");
+    run(Group::Summaries, b"summaries");
+    run(Group::Summaries, b"wrong_summaries");
+    run(Group::Options, b"options");
+    run(Group::Options, b"wrong_options");
+    run(Group::Budgets, b"budgets");
+    run(Group::Budgets, b"wrong_budgets");
 }

@@ -1,4 +1,4 @@
-// How a run ended.
+// Tells whether a summary of how a run ended is as expected.
 //
 // Payload: the outcome, then records, steps and bytes, 8 bytes each, and the message.
 pub fn passes(p: &[u8]) -> bool {

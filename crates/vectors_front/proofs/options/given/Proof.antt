@@ -3,8 +3,8 @@ use borrow.Author.Needs.{needs}
 use native.Mathlib.Omega.{arith}
 use Prim.Native.Nat.{_-_, _≤_}
 use lib.ListN.{length}
-use Rattle.front_cases.proofs.options.given.Statement.{statement}
-use Rattle.front_cases.proofs.options.given.Tie as tie
+use Rattle.vectors_front.proofs.options.given.Statement.{statement}
+use Rattle.vectors_front.proofs.options.given.Tie as tie
 
 abbrev Inv-loop : tie.InvT-loop
 Inv-loop p words i₀ i = i ≤ length words
