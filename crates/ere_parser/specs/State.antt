@@ -1,6 +1,6 @@
 -- Internal: cited by private contracts only. What the reader keeps while it reads a group, and what each part of it
 -- does.
-use mathlib.Core.Bool.{true, false, cond, _&&_}
+use mathlib.Core.Bool.{Bool, true, false, cond, _&&_}
 use mathlib.Core.List.{List}
 use Prim.Native.Nat.{ℕ, _+_, _-_}
 use lib.ListN.{getD}
@@ -40,78 +40,52 @@ bolEntry = entry accept noPlace
 abbrev pub eolEntry : Entry
 eolEntry = entry acceptAtEnd acceptAtEnd
 
--- the state with which a group is begun, and one in which it is refused
-abbrev pub startOf : ℕ → ℕ → ℕ → State
-startOf at lo count =
+-- a state in which the group goes on, and one in which it is over: ended, or refused
+abbrev pub goingOn : Bool → ℕ → ℕ → ℕ → ℕ → Entry → Entry → State
+goingOn some at lo hi count alts seq =
     record {
       over = false;
       ok = true;
-      some = false;
+      some = some;
       at = at;
       lo = lo;
-      hi = lo;
+      hi = hi;
       count = count;
-      alts = noAlts;
-      seq = noSeq;
+      alts = alts;
+      seq = seq;
     }
+
+abbrev pub overBy : Bool → State → State
+overBy ok s =
+    record {
+      over = true;
+      ok = ok;
+      some = s .some;
+      at = s .at;
+      lo = s .lo;
+      hi = s .hi;
+      count = s .count;
+      alts = s .alts;
+      seq = s .seq;
+    }
+
+-- the state with which a group is begun
+abbrev pub startOf : ℕ → ℕ → ℕ → State
+startOf at lo count = goingOn false at lo lo count noAlts noSeq
 
 abbrev pub refusedOf : State → State
-refusedOf s =
-    record {
-      over = true;
-      ok = false;
-      some = s .some;
-      at = s .at;
-      lo = s .lo;
-      hi = s .hi;
-      count = s .count;
-      alts = s .alts;
-      seq = s .seq;
-    }
+refusedOf s = overBy false s
 
 abbrev pub endedOf : State → State
-endedOf s =
-    record {
-      over = true;
-      ok = true;
-      some = s .some;
-      at = s .at;
-      lo = s .lo;
-      hi = s .hi;
-      count = s .count;
-      alts = s .alts;
-      seq = s .seq;
-    }
+endedOf s = overBy true s
 
 -- one alternative more
 abbrev pub barOf : State → State
-barOf s =
-    record {
-      over = false;
-      ok = true;
-      some = false;
-      at = s .at + 1;
-      lo = s .hi;
-      hi = s .hi;
-      count = s .count;
-      alts = joinEntry (s .alts) (s .seq);
-      seq = noSeq;
-    }
+barOf s = goingOn false (s .at + 1) (s .hi) (s .hi) (s .count) (joinEntry (s .alts) (s .seq)) noSeq
 
 -- one piece more, whose places start where those of the sequence end
 abbrev pub pushedOf : State → Piece → State
-pushedOf s g =
-    record {
-      over = false;
-      ok = true;
-      some = true;
-      at = g .at;
-      lo = s .lo;
-      hi = g .hi;
-      count = g .count;
-      alts = s .alts;
-      seq = linkEntry (s .seq) (g .entry);
-    }
+pushedOf s g = goingOn true (g .at) (s .lo) (g .hi) (g .count) (s .alts) (linkEntry (s .seq) (g .entry))
 
 abbrev pub pushedTable : State → Piece → List ℕ → List ℕ
 pushedTable s g t = linkRows t (s .lo + 2) (s .hi - s .lo) (g .entry .later)
