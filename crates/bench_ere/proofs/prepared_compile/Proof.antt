@@ -17,13 +17,17 @@ same-length : tie.Need-same-length
 same-length c = search needs
 
 returns-2 : tie.Need-returns-2
-returns-2 c = prepares-some (c .before .before .before .before .before .before .before .before .args .ere .now) (c .before .before .before .before .before .before .before .before .args .table .now) _ (c .before .before .before .before .before .if1 .left) (subst (Compiles 1 (c .before .before .before .before .before .before .before .before .args .ere .now) _) (c .if2 .taken) (c .before .before .before .compile .ensures))
+returns-2 c =
+    let a = c .before .before .before .before .before .before .before .before .args in
+    prepares-some (a .ere .now) (a .table .now) _ (c .before .before .before .before .before .if1 .left) (subst (Compiles 1 (a .ere .now) _) (c .if2 .taken) (c .before .before .before .compile .ensures))
 
 same-length-2 : tie.Need-same-length-2
 same-length-2 c = search needs
 
 returns-3 : tie.Need-returns-3
-returns-3 c = prepares-none (c .before .before .before .before .before .before .before .before .args .ere .now) (c .before .before .before .before .before .before .before .before .args .table .now) _ (c .before .before .before .before .before .if1 .left) (c .before .before .before .compile .ensures .refused (c .if2 .left))
+returns-3 c =
+    let a = c .before .before .before .before .before .before .before .before .args in
+    prepares-none (a .ere .now) (a .table .now) _ (c .before .before .before .before .before .if1 .left) (c .before .before .before .compile .ensures .refused (c .if2 .left))
 
 pub prepared-compile-spec : {M : Type 1} → statement M
 prepared-compile-spec =

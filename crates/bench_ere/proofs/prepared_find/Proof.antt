@@ -22,27 +22,31 @@ enum-known-start : tie.Need-enum-known-start
 enum-known-start c = search needs
 
 add-result : tie.Need-add-result
-add-result c = omega (arith, found-inside (c .before .before .before .before .before .before .before .before .args .table .now) (c .before .before .before .before .before .before .before .before .args .text .now) (c .before .before .before .find-from .result) (c .before .before .before .find-from .ensures) _ _ (c .before .start .given .1), c .before .before .before .before .if2 .left)
+add-result c =
+    let a = c .before .before .before .before .before .before .before .before .args in
+    omega (arith, found-inside (a .table .now) (a .text .now) (c .before .before .before .find-from .result) (c .before .before .before .find-from .ensures) _ _ (c .before .start .given .1), c .before .before .before .before .if2 .left)
 
 enum-told : tie.Need-enum-told
 enum-told c = search needs
 
 returns-3 : tie.Need-returns-3
 returns-3 c =
+    let a = c .before .before .before .before .before .before .before .before .args in
     record {
       unsized = λ n. absurd (n (c .before .before .before .before .before .if1 .left));
       long = λ h. absurd (omega (arith, h, c .before .before .before .before .if2 .left));
       best = λ e s l h. ap (λ (x : Found). lengthOf (matchOf x)) (sym (c .before .start .given .1))
-          ∙ length-found (c .before .before .before .before .before .before .before .before .args .table .now) (c .before .before .before .before .before .before .before .before .args .text .now) (c .before .before .before .find-from .result) (c .before .before .before .find-from .ensures) e s (λ i k. c .before .before .before .before .before .before .shared-slice-known2 .given i .fits);
+          ∙ length-found (a .table .now) (a .text .now) (c .before .before .before .find-from .result) (c .before .before .before .find-from .ensures) e s (λ i k. c .before .before .before .before .before .before .shared-slice-known2 .given i .fits);
     }
 
 returns-4 : tie.Need-returns-4
 returns-4 c =
+    let a = c .before .before .before .before .before .before .before .args in
     record {
       unsized = λ n. absurd (n (c .before .before .before .before .if1 .left));
       long = λ h. absurd (omega (arith, h, c .before .before .before .if2 .left));
       best = λ e s l h. ap (λ (x : Found). lengthOf (matchOf x)) (sym (c .enum-told .given .1))
-          ∙ length-found (c .before .before .before .before .before .before .before .args .table .now) (c .before .before .before .before .before .before .before .args .text .now) (c .before .before .find-from .result) (c .before .before .find-from .ensures) e s (λ i k. c .before .before .before .before .before .shared-slice-known2 .given i .fits);
+          ∙ length-found (a .table .now) (a .text .now) (c .before .before .find-from .result) (c .before .before .find-from .ensures) e s (λ i k. c .before .before .before .before .before .shared-slice-known2 .given i .fits);
     }
 
 pub prepared-find-spec : {M : Type 1} → statement M

@@ -28,7 +28,9 @@ part-exists-end : tie.Need-part-exists-end Inv-loop μ-loop
 part-exists-end c = omega (arith, c .end-at .ensures .0, c .end-at .ensures .1)
 
 exists-requires : tie.Need-exists-requires Inv-loop μ-loop
-exists-requires c κs = (c .before .before .before .before .before .before .before .pre .0, simp (length-take, length-drop) (omega (arith, c .before .before .before .before .before .before .before .pre .1)))
+exists-requires c κs =
+    let b = c .before .before .before .before .before .before .before in
+    (b .pre .0, simp (length-take, length-drop) (omega (arith, b .pre .1)))
 
 one-if-requires : tie.Need-one-if-requires Inv-loop μ-loop
 one-if-requires c κs = search needs

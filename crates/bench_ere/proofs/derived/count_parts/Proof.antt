@@ -25,7 +25,9 @@ part-seek-end : tie.Need-part-seek-end Inv-loop μ-loop
 part-seek-end c = omega arith
 
 seek-requires : tie.Need-seek-requires Inv-loop μ-loop
-seek-requires c κs = (c .before .before .before .before .before .pre .0, simp (length-take, length-drop) (omega (arith, c .before .before .before .before .before .pre .1)), omega arith)
+seek-requires c κs =
+    let b = c .before .before .before .before .before in
+    (b .pre .0, simp (length-take, length-drop) (omega (arith, b .pre .1)), omega arith)
 
 end-of-requires : tie.Need-end-of-requires Inv-loop μ-loop
 end-of-requires c κs = search needs

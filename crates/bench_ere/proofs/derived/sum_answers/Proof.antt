@@ -28,7 +28,9 @@ part-answer-end : tie.Need-part-answer-end Inv-loop μ-loop
 part-answer-end c = omega (arith, c .end-at .ensures .0, c .end-at .ensures .1)
 
 answer-requires : tie.Need-answer-requires Inv-loop μ-loop
-answer-requires c κs = (c .before .before .before .before .before .before .before .pre .0, simp (length-take, length-drop) (omega (arith, c .before .before .before .before .before .before .before .pre .1)))
+answer-requires c κs =
+    let b = c .before .before .before .before .before .before .before in
+    (b .pre .0, simp (length-take, length-drop) (omega (arith, b .pre .1)))
 
 wrapping-add-u64-requires : tie.Need-wrapping-add-u64-requires Inv-loop μ-loop
 wrapping-add-u64-requires c κs = search needs

@@ -25,13 +25,19 @@ same-length : tie.Need-same-length
 same-length c = search needs
 
 returns-2 : tie.Need-returns-2
-returns-2 c = compiles-none (group-bad (c .before .before .before .before .before .before .before .before .before .args .edition .number) (c .before .before .before .before .before .before .before .before .before .args .ere .now) (c .before .before .before .before .before .before .before .before .before .args .t .now) _ (c .before .before .before .before .read-group .result) (c .before .before .before .before .before .before .if1 .left) (c .before .before .before .before .read-group .ensures) (not-true _ (c .if2 .taken)))
+returns-2 c =
+    let a = c .before .before .before .before .before .before .before .before .before .args in
+    let b = c .before .before .before .before in
+    compiles-none (group-bad (a .edition .number) (a .ere .now) (a .t .now) _ (b .read-group .result) (c .before .before .before .before .before .before .if1 .left) (b .read-group .ensures) (not-true _ (c .if2 .taken)))
 
 same-length-2 : tie.Need-same-length-2
 same-length-2 c = search needs
 
 returns-3 : tie.Need-returns-3
-returns-3 c = compiles-none (group-open (c .before .before .before .before .before .before .before .before .before .before .before .args .edition .number) (c .before .before .before .before .before .before .before .before .before .before .before .args .ere .now) (c .before .before .before .before .before .before .before .before .before .before .before .args .t .now) _ (c .before .before .before .before .before .before .read-group .result) (c .before .before .before .before .before .before .before .before .if1 .left) (c .before .before .before .before .before .before .read-group .ensures) (not-false _ (c .before .before .if2 .left)) (c .if3 .taken))
+returns-3 c =
+    let a = c .before .before .before .before .before .before .before .before .before .before .before .args in
+    let b = c .before .before .before .before .before .before in
+    compiles-none (group-open (a .edition .number) (a .ere .now) (a .t .now) _ (b .read-group .result) (c .before .before .before .before .before .before .before .before .if1 .left) (b .read-group .ensures) (not-false _ (c .before .before .if2 .left)) (c .if3 .taken))
 
 put-row-requires : tie.Need-put-row-requires
 put-row-requires c κs = search needs
@@ -47,17 +53,20 @@ same-length-3 c = search needs
 
 returns-4 : tie.Need-returns-4
 returns-4 c =
-    let l = c .before .before .before .before .before .before .before .before .before .before .before .before .before .before .before .before .before .before .before .before .before .before .before .before .before .before .args .ere .now in
-    let d = c .before .before .before .before .before .before .before .before .before .before .before .before .before .before .before .before .before .before .before .before .before .before .before .before .before .before .args .edition .number in
-    let g = c .before .before .before .before .before .before .before .before .before .before .before .before .before .before .before .before .before .before .before .before .before .read-group .result in
-    let u : List ℕ = c .before .before .before .before .before .before .before .before .before .before .before .before .before .before .before .before .before .before .before .before .before .read-group .last .1 .1 .1 .1 .1 .0 in
-    let q = c .before .before .before .before .before .before .before .before .before .before .before .before .before .before .before .before .before .before .before .before .before .read-group .ensures in
+    let a = c .before .before .before .before .before .before .before .before .before .before .before .before .before .before .before .before .before .before .before .before .before .before .before .before .before .before .args in
+    let b = c .before .before .before .before .before .before .before .before .before .before .before .before .before .before .before .before .before .before .before .before .before .before .before in
+    let p = c .before .before .before .before .before .before .before .before .before .before .before .before .before .before .before .before .before .before .before .before .before in
+    let l = a .ere .now in
+    let d = a .edition .number in
+    let g = p .read-group .result in
+    let u : List ℕ = p .read-group .last .1 .1 .1 .1 .1 .0 in
+    let q = p .read-group .ensures in
     let o = not-false (g .ok) (c .before .before .before .before .before .before .before .before .before .before .before .before .before .before .before .before .before .if2 .left) in
-    let full : length u ≡ tableWords = omega (arith, c .before .before .before .before .before .before .before .before .before .before .before .before .before .before .before .before .before .before .before .before .before .read-group .kept .1 .1 .1 .1 .1 .0, c .before .before .before .before .before .before .before .before .before .before .before .before .before .before .before .before .before .before .before .before .before .before .before .before .before .before .pre) in
+    let full : length u ≡ tableWords = omega (arith, p .read-group .kept .1 .1 .1 .1 .1 .0, c .before .before .before .before .before .before .before .before .before .before .before .before .before .before .before .before .before .before .before .before .before .before .before .before .before .before .pre) in
     let same : c .before .before .put-first-bytes .last .0 ≡ finished u (g .entry .first) (g .entry .later) =
     c .before .before .put-first-bytes .ensures ∙ ap sealed (c .before .before .before .before .before .before .put-row2 .ensures ∙ ap (λ (x : List ℕ). withRow x 1 (g .entry .later)) (c .before .before .before .before .before .before .before .before .before .before .put-row .ensures)) in
     subst (λ (x : List ℕ). Compiles d l x true) (sym same)
-    (compiles-some (q .read o .0) (group-whole d l (c .before .before .before .before .before .before .before .before .before .before .before .before .before .before .before .before .before .before .before .before .before .before .before .before .before .before .args .t .now) u g (c .before .before .before .before .before .before .before .before .before .before .before .before .before .before .before .before .before .before .before .before .before .before .before .if1 .left) q o (c .before .before .before .before .before .before .before .before .before .before .before .before .before .before .before .if3 .left)) (group-serves d l (c .before .before .before .before .before .before .before .before .before .before .before .before .before .before .before .before .before .before .before .before .before .before .before .before .before .before .args .t .now) u g (c .before .before .before .before .before .before .before .before .before .before .before .before .before .before .before .before .before .before .before .before .before .before .before .if1 .left) q o full))
+    (compiles-some (q .read o .0) (group-whole d l (a .t .now) u g (b .if1 .left) q o (c .before .before .before .before .before .before .before .before .before .before .before .before .before .before .before .if3 .left)) (group-serves d l (a .t .now) u g (b .if1 .left) q o full))
 
 pub compile-spec : {M : Type 1} → statement M
 compile-spec =

@@ -49,8 +49,9 @@ single-requires c κs = search needs
 
 returns-4 : tie.Need-returns-4
 returns-4 c =
-    let b = getD (c .before .before .before .before .before .before .before .before .args .ere .now) (c .before .before .before .before .before .before .before .before .args .at) 0 in
-    reads-got (c .before .before .before .before .before .before .before .before .args .at) _ _ (only b) (atom-plain _ _ (c .before .before .before .before .before .if1 .left) (c .before .before .before .before .if2 .left) (c .before .before .before .if3 .left) (sym (c .before .before .is-plain .ensures) ∙ c .before .if4 .taken)) (omega arith) (omega arith)
+    let a = c .before .before .before .before .before .before .before .before .args in
+    let b = getD (a .ere .now) (a .at) 0 in
+    reads-got (a .at) _ _ (only b) (atom-plain _ _ (c .before .before .before .before .before .if1 .left) (c .before .before .before .before .if2 .left) (c .before .before .before .if3 .left) (sym (c .before .before .is-plain .ensures) ∙ c .before .if4 .taken)) (omega arith) (omega arith)
     (λ x h. ap (λ (w : List ℕ). inClass w x) (c .single .ensures) ∙ in-only b x h)
 
 empty-requires : tie.Need-empty-requires

@@ -30,9 +30,10 @@ empty-requires c κs = search needs
 returns : tie.Need-returns
 unfolding onlyByte
 returns c =
+    let b = c .before .before .before .before in
     let g = c .before .before .b .given in
-    let f = byte-further (c .before .before .before .before .read-escape .ensures) (g .1) in
-    reads-got (c .before .before .before .before .before .before .args .at) _ _ (only (g .0 .0)) (ap onlyByte (sym (byte-read (c .before .before .before .before .read-escape .ensures) (g .1)))) (f .0) (f .1)
+    let f = byte-further (b .read-escape .ensures) (g .1) in
+    reads-got (c .before .before .before .before .before .before .args .at) _ _ (only (g .0 .0)) (ap onlyByte (sym (byte-read (b .read-escape .ensures) (g .1)))) (f .0) (f .1)
     (λ x h. ap (λ (w : List ℕ). inClass w x) (c .single .ensures) ∙ in-only (g .0 .0) x h)
 
 returns-2 : tie.Need-returns-2

@@ -60,8 +60,9 @@ item-ended-requires t c κs = search needs
 
 item-returns : (t : ℕ) → item-lts.Need-returns (item-calls t) (item-at t) item.Post
 item-returns t c =
-    let s = c .before .before .before .before .args .s in
-    moved (sym (c .ended .ensures)) refl (moves-ended (c .before .before .before .before .args .levels) s (c .before .before .before .before .pre .1 .2) (closed-end (c .before .before .before .before .args .ere .now) (s .at) (c .before .if1 .taken)))
+    let a = c .before .before .before .before .args in
+    let s = a .s in
+    moved (sym (c .ended .ensures)) refl (moves-ended (a .levels) s (c .before .before .before .before .pre .1 .2) (closed-end (a .ere .now) (s .at) (c .before .if1 .taken)))
 
 item-shared-slice-read-b : (t : ℕ) → item-lts.Need-shared-slice-read-b (item-calls t) (item-at t) item.Post
 item-shared-slice-read-b t c = search needs
@@ -71,42 +72,55 @@ item-ended-requires-2 t c κs = search needs
 
 item-returns-2 : (t : ℕ) → item-lts.Need-returns-2 (item-calls t) (item-at t) item.Post
 item-returns-2 t c =
-    let s = c .before .before .before .before .before .before .args .s in
-    moved (sym (c .ended2 .ensures)) refl (moves-ended (c .before .before .before .before .before .before .args .levels) s (c .before .before .before .before .before .before .pre .1 .2) (closed-paren (c .before .before .before .before .before .before .args .ere .now) (s .at) (c .before .before .before .if1 .left) (c .before .if2 .taken)))
+    let a = c .before .before .before .before .before .before .args in
+    let s = a .s in
+    moved (sym (c .ended2 .ensures)) refl (moves-ended (a .levels) s (c .before .before .before .before .before .before .pre .1 .2) (closed-paren (a .ere .now) (s .at) (c .before .before .before .if1 .left) (c .before .if2 .taken)))
 
 item-choice-requires : (t : ℕ) → item-lts.Need-choice-requires (item-calls t) (item-at t) item.Post
-item-choice-requires t c κs = omega (arith, c .before .before .before .before .before .before .pre .1 .1, c .before .before .before .before .before .before .pre .1 .2 .inside)
+item-choice-requires t c κs =
+    let b = c .before .before .before .before .before .before in
+    omega (arith, b .pre .1 .1, b .pre .1 .2 .inside)
 
 item-returns-3 : (t : ℕ) → item-lts.Need-returns-3 (item-calls t) (item-at t) item.Post
 item-returns-3 t c =
-    let s = c .before .before .before .before .before .before .before .args .s in
-    moved (sym (c .choice .ensures)) refl (moves-choice s (c .before .before .before .before .before .before .before .pre .1 .2) (c .before .before .before .before .if1 .left) (c .before .before .before .before .before .before .before .args .levels) (c .before .if3 .taken))
+    let a = c .before .before .before .before .before .before .before .args in
+    let s = a .s in
+    moved (sym (c .choice .ensures)) refl (moves-choice s (c .before .before .before .before .before .before .before .pre .1 .2) (c .before .before .before .before .if1 .left) (a .levels) (c .before .if3 .taken))
 
 item-anchor-requires : (t : ℕ) → item-lts.Need-anchor-requires (item-calls t) (item-at t) item.Post
-item-anchor-requires t c κs = (c .before .before .before .before .before .before .before .before .pre .1 .0, c .before .before .before .before .before .before .before .before .pre .1 .2 .order, omega (arith, c .before .before .before .before .before .before .before .before .pre .1 .2 .fewer, c .before .before .before .before .before .before .before .before .pre .1 .2 .few), omega (arith, c .before .before .before .before .before .before .before .before .pre .1 .2 .inside, c .before .before .before .before .before .before .before .before .pre .1 .1))
+item-anchor-requires t c κs =
+    let b = c .before .before .before .before .before .before .before .before in
+    (b .pre .1 .0, b .pre .1 .2 .order, omega (arith, b .pre .1 .2 .fewer, b .pre .1 .2 .few), omega (arith, b .pre .1 .2 .inside, b .pre .1 .1))
 
 item-same-length : (t : ℕ) → item-lts.Need-same-length (item-calls t) (item-at t) item.Post
 item-same-length t c = search needs
 
 item-returns-4 : (t : ℕ) → item-lts.Need-returns-4 (item-calls t) (item-at t) item.Post
 item-returns-4 t c =
-    let s = c .before .before .before .before .before .before .before .before .before .before .before .args .s in
-    moved (sym (c .before .before .anchor .ensures .0)) (sym (c .before .before .anchor .ensures .1)) (moves-bol (c .before .before .before .before .before .before .before .before .before .before .before .args .levels) s (c .before .before .before .before .before .before .before .before .before .before .before .pre .1 .2) (c .before .before .before .before .before .before .before .before .before .before .before .pre .1 .0) (c .before .before .before .before .before .before .before .before .if1 .left) (c .before .before .before .before .if4 .taken))
+    let a = c .before .before .before .before .before .before .before .before .before .before .before .args in
+    let b = c .before .before .before .before .before .before .before .before .before .before .before in
+    let s = a .s in
+    moved (sym (c .before .before .anchor .ensures .0)) (sym (c .before .before .anchor .ensures .1)) (moves-bol (a .levels) s (b .pre .1 .2) (b .pre .1 .0) (c .before .before .before .before .before .before .before .before .if1 .left) (c .before .before .before .before .if4 .taken))
 
 item-anchor-requires-2 : (t : ℕ) → item-lts.Need-anchor-requires-2 (item-calls t) (item-at t) item.Post
-item-anchor-requires-2 t c κs = (c .before .before .before .before .before .before .before .before .before .pre .1 .0, c .before .before .before .before .before .before .before .before .before .pre .1 .2 .order, omega (arith, c .before .before .before .before .before .before .before .before .before .pre .1 .2 .fewer, c .before .before .before .before .before .before .before .before .before .pre .1 .2 .few), omega (arith, c .before .before .before .before .before .before .before .before .before .pre .1 .2 .inside, c .before .before .before .before .before .before .before .before .before .pre .1 .1))
+item-anchor-requires-2 t c κs =
+    let b = c .before .before .before .before .before .before .before .before .before in
+    (b .pre .1 .0, b .pre .1 .2 .order, omega (arith, b .pre .1 .2 .fewer, b .pre .1 .2 .few), omega (arith, b .pre .1 .2 .inside, b .pre .1 .1))
 
 item-same-length-2 : (t : ℕ) → item-lts.Need-same-length-2 (item-calls t) (item-at t) item.Post
 item-same-length-2 t c = search needs
 
 item-returns-5 : (t : ℕ) → item-lts.Need-returns-5 (item-calls t) (item-at t) item.Post
 item-returns-5 t c =
-    let s = c .before .before .before .before .before .before .before .before .before .before .before .before .args .s in
-    moved (sym (c .before .before .anchor2 .ensures .0)) (sym (c .before .before .anchor2 .ensures .1)) (moves-eol (c .before .before .before .before .before .before .before .before .before .before .before .before .args .levels) s (c .before .before .before .before .before .before .before .before .before .before .before .before .pre .1 .2) (c .before .before .before .before .before .before .before .before .before .before .before .before .pre .1 .0) (c .before .before .before .before .before .before .before .before .before .if1 .left) (c .before .before .before .before .if5 .taken))
+    let a = c .before .before .before .before .before .before .before .before .before .before .before .before .args in
+    let b = c .before .before .before .before .before .before .before .before .before .before .before .before in
+    let s = a .s in
+    moved (sym (c .before .before .anchor2 .ensures .0)) (sym (c .before .before .anchor2 .ensures .1)) (moves-eol (a .levels) s (b .pre .1 .2) (b .pre .1 .0) (c .before .before .before .before .before .before .before .before .before .if1 .left) (c .before .before .before .before .if5 .taken))
 
 item-atom-requires : (t : ℕ) → item-lts.Need-atom-requires (item-calls t) (item-at t) item.Post
 item-atom-requires t c κs =
-    (c .before .before .before .before .before .before .before .before .before .before .pre .1 .0, c .before .before .before .before .before .before .before .before .before .before .pre .1 .1, c .before .before .before .before .before .before .before .if1 .left, c .before .before .before .before .before .before .before .before .before .before .pre .1 .2, record { no-close = λ e. c .before .before .before .before .before .if2 .left e; no-bar = λ e. c .before .before .before .before .if3 .left e; no-bol = λ e. c .before .before .before .if4 .left e; no-eol = λ e. c .before .before .if5 .left e; no-open = λ e. c .before .if6 .taken e })
+    let b = c .before .before .before .before .before .before .before .before .before .before in
+    (b .pre .1 .0, b .pre .1 .1, c .before .before .before .before .before .before .before .if1 .left, b .pre .1 .2, record { no-close = λ e. c .before .before .before .before .before .if2 .left e; no-bar = λ e. c .before .before .before .before .if3 .left e; no-bol = λ e. c .before .before .before .if4 .left e; no-eol = λ e. c .before .before .if5 .left e; no-open = λ e. c .before .if6 .taken e })
 
 item-same-length-3 : (t : ℕ) → item-lts.Need-same-length-3 (item-calls t) (item-at t) item.Post
 item-same-length-3 t c = search needs
@@ -119,37 +133,45 @@ item-refused-requires t c κs = search needs
 
 item-returns-7 : (t : ℕ) → item-lts.Need-returns-7 (item-calls t) (item-at t) item.Post
 item-returns-7 t c =
-    let s = c .before .before .before .before .before .before .before .before .before .before .before .args .s in
-    subst (λ (n : ℕ). Moves (c .before .before .before .before .before .before .before .before .before .before .before .args .ere .now) n (c .before .before .before .before .before .before .before .before .before .before .before .args .t .now) (c .before .before .before .before .before .before .before .before .before .before .before .args .t .now) s (c .refused .result)) (sym (c .before .if7 .taken))
+    let a = c .before .before .before .before .before .before .before .before .before .before .before .args in
+    let s = a .s in
+    subst (λ (n : ℕ). Moves (a .ere .now) n (a .t .now) (a .t .now) s (c .refused .result)) (sym (c .before .if7 .taken))
     (moved (sym (c .refused .ensures)) refl (moves-deep s (c .before .before .before .before .before .before .before .before .before .before .before .pre .1 .2) (c .before .before .before .before .before .before .before .before .if1 .left) (c .before .before .if6 .left)))
 
 item-sub-read-group : (t : ℕ) → item-lts.Need-sub-read-group (item-calls t) (item-at t) item.Post
 item-sub-read-group t c = search needs
 
 item-add-read-group : (t : ℕ) → item-lts.Need-add-read-group (item-calls t) (item-at t) item.Post
-item-add-read-group t c = omega (arith, c .before .before .before .before .before .before .before .before .before .before .pre .1 .1, c .before .before .before .before .before .before .before .before .before .before .pre .1 .2 .inside)
+item-add-read-group t c =
+    let b = c .before .before .before .before .before .before .before .before .before .before in
+    omega (arith, b .pre .1 .1, b .pre .1 .2 .inside)
 
 item-read-group-requires : (t : ℕ) → item-lts.Need-read-group-requires (item-calls t) (item-at t) item.Post
 item-read-group-requires t c κs =
-    (omega (arith, c .before .before .before .before .before .before .before .before .before .before .before .pre .0, c .before .if7 .left), (c .before .before .before .before .before .before .before .before .before .before .before .pre .1 .0, c .before .before .before .before .before .before .before .before .before .before .before .pre .1 .1, omega (arith, c .before .before .before .before .before .before .before .before .if1 .left), c .before .before .before .before .before .before .before .before .before .before .before .pre .1 .2 .fewer, c .before .before .before .before .before .before .before .before .before .before .before .pre .1 .2 .few))
+    let b = c .before .before .before .before .before .before .before .before .before .before .before in
+    (omega (arith, b .pre .0, c .before .if7 .left), (b .pre .1 .0, b .pre .1 .1, omega (arith, c .before .before .before .before .before .before .before .before .if1 .left), b .pre .1 .2 .fewer, b .pre .1 .2 .few))
 
 item-grouped-requires : (t : ℕ) → item-lts.Need-grouped-requires (item-calls t) (item-at t) item.Post
 item-grouped-requires t c κs =
+    let b = c .before .before .before .before .before .before .before .before .before .before .before .before .before .before .before in
     let q = c .before .before .before .read-group .ensures in
-    (omega (arith, c .before .before .before .read-group .kept .1 .1 .1 .1 .1 .0, c .before .before .before .before .before .before .before .before .before .before .before .before .before .before .before .pre .1 .0), c .before .before .before .before .before .before .before .before .before .before .before .before .before .before .before .pre .1 .2 .order, q .order, omega (arith, q .fewer, q .few), c .before .before .before .before .before .before .before .before .before .before .before .before .before .before .before .pre .1 .1, q .inside)
+    (omega (arith, c .before .before .before .read-group .kept .1 .1 .1 .1 .1 .0, b .pre .1 .0), b .pre .1 .2 .order, q .order, omega (arith, q .fewer, q .few), b .pre .1 .1, q .inside)
 
 item-same-length-4 : (t : ℕ) → item-lts.Need-same-length-4 (item-calls t) (item-at t) item.Post
 item-same-length-4 t c = search needs
 
 item-returns-8 : (t : ℕ) → item-lts.Need-returns-8 (item-calls t) (item-at t) item.Post
 item-returns-8 t c =
-    let s = c .before .before .before .before .before .before .before .before .before .before .before .before .before .before .before .before .before .before .args .s in
-    let u = c .before .before .before .before .before .before .read-group .last .1 .1 .1 .1 .1 .0 in
-    let full : length u ≡ tableWords = omega (arith, c .before .before .before .before .before .before .read-group .kept .1 .1 .1 .1 .1 .0, c .before .before .before .before .before .before .before .before .before .before .before .before .before .before .before .before .before .before .pre .1 .0) in
-    let e : suc (c .before .before .before .before .before .before .before .before .before .before .before .before .before .before .before .before .before .before .args .levels - 1) ≡ c .before .before .before .before .before .before .before .before .before .before .before .before .before .before .before .before .before .before .args .levels = omega (arith, c .before .before .before .before .before .before .before .before .if7 .left) in
-    subst (λ (n : ℕ). Moves (c .before .before .before .before .before .before .before .before .before .before .before .before .before .before .before .before .before .before .args .ere .now) n (c .before .before .before .before .before .before .before .before .before .before .before .before .before .before .before .before .before .before .args .t .now) (c .before .before .grouped .last .1 .1 .1 .0) s (c .before .before .grouped .result)) e
+    let a = c .before .before .before .before .before .before .before .before .before .before .before .before .before .before .before .before .before .before .args in
+    let b = c .before .before .before .before .before .before .before .before .before .before .before .before .before .before .before .before .before .before in
+    let p = c .before .before .before .before .before .before in
+    let s = a .s in
+    let u = p .read-group .last .1 .1 .1 .1 .1 .0 in
+    let full : length u ≡ tableWords = omega (arith, p .read-group .kept .1 .1 .1 .1 .1 .0, b .pre .1 .0) in
+    let e : suc (a .levels - 1) ≡ a .levels = omega (arith, c .before .before .before .before .before .before .before .before .if7 .left) in
+    subst (λ (n : ℕ). Moves (a .ere .now) n (a .t .now) (c .before .before .grouped .last .1 .1 .1 .0) s (c .before .before .grouped .result)) e
     (moved (sym (c .before .before .grouped .ensures .0)) (sym (c .before .before .grouped .ensures .1))
-    (moves-grouped (c .before .before .before .before .before .before .before .before .before .before .before .before .before .before .before .before .before .before .args .levels - 1) s (c .before .before .before .before .before .before .read-group .result) (c .before .before .before .before .before .before .before .before .before .before .before .before .before .before .before .before .before .before .pre .1 .2) full (c .before .before .before .before .before .before .before .before .before .before .before .before .before .before .before .if1 .left) (c .before .before .before .before .before .before .before .before .before .if6 .left) (c .before .before .before .before .before .before .read-group .ensures)))
+    (moves-grouped (a .levels - 1) s (p .read-group .result) (b .pre .1 .2) full (c .before .before .before .before .before .before .before .before .before .before .before .before .before .before .before .if1 .left) (c .before .before .before .before .before .before .before .before .before .if6 .left) (p .read-group .ensures)))
 
 abbrev read-group-Inv-loop : read-group-lts.InvT-loop
 read-group-Inv-loop ere levels at lo count t₀ s₀ t s = (length t ≡ tableWords) × Under ere levels at lo count t₀ t s
@@ -167,14 +189,18 @@ read-group-loop-holds t c =
 
 read-group-item-requires : (t : ℕ) → read-group-lts.Need-item-requires (group-calls t) (read-group-at t) read-group.Post read-group-Inv-loop read-group-μ-loop
 read-group-item-requires t c κs =
-    (omega (arith, c .before .before .before .before .before .before .before .pre .0), (c .before .before .before .loop .inv .0, c .before .before .before .before .before .before .before .pre .1 .1, c .before .before .before .loop .inv .1 .safe))
+    let b = c .before .before .before .before .before .before .before in
+    (omega (arith, b .pre .0), (c .before .before .before .loop .inv .0, b .pre .1 .1, c .before .before .before .loop .inv .1 .safe))
 
 read-group-loop-less : (t : ℕ) → read-group-lts.Need-loop-less (group-calls t) (read-group-at t) read-group.Post read-group-Inv-loop read-group-μ-loop
-read-group-loop-less t c = turn-less (c .before .before .before .before .before .before .loop .s) (c .before .before .item .result) (not-true _ (c .before .before .before .before .if1 .taken)) (c .before .before .before .before .before .before .loop .inv .1) (c .before .before .item .ensures)
+read-group-loop-less t c =
+    let b = c .before .before .before .before .before .before in
+    turn-less (b .loop .s) (c .before .before .item .result) (not-true _ (c .before .before .before .before .if1 .taken)) (b .loop .inv .1) (c .before .before .item .ensures)
 
 read-group-loop-again : (t : ℕ) → read-group-lts.Need-loop-again (group-calls t) (read-group-at t) read-group.Post read-group-Inv-loop read-group-μ-loop
 read-group-loop-again t c =
-    (omega (arith, c .before .before .item .kept .1 .1 .1 .0, c .before .before .before .before .before .before .loop .inv .0), under-turn (c .before .before .before .before .before .before .loop .s) (c .before .before .item .result) (not-true _ (c .before .before .before .before .if1 .taken)) (c .before .before .before .before .before .before .loop .inv .1) (c .before .before .item .ensures))
+    let b = c .before .before .before .before .before .before in
+    (omega (arith, c .before .before .item .kept .1 .1 .1 .0, b .loop .inv .0), under-turn (b .loop .s) (c .before .before .item .result) (not-true _ (c .before .before .before .before .if1 .taken)) (b .loop .inv .1) (c .before .before .item .ensures))
 
 read-group-finish-requires : (t : ℕ) → read-group-lts.Need-finish-requires (group-calls t) (read-group-at t) read-group.Post read-group-Inv-loop read-group-μ-loop
 read-group-finish-requires t c κs = search needs

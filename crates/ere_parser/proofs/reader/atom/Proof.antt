@@ -20,8 +20,10 @@ refused-requires c κs = search needs
 
 returns : tie.Need-returns
 returns c =
-    λ n. subst (λ (r : State). Moves (c .before .before .before .before .args .ere .now) n (c .before .before .before .before .args .t .now) (c .before .before .before .before .args .t .now) (c .before .before .before .before .args .s) r) (sym (c .refused .ensures))
-    (moves-full n (c .before .before .before .before .args .s) (c .before .before .before .before .pre .3) (c .before .before .before .before .pre .2) (c .before .before .before .before .pre .4) (omega (arith, c .before .if1 .taken)))
+    let a = c .before .before .before .before .args in
+    let b = c .before .before .before .before in
+    λ n. subst (λ (r : State). Moves (a .ere .now) n (a .t .now) (a .t .now) (a .s) r) (sym (c .refused .ensures))
+    (moves-full n (a .s) (b .pre .3) (b .pre .2) (b .pre .4) (omega (arith, c .before .if1 .taken)))
 
 read-atom-requires : tie.Need-read-atom-requires
 read-atom-requires c κs = search needs
@@ -31,8 +33,10 @@ refused-requires-2 c κs = search needs
 
 returns-2 : tie.Need-returns-2
 returns-2 c =
-    λ n. subst (λ (r : State). Moves (c .before .before .before .before .before .before .before .args .ere .now) n (c .before .before .before .before .before .before .before .args .t .now) (c .before .before .before .before .before .before .before .args .t .now) (c .before .before .before .before .before .before .before .args .s) r) (sym (c .refused2 .ensures))
-    (moves-bad n (c .before .before .before .before .before .before .before .args .s) (c .before .before .before .before .before .before .before .pre .3) (c .before .before .before .before .before .before .before .pre .2) (c .before .before .before .before .before .before .before .pre .4) (c .before .before .before .read-atom .ensures .refused (not-true _ (c .before .if2 .taken))))
+    let a = c .before .before .before .before .before .before .before .args in
+    let b = c .before .before .before .before .before .before .before in
+    λ n. subst (λ (r : State). Moves (a .ere .now) n (a .t .now) (a .t .now) (a .s) r) (sym (c .refused2 .ensures))
+    (moves-bad n (a .s) (b .pre .3) (b .pre .2) (b .pre .4) (c .before .before .before .read-atom .ensures .refused (not-true _ (c .before .if2 .taken))))
 
 leaf-requires : tie.Need-leaf-requires
 leaf-requires c κs = search needs
@@ -42,39 +46,47 @@ byte-at-requires c κs = search needs
 
 repeated-requires : tie.Need-repeated-requires
 repeated-requires c κs =
+    let b = c .before .before .before .before .before .before .before .before .before .before .before .before .before in
+    let p = c .before .before .before .before in
     let q = c .before .before .before .before .before .before .before .before .before .read-atom .ensures .read (not-false _ (c .before .before .before .before .before .before .before .if2 .left)) in
-    let g = c .before .before .before .before .leaf .ensures .0 in
+    let g = p .leaf .ensures .0 in
     let h = ap (λ (x : Piece). x .hi) g in
     let a = ap (λ (x : Piece). x .at) g in
-    (omega (arith, c .before .before .before .before .leaf .kept .1 .1 .1 .1 .0, c .before .before .before .before .before .before .before .before .before .before .before .before .before .pre .0), omega arith, omega (arith, c .before .before .before .before .before .before .before .before .before .before .before .before .before .pre .3 .fewer, c .before .before .before .before .before .before .before .before .before .before .if1 .left), omega (arith, q .inside, c .before .before .before .before .before .before .before .before .before .before .before .before .before .pre .1))
+    (omega (arith, p .leaf .kept .1 .1 .1 .1 .0, b .pre .0), omega arith, omega (arith, b .pre .3 .fewer, c .before .before .before .before .before .before .before .before .before .before .if1 .left), omega (arith, q .inside, b .pre .1))
 
 pushed-requires : tie.Need-pushed-requires
 pushed-requires c κs =
-    (omega (arith, c .before .before .before .repeated .kept .1 .1 .1 .0, c .before .before .before .before .before .before .before .before .leaf .kept .1 .1 .1 .1 .0, c .before .before .before .before .before .before .before .before .before .before .before .before .before .before .before .before .before .pre .0), c .before .before .before .before .before .before .before .before .before .before .before .before .before .before .before .before .before .pre .3 .order, omega (arith, c .before .before .before .before .before .before .before .before .before .before .before .before .before .before .before .before .before .pre .3 .fewer, c .before .before .before .before .before .before .before .before .before .before .before .before .before .before .before .before .before .pre .3 .few))
+    let b = c .before .before .before .before .before .before .before .before .before .before .before .before .before .before .before .before .before in
+    (omega (arith, c .before .before .before .repeated .kept .1 .1 .1 .0, c .before .before .before .before .before .before .before .before .leaf .kept .1 .1 .1 .1 .0, b .pre .0), b .pre .3 .order, omega (arith, b .pre .3 .fewer, b .pre .3 .few))
 
 same-length : tie.Need-same-length
 same-length c = search needs
 
 returns-3 : tie.Need-returns-3
 returns-3 c =
-    let l = c .before .before .before .before .before .before .before .before .before .before .before .before .before .before .before .before .before .before .before .before .args .ere .now in
-    let s = c .before .before .before .before .before .before .before .before .before .before .before .before .before .before .before .before .before .before .before .before .args .s in
-    let t = c .before .before .before .before .before .before .before .before .before .before .before .before .before .before .before .before .before .before .before .before .args .t .now in
-    let a = c .before .before .before .before .before .before .before .before .before .before .before .before .before .before .before .before .read-atom .result in
-    let q = c .before .before .before .before .before .before .before .before .before .before .before .before .before .before .before .before .read-atom .ensures .read (not-false _ (c .before .before .before .before .before .before .before .before .before .before .before .before .before .before .if2 .left)) in
-    let g = c .before .before .before .before .before .before .before .before .before .before .before .leaf .ensures .0 in
+    let args = c .before .before .before .before .before .before .before .before .before .before .before .before .before .before .before .before .before .before .before .before .args in
+    let w = c .before .before .before .before .before .before .before .before .before .before .before .before .before .before .before .before .before .before .before .before in
+    let y = c .before .before .before .before .before .before .before .before .before .before .before .before .before .before .before .before in
+    let z = c .before .before .before .before .before .before .before .before .before .before .before in
+    let here = c .before .before .before .before .before .before in
+    let l = args .ere .now in
+    let s = args .s in
+    let t = args .t .now in
+    let a = y .read-atom .result in
+    let q = y .read-atom .ensures .read (not-false _ (c .before .before .before .before .before .before .before .before .before .before .before .before .before .before .if2 .left)) in
+    let g = z .leaf .ensures .0 in
     let b = c .before .before .before .before .before .before .before .before .byte-at .ensures in
-    let rep : c .before .before .before .before .before .before .repeated .result ≡ repeatedOf (getD l (a .next) 0) (leafPiece s (a .next)) = c .before .before .before .before .before .before .repeated .ensures .0 ∙ ap₂ repeatedOf b g in
+    let rep : here .repeated .result ≡ repeatedOf (getD l (a .next) 0) (leafPiece s (a .next)) = here .repeated .ensures .0 ∙ ap₂ repeatedOf b g in
     let er : c .before .before .pushed .result ≡ pushedOf s (repeatedOf (getD l (a .next) 0) (leafPiece s (a .next))) = c .before .before .pushed .ensures .0 ∙ ap (pushedOf s) rep in
     let et : c .before .before .pushed .last .1 .1 .0 ≡ atomTable s (a .words) (leafPiece s (a .next)) (getD l (a .next) 0) t =
     c .before .before .pushed .ensures .1
     ∙ ap₂ (pushedTable s) rep
-    (c .before .before .before .before .before .before .repeated .ensures .1
-    ∙ ap₂ (λ (m : ℕ) (p : Piece). repeatedTable m p (s .hi) (c .before .before .before .before .before .before .before .before .before .before .before .leaf .last .1 .1 .1 .1 .0)) b g
-    ∙ ap (repeatedTable (getD l (a .next) 0) (leafPiece s (a .next)) (s .hi)) (c .before .before .before .before .before .before .before .before .before .before .before .leaf .ensures .1)) in
+    (here .repeated .ensures .1
+    ∙ ap₂ (λ (m : ℕ) (p : Piece). repeatedTable m p (s .hi) (z .leaf .last .1 .1 .1 .1 .0)) b g
+    ∙ ap (repeatedTable (getD l (a .next) 0) (leafPiece s (a .next)) (s .hi)) (z .leaf .ensures .1)) in
     λ n. subst (λ (r : State). Moves l n t (c .before .before .pushed .last .1 .1 .0) s r) (sym er)
     (subst (λ (u : List ℕ). Moves l n t u s (pushedOf s (repeatedOf (getD l (a .next) 0) (leafPiece s (a .next))))) (sym et)
-    (moves-atom n s (c .before .before .before .before .before .before .before .before .before .before .before .before .before .before .before .before .before .before .before .before .pre .3) (c .before .before .before .before .before .before .before .before .before .before .before .before .before .before .before .before .before .before .before .before .pre .2) (c .before .before .before .before .before .before .before .before .before .before .before .before .before .before .before .before .before .before .before .before .pre .4) t (c .before .before .before .before .before .before .before .before .before .before .before .before .before .before .before .before .before .before .before .before .pre .0) a q (omega (arith, c .before .before .before .before .before .before .before .before .before .before .before .before .before .before .before .before .before .if1 .left))))
+    (moves-atom n s (w .pre .3) (w .pre .2) (w .pre .4) t (w .pre .0) a q (omega (arith, c .before .before .before .before .before .before .before .before .before .before .before .before .before .before .before .before .before .if1 .left))))
 
 pub atom-spec : {M : Type 1} → statement M
 atom-spec =

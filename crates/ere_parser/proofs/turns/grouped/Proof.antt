@@ -15,7 +15,8 @@ refused-requires c κs = search needs
 
 returns : tie.Need-returns
 returns c =
-    let q = grouped-bad (c .before .before .before .before .before .args .ere .now) (c .before .before .before .before .before .args .s) (c .before .before .before .before .before .args .g) (c .before .before .before .before .before .args .t .now) (not-true _ (c .before .if1 .taken)) in
+    let a = c .before .before .before .before .before .args in
+    let q = grouped-bad (a .ere .now) (a .s) (a .g) (a .t .now) (not-true _ (c .before .if1 .taken)) in
     (c .refused .ensures ∙ q .0, q .1)
 
 byte-at-requires : tie.Need-byte-at-requires
@@ -26,7 +27,8 @@ refused-requires-2 c κs = search needs
 
 returns-2 : tie.Need-returns-2
 returns-2 c =
-    let q = grouped-open (c .before .before .before .before .before .before .before .args .ere .now) (c .before .before .before .before .before .before .before .args .s) (c .before .before .before .before .before .before .before .args .g) (c .before .before .before .before .before .before .before .args .t .now) (λ e. c .before .if2 .taken (c .before .before .byte-at .ensures ∙ e)) in
+    let a = c .before .before .before .before .before .before .before .args in
+    let q = grouped-open (a .ere .now) (a .s) (a .g) (a .t .now) (λ e. c .before .if2 .taken (c .before .before .byte-at .ensures ∙ e)) in
     (c .refused2 .ensures ∙ q .0, q .1)
 
 add-next : tie.Need-add-next
@@ -37,7 +39,8 @@ byte-at-requires-2 c κs = search needs
 
 repeated-requires : tie.Need-repeated-requires
 repeated-requires c κs =
-    let i = inside (c .before .before .before .before .before .before .before .before .before .args .ere .now) (c .before .before .before .before .before .before .before .before .before .args .g .at) 41 (λ z. omega arith) (eq-eqb _ _ (sym (c .before .before .before .before .byte-at .ensures) ∙ c .before .before .before .if2 .left)) in
+    let a = c .before .before .before .before .before .before .before .before .before .args in
+    let i = inside (a .ere .now) (a .g .at) 41 (λ z. omega arith) (eq-eqb _ _ (sym (c .before .before .before .before .byte-at .ensures) ∙ c .before .before .before .if2 .left)) in
     (omega arith, omega arith, omega arith, omega arith)
 
 pushed-requires : tie.Need-pushed-requires
@@ -48,17 +51,19 @@ same-length c = search needs
 
 returns-3 : tie.Need-returns-3
 returns-3 c =
-    let l = c .before .before .before .before .before .before .before .before .before .before .before .before .before .before .before .before .args .ere .now in
-    let s = c .before .before .before .before .before .before .before .before .before .before .before .before .before .before .before .before .args .s in
-    let g = c .before .before .before .before .before .before .before .before .before .before .before .before .before .before .before .before .args .g in
+    let a = c .before .before .before .before .before .before .before .before .before .before .before .before .before .before .before .before .args in
+    let p = c .before .before .before .before .before .before in
+    let l = a .ere .now in
+    let s = a .s in
+    let g = a .g in
     let b = c .before .before .before .before .before .before .before .before .byte-at2 .ensures in
-    let q = grouped-closed l s g (c .before .before .before .before .before .before .before .before .before .before .before .before .before .before .before .before .args .t .now) (not-false _ (c .before .before .before .before .before .before .before .before .before .before .before .before .if1 .left)) (sym (c .before .before .before .before .before .before .before .before .before .before .before .byte-at .ensures) ∙ c .before .before .before .before .before .before .before .before .before .before .if2 .left) in (
+    let q = grouped-closed l s g (a .t .now) (not-false _ (c .before .before .before .before .before .before .before .before .before .before .before .before .if1 .left)) (sym (c .before .before .before .before .before .before .before .before .before .before .before .byte-at .ensures) ∙ c .before .before .before .before .before .before .before .before .before .before .if2 .left) in (
       c .before .before .pushed .ensures .0
-          ∙ ap (pushedOf s) (c .before .before .before .before .before .before .repeated .ensures .0 ∙ ap (λ (m : ℕ). repeatedOf m (closedPiece g)) b)
+          ∙ ap (pushedOf s) (p .repeated .ensures .0 ∙ ap (λ (m : ℕ). repeatedOf m (closedPiece g)) b)
           ∙ q .0,
       c .before .before .pushed .ensures .1
-          ∙ ap₂ (pushedTable s) (c .before .before .before .before .before .before .repeated .ensures .0 ∙ ap (λ (m : ℕ). repeatedOf m (closedPiece g)) b)
-          (c .before .before .before .before .before .before .repeated .ensures .1 ∙ ap (λ (m : ℕ). repeatedTable m (closedPiece g) (s .hi) (c .before .before .before .before .before .before .before .before .before .before .before .before .before .before .before .before .args .t .now)) b)
+          ∙ ap₂ (pushedTable s) (p .repeated .ensures .0 ∙ ap (λ (m : ℕ). repeatedOf m (closedPiece g)) b)
+          (p .repeated .ensures .1 ∙ ap (λ (m : ℕ). repeatedTable m (closedPiece g) (s .hi) (a .t .now)) b)
           ∙ q .1,
     )
 

@@ -30,10 +30,11 @@ same-length : tie.Need-same-length
 same-length c = search needs
 
 returns : tie.Need-returns
-returns c = (
-  ap (λ (r : List ℕ). pieceOf (c .before .before .before .before .before .before .before .before .before .before .args .next) (c .before .before .before .before .before .before .before .before .before .before .args .p + 1) (c .before .before .before .before .before .before .before .before .before .before .args .count + 1) (entry r r)) (c .single .ensures),
-  c .before .before .before .put-row .ensures ∙ ap (λ (t : List ℕ). withRow t (c .before .before .before .before .before .before .before .before .before .before .args .p + 2) accept) (c .before .before .before .before .before .before .before .put-class .ensures),
-)
+returns c =
+    let a = c .before .before .before .before .before .before .before .before .before .before .args in (
+      ap (λ (r : List ℕ). pieceOf (a .next) (a .p + 1) (a .count + 1) (entry r r)) (c .single .ensures),
+      c .before .before .before .put-row .ensures ∙ ap (λ (t : List ℕ). withRow t (a .p + 2) accept) (c .before .before .before .before .before .before .before .put-class .ensures),
+    )
 
 pub leaf-spec : {M : Type 1} → statement M
 leaf-spec =

@@ -24,8 +24,9 @@ same-length c = search needs
 
 returns : tie.Need-returns
 returns c =
-    let s = c .before .before .before .before .before .before .before .before .before .before .args .s in
-    let g = c .before .before .before .before .before .before .before .before .before .before .args .g in
+    let a = c .before .before .before .before .before .before .before .before .before .before .args in
+    let s = a .s in
+    let g = a .g in
     (ap {B = State} (λ (x : Entry). record { over = false; ok = true; some = true; at = g .at; lo = s .lo; hi = g .hi; count = g .count; alts = s .alts; seq = x }) (c .before .linked .ensures), c .before .before .before .before .link-rows .ensures)
 
 pub pushed-spec : {M : Type 1} → statement M

@@ -30,10 +30,12 @@ same-length c = search needs
 
 returns : tie.Need-returns
 returns c =
-    let g = c .before .before .before .before .before .before .before .before .before .before .args .g in
+    let a = c .before .before .before .before .before .before .before .before .before .before .args in
+    let b = c .before .before .before .before .before .before in
+    let g = a .g in
     rw (eq-eqb _ _ (c .before .before .before .before .before .before .before .if1 .taken)) (
-      ap (pieceOf (g .at + 1) (g .hi) (g .count)) (c .before .before .before .before .before .before .or-stop .ensures),
-      c .before .before .before .link-rows .ensures ∙ ap (λ (x : Entry). linkRows (c .before .before .before .before .before .before .before .before .before .before .args .t .now) (c .before .before .before .before .before .before .before .before .before .before .args .lo + 2) (g .hi - c .before .before .before .before .before .before .before .before .before .before .args .lo) (x .later)) (c .before .before .before .before .before .before .or-stop .ensures),
+      ap (pieceOf (g .at + 1) (g .hi) (g .count)) (b .or-stop .ensures),
+      c .before .before .before .link-rows .ensures ∙ ap (λ (x : Entry). linkRows (a .t .now) (a .lo + 2) (g .hi - a .lo) (x .later)) (b .or-stop .ensures),
     )
 
 or-stop-requires-2 : tie.Need-or-stop-requires-2
@@ -56,9 +58,10 @@ same-length-2 c = search needs
 
 returns-2 : tie.Need-returns-2
 returns-2 c =
-    let g = c .before .before .before .before .before .before .before .before .before .before .before .args .g in
+    let a = c .before .before .before .before .before .before .before .before .before .before .before .args in
+    let g = a .g in
     rw (ne-eqb _ _ (c .before .before .before .before .before .before .before .before .if1 .left), eq-eqb _ _ (c .before .before .before .before .before .before .before .if2 .taken))
-    (refl, c .before .before .before .link-rows2 .ensures ∙ ap (λ (x : Entry). linkRows (c .before .before .before .before .before .before .before .before .before .before .before .args .t .now) (c .before .before .before .before .before .before .before .before .before .before .before .args .lo + 2) (g .hi - c .before .before .before .before .before .before .before .before .before .before .before .args .lo) (x .later)) (c .before .before .before .before .before .before .or-stop2 .ensures))
+    (refl, c .before .before .before .link-rows2 .ensures ∙ ap (λ (x : Entry). linkRows (a .t .now) (a .lo + 2) (g .hi - a .lo) (x .later)) (c .before .before .before .before .before .before .or-stop2 .ensures))
 
 or-stop-requires-3 : tie.Need-or-stop-requires-3
 or-stop-requires-3 c κs = search needs

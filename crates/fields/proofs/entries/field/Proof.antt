@@ -26,10 +26,11 @@ part-result-end c =
     omega (arith, handed-within (c .before .before .before .args .«record» .now) (c .before .before .before .args .«record» .ptr) (c .locate .result .start) (c .locate .result .size) _ (c .locate .ensures .1) (length (c .before .before .before .args .«record» .now)) w)
 
 returns : tie.Need-returns
-returns c = (
-  handed-text (c .before .before .before .before .args .«record» .now) (c .before .before .before .before .args .«record» .ptr) (c .before .locate .result .start) (c .before .locate .result .size) _ (c .before .locate .ensures .1),
-  handed-place (c .before .before .before .before .args .«record» .now) (c .before .before .before .before .args .«record» .ptr) (c .before .locate .result .start) (c .before .locate .result .size) _ (c .before .locate .ensures .1),
-)
+returns c =
+    let a = c .before .before .before .before .args in (
+      handed-text (a .«record» .now) (a .«record» .ptr) (c .before .locate .result .start) (c .before .locate .result .size) _ (c .before .locate .ensures .1),
+      handed-place (a .«record» .now) (a .«record» .ptr) (c .before .locate .result .start) (c .before .locate .result .size) _ (c .before .locate .ensures .1),
+    )
 
 pub field-spec : {M : Type 1} → statement M
 field-spec =

@@ -19,8 +19,9 @@ same-length c = search needs
 
 returns : tie.Need-returns
 returns c =
-    filled-none (c .before .before .before .before .before .before .before .before .before .before .args .«record» .now) (separatorOf (c .before .before .before .before .before .before .before .before .before .before .args .edition .number) (c .before .before .before .before .before .before .before .before .before .before .args .separator .now)) (c .before .before .before .before .before .before .before .before .before .before .args .spans .now) (c .before .before .before .before .before .before .before .before .before .before .args .first)
-    (subst (Tells (c .before .before .before .before .before .before .before .before .before .before .args .edition .number) (c .before .before .before .before .before .before .before .before .before .before .args .separator .now) _) (c .enum-told .given .1) (c .before .before .before .before .kind-of .ensures .0))
+    let a = c .before .before .before .before .before .before .before .before .before .before .args in
+    filled-none (a .«record» .now) (separatorOf (a .edition .number) (a .separator .now)) (a .spans .now) (a .first)
+    (subst (Tells (a .edition .number) (a .separator .now) _) (c .enum-told .given .1) (c .before .before .before .before .kind-of .ensures .0))
 
 split-into-requires : tie.Need-split-into-requires
 split-into-requires c κs = search needs
@@ -33,8 +34,10 @@ same-length-3 c = search needs
 
 returns-2 : tie.Need-returns-2
 returns-2 c =
-    let k = told (c .before .before .before .before .before .before .before .before .before .before .before .before .before .before .before .args .edition .number) (c .before .before .before .before .before .before .before .before .before .before .before .before .before .before .before .args .separator .now) _ (c .before .before .before .before .before .before .before .before .before .kind-of .result) (not-refused (c .before .before .before .before .before .before .before .before .before .kind-of .result) (c .before .before .before .before .before .before .match .keys2)) (c .before .before .before .before .before .before .before .before .before .kind-of .ensures .0) in
-    filled-many (c .before .before .before .before .before .before .before .before .before .before .before .before .before .before .before .args .«record» .now) (separatorOf (c .before .before .before .before .before .before .before .before .before .before .before .before .before .before .before .args .edition .number) (c .before .before .before .before .before .before .before .before .before .before .before .before .before .before .before .args .separator .now)) (c .before .before .before .before .before .before .before .before .before .before .before .before .before .before .before .args .spans .now) (c .before .before .before .before .before .before .before .before .before .before .before .before .before .before .before .args .first) (k .0) (c .before .before .before .split-into .result) _ (k .1) (c .before .before .before .split-into .ensures (k .0) (k .2)) (c .if1 .taken)
+    let a = c .before .before .before .before .before .before .before .before .before .before .before .before .before .before .before .args in
+    let b = c .before .before .before .before .before .before .before .before .before in
+    let k = told (a .edition .number) (a .separator .now) _ (b .kind-of .result) (not-refused (b .kind-of .result) (c .before .before .before .before .before .before .match .keys2)) (b .kind-of .ensures .0) in
+    filled-many (a .«record» .now) (separatorOf (a .edition .number) (a .separator .now)) (a .spans .now) (a .first) (k .0) (c .before .before .before .split-into .result) _ (k .1) (c .before .before .before .split-into .ensures (k .0) (k .2)) (c .if1 .taken)
 
 same-length-4 : tie.Need-same-length-4
 same-length-4 c = search needs
@@ -44,8 +47,10 @@ same-length-5 c = search needs
 
 returns-3 : tie.Need-returns-3
 returns-3 c =
-    let k = told (c .before .before .before .before .before .before .before .before .before .before .before .before .before .before .before .args .edition .number) (c .before .before .before .before .before .before .before .before .before .before .before .before .before .before .before .args .separator .now) _ (c .before .before .before .before .before .before .before .before .before .kind-of .result) (not-refused (c .before .before .before .before .before .before .before .before .before .kind-of .result) (c .before .before .before .before .before .before .match .keys2)) (c .before .before .before .before .before .before .before .before .before .kind-of .ensures .0) in
-    filled-some (c .before .before .before .before .before .before .before .before .before .before .before .before .before .before .before .args .«record» .now) (separatorOf (c .before .before .before .before .before .before .before .before .before .before .before .before .before .before .before .args .edition .number) (c .before .before .before .before .before .before .before .before .before .before .before .before .before .before .before .args .separator .now)) (c .before .before .before .before .before .before .before .before .before .before .before .before .before .before .before .args .spans .now) (c .before .before .before .before .before .before .before .before .before .before .before .before .before .before .before .args .first) (k .0) (c .before .before .before .split-into .result) _ (k .1) (c .before .before .before .split-into .ensures (k .0) (k .2)) (c .if1 .left)
+    let a = c .before .before .before .before .before .before .before .before .before .before .before .before .before .before .before .args in
+    let b = c .before .before .before .before .before .before .before .before .before in
+    let k = told (a .edition .number) (a .separator .now) _ (b .kind-of .result) (not-refused (b .kind-of .result) (c .before .before .before .before .before .before .match .keys2)) (b .kind-of .ensures .0) in
+    filled-some (a .«record» .now) (separatorOf (a .edition .number) (a .separator .now)) (a .spans .now) (a .first) (k .0) (c .before .before .before .split-into .result) _ (k .1) (c .before .before .before .split-into .ensures (k .0) (k .2)) (c .if1 .left)
 
 pub split-with-spec : {M : Type 1} → statement M
 split-with-spec =

@@ -44,10 +44,14 @@ same-length : tie.Need-same-length
 same-length c = search needs
 
 returns-4 : tie.Need-returns-4
-returns-4 c = rw (lt-ltb (c .before .before .before .before .args .k) fieldCount (c .before .before .if2 .left), le-leb (c .before .before .before .before .args .first) (c .before .before .before .before .args .k) (c .before .if3 .left), lt-ltb (2 * (c .before .before .before .before .args .k - c .before .before .before .before .args .first) + 1) (length (c .before .before .before .before .args .spans .now)) (c .if4 .taken))
+returns-4 c =
+    let a = c .before .before .before .before .args in
+    rw (lt-ltb (a .k) fieldCount (c .before .before .if2 .left), le-leb (a .first) (a .k) (c .before .if3 .left), lt-ltb (2 * (a .k - a .first) + 1) (length (a .spans .now)) (c .if4 .taken))
 
 returns-5 : tie.Need-returns-5
-returns-5 c = rw (lt-ltb (c .before .before .before .before .args .k) fieldCount (c .before .before .if2 .left), le-leb (c .before .before .before .before .args .first) (c .before .before .before .before .args .k) (c .before .if3 .left), le-ltb (2 * (c .before .before .before .before .args .k - c .before .before .before .before .args .first) + 1) (length (c .before .before .before .before .args .spans .now)) (c .if4 .left))
+returns-5 c =
+    let a = c .before .before .before .before .args in
+    rw (lt-ltb (a .k) fieldCount (c .before .before .if2 .left), le-leb (a .first) (a .k) (c .before .if3 .left), le-ltb (2 * (a .k - a .first) + 1) (length (a .spans .now)) (c .if4 .left))
 
 pub put-span-spec : {M : Type 1} → statement M
 put-span-spec =

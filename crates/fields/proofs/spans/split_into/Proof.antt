@@ -23,10 +23,14 @@ abbrev μ-loop : tie.MeasureT-loop
 μ-loop text kind edition t first spans₀ at₀ n₀ spans at n = suc fieldCount - n
 
 returns : tie.Need-returns Inv-loop μ-loop
-returns c = λ s m. spread-empty (c .before .before .before .before .args .text .now) s (c .before .before .before .before .args .spans .now) (c .before .before .before .before .args .first) (c .if1 .taken)
+returns c =
+    let a = c .before .before .before .before .args in
+    λ s m. spread-empty (a .text .now) s (a .spans .now) (a .first) (c .if1 .taken)
 
 loop-holds : tie.Need-loop-holds Inv-loop μ-loop
-loop-holds c = (refl, omega arith, λ s m. held-start (c .before .before .before .before .args .text .now) s (c .before .before .before .before .args .spans .now) (c .before .before .before .before .args .first) (omega (arith, c .if1 .left)))
+loop-holds c =
+    let a = c .before .before .before .before .args in
+    (refl, omega arith, λ s m. held-start (a .text .now) s (a .spans .now) (a .first) (omega (arith, c .if1 .left)))
 
 next-field-requires : tie.Need-next-field-requires Inv-loop μ-loop
 next-field-requires c κs = c .before .before .before .before .before .before .pre
@@ -36,11 +40,13 @@ same-length c = c .before .before .before .before .loop .inv .0
 
 returns-2 : tie.Need-returns-2 Inv-loop μ-loop
 returns-2 c =
+    let a = c .before .before .before .before .before .before .before .before .before .args in
+    let b = c .before .before .before .before in
     λ s m.
-    spread-end (c .before .before .before .before .before .before .before .before .before .args .text .now) s (c .before .before .before .before .before .before .before .before .before .args .spans .now) (c .before .before .before .before .before .before .before .before .before .args .first) (c .before .before .before .before .loop .at) (c .before .before .before .before .loop .n) (c .before .before .before .before .loop .spans)
+    spread-end (a .text .now) s (a .spans .now) (a .first) (b .loop .at) (b .loop .n) (b .loop .spans)
     (sym (c .before .before .next-field .ensures .1 s m) ∙ step-none (c .before .before .next-field .result) (not-true _ (c .if2 .taken)))
     (omega (arith, c .before .before .before .loop-test .taken))
-    (c .before .before .before .before .loop .inv .2 s m)
+    (b .loop .inv .2 s m)
 
 put-span-requires : tie.Need-put-span-requires Inv-loop μ-loop
 put-span-requires c κs = omega (arith, c .before .before .before .before .loop-test .taken)
@@ -52,21 +58,26 @@ loop-less : tie.Need-loop-less Inv-loop μ-loop
 loop-less c = omega (arith, c .before .before .before .before .before .before .before .loop-test .taken)
 
 loop-again : tie.Need-loop-again Inv-loop μ-loop
-loop-again c = (
-  search needs,
-  omega (arith, c .before .before .before .before .before .before .before .loop-test .taken),
-  λ s m.
-      subst (λ (r : List ℕ). Held (c .before .before .before .before .before .before .before .before .before .before .before .before .before .args .text .now) s (c .before .before .before .before .before .before .before .before .before .before .before .before .before .args .spans .now) (c .before .before .before .before .before .before .before .before .before .before .before .before .before .args .first) (c .before .before .before .before .before .before .next-field .result .after) (c .before .before .before .before .before .before .before .before .loop .n + 1) r) (sym (c .before .before .put-span .ensures))
-      (held-more (c .before .before .before .before .before .before .before .before .before .before .before .before .before .args .text .now) s (c .before .before .before .before .before .before .before .before .before .before .before .before .before .args .spans .now) (c .before .before .before .before .before .before .before .before .before .before .before .before .before .args .first) (c .before .before .before .before .before .before .before .before .loop .at) (c .before .before .before .before .before .before .before .before .loop .n) (c .before .before .before .before .before .before .before .before .loop .spans) (span (c .before .before .before .before .before .before .next-field .result .start) (c .before .before .before .before .before .before .next-field .result .size)) (c .before .before .before .before .before .before .next-field .result .after)
-      (sym (c .before .before .before .before .before .before .next-field .ensures .1 s m) ∙ step-found (c .before .before .before .before .before .before .next-field .result) (not-false _ (c .before .before .before .before .if2 .left)))
-      (c .before .before .before .before .before .before .before .before .loop .inv .2 s m)),
-)
+loop-again c =
+    let a = c .before .before .before .before .before .before .before .before .before .before .before .before .before .args in
+    let b = c .before .before .before .before .before .before .before .before in
+    let p = c .before .before .before .before .before .before in (
+      search needs,
+      omega (arith, c .before .before .before .before .before .before .before .loop-test .taken),
+      λ s m.
+          subst (λ (r : List ℕ). Held (a .text .now) s (a .spans .now) (a .first) (p .next-field .result .after) (b .loop .n + 1) r) (sym (c .before .before .put-span .ensures))
+          (held-more (a .text .now) s (a .spans .now) (a .first) (b .loop .at) (b .loop .n) (b .loop .spans) (span (p .next-field .result .start) (p .next-field .result .size)) (p .next-field .result .after)
+          (sym (p .next-field .ensures .1 s m) ∙ step-found (p .next-field .result) (not-false _ (c .before .before .before .before .if2 .left)))
+          (b .loop .inv .2 s m)),
+    )
 
 same-length-2 : tie.Need-same-length-2 Inv-loop μ-loop
 same-length-2 c = c .before .loop .inv .0
 
 returns-3 : tie.Need-returns-3 Inv-loop μ-loop
-returns-3 c = λ s m. spread-many (c .before .before .before .before .before .before .args .text .now) s (c .before .before .before .before .before .before .args .spans .now) (c .before .before .before .before .before .before .args .first) (c .before .loop .at) (c .before .loop .n) (c .before .loop .spans) (omega (arith, c .before .loop .inv .1, c .loop-test .left)) (c .before .loop .inv .2 s m)
+returns-3 c =
+    let a = c .before .before .before .before .before .before .args in
+    λ s m. spread-many (a .text .now) s (a .spans .now) (a .first) (c .before .loop .at) (c .before .loop .n) (c .before .loop .spans) (omega (arith, c .before .loop .inv .1, c .loop-test .left)) (c .before .loop .inv .2 s m)
 
 pub split-into-spec : {M : Type 1} → statement M
 split-into-spec =

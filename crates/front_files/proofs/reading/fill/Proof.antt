@@ -30,7 +30,9 @@ enum-known-n : tie.Need-enum-known-n Inv-loop μ-loop
 enum-known-n c = search needs
 
 add-at : tie.Need-add-at Inv-loop μ-loop
-add-at c = omega (arith, read-more (c .before .before .before .before .before .before .before .before .before .loop .at) (length (c .before .before .before .before .before .before .before .before .before .loop .room)) _ _ (c .before .before .before .before .before .read-once .ensures .0) (c .before .n .given .1))
+add-at c =
+    let b = c .before .before .before .before .before .before .before .before .before in
+    omega (arith, read-more (b .loop .at) (length (b .loop .room)) _ _ (c .before .before .before .before .before .read-once .ensures .0) (c .before .n .given .1))
 
 enum-told : tie.Need-enum-told Inv-loop μ-loop
 enum-told c = search needs
@@ -39,7 +41,9 @@ same-length-2 : tie.Need-same-length-2 Inv-loop μ-loop
 same-length-2 c = search needs
 
 returns-2 : tie.Need-returns-2 Inv-loop μ-loop
-returns-2 c = ((omega arith, omega arith), front-stays (c .before .before .before .before .before .before .before .before .before .before .args .from) (c .before .before .before .before .before .before .before .before .loop .at) _ _ _ (c .before .before .before .before .before .before .before .before .loop .inv .2) (c .before .before .before .before .read-once .ensures .1) (c .before .before .before .before .before .before .before .before .loop .inv .3))
+returns-2 c =
+    let b = c .before .before .before .before .before .before .before .before in
+    ((omega arith, omega arith), front-stays (c .before .before .before .before .before .before .before .before .before .before .args .from) (b .loop .at) _ _ _ (b .loop .inv .2) (c .before .before .before .before .read-once .ensures .1) (b .loop .inv .3))
 
 enum-told-2 : tie.Need-enum-told-2 Inv-loop μ-loop
 enum-told-2 c = search needs
@@ -48,7 +52,9 @@ same-length-3 : tie.Need-same-length-3 Inv-loop μ-loop
 same-length-3 c = search needs
 
 returns-3 : tie.Need-returns-3 Inv-loop μ-loop
-returns-3 c = (tt, front-stays (c .before .before .before .before .before .before .before .before .before .before .args .from) (c .before .before .before .before .before .before .before .before .loop .at) _ _ _ (c .before .before .before .before .before .before .before .before .loop .inv .2) (c .before .before .before .before .read-once .ensures .1) (c .before .before .before .before .before .before .before .before .loop .inv .3))
+returns-3 c =
+    let b = c .before .before .before .before .before .before .before .before in
+    (tt, front-stays (c .before .before .before .before .before .before .before .before .before .before .args .from) (b .loop .at) _ _ _ (b .loop .inv .2) (c .before .before .before .before .read-once .ensures .1) (b .loop .inv .3))
 
 sub-turns : tie.Need-sub-turns Inv-loop μ-loop
 sub-turns c = omega arith
@@ -57,7 +63,9 @@ loop-less : tie.Need-loop-less Inv-loop μ-loop
 loop-less c = omega arith
 
 loop-again : tie.Need-loop-again Inv-loop μ-loop
-loop-again c = (omega arith, omega arith, omega arith, front-stays (c .before .before .before .before .before .before .before .before .before .before .before .args .from) (c .before .before .before .before .before .before .before .before .before .loop .at) _ _ _ (c .before .before .before .before .before .before .before .before .before .loop .inv .2) (c .before .before .before .before .before .read-once .ensures .1) (c .before .before .before .before .before .before .before .before .before .loop .inv .3))
+loop-again c =
+    let b = c .before .before .before .before .before .before .before .before .before in
+    (omega arith, omega arith, omega arith, front-stays (c .before .before .before .before .before .before .before .before .before .before .before .args .from) (b .loop .at) _ _ _ (b .loop .inv .2) (c .before .before .before .before .before .read-once .ensures .1) (b .loop .inv .3))
 
 same-length-4 : tie.Need-same-length-4 Inv-loop μ-loop
 same-length-4 c = search needs

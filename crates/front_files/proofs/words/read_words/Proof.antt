@@ -40,7 +40,8 @@ loop-less c = omega arith
 
 loop-again : tie.Need-loop-again Inv-loop μ-loop
 loop-again c =
-    let f = filled-to (c .before .before .before .before .before .before .before .before .loop .at) (length (c .before .before .before .before .before .before .before .before .loop .room)) _ _ (c .before .before .before .before .before .read-word .ensures) (c .before .f .given .1) in
+    let b = c .before .before .before .before .before .before .before .before in
+    let f = filled-to (b .loop .at) (length (b .loop .room)) _ _ (c .before .before .before .before .before .read-word .ensures) (c .before .f .given .1) in
     (search needs, omega (arith, f), omega arith)
 
 same-length-2 : tie.Need-same-length-2 Inv-loop μ-loop

@@ -43,20 +43,24 @@ part-put-shown-end-2 c = search needs
 
 put-shown-requires-2 : tie.Need-put-shown-requires-2
 put-shown-requires-2 c κs =
-    let t = c .before .before .before .before .before .before .before .before .before .before .before .before .before .before .before .args .text .now in
-    let p = c .before .before .before .before .before .before .before .before .before .before .before .before .before .before .before .args .place in
-    let w = c .before .before .before .before .before .before .before .before .before .before .before .before .shown-around .result in
-    omega (arith, c .before .before .before .before .before .before .before .before .before .before .before .before .before .before .before .pre, c .before .before .before .before .before .before .before .before .before .before .before .before .shown-around .ensures, c .before .before .before .before .before .before .before .before .before .put-text .ensures, c .before .before .before .before .put-shown .ensures, span-few t (p - w .from) (w .from), span-few t (w .to - p) p)
+    let a = c .before .before .before .before .before .before .before .before .before .before .before .before .before .before .before .args in
+    let b = c .before .before .before .before .before .before .before .before .before .before .before .before in
+    let t = a .text .now in
+    let p = a .place in
+    let w = b .shown-around .result in
+    omega (arith, c .before .before .before .before .before .before .before .before .before .before .before .before .before .before .before .pre, b .shown-around .ensures, c .before .before .before .before .before .before .before .before .before .put-text .ensures, c .before .before .before .before .put-shown .ensures, span-few t (p - w .from) (w .from), span-few t (w .to - p) p)
 
 slice-aggregate-put-text-2 : tie.Need-slice-aggregate-put-text-2
 slice-aggregate-put-text-2 c = search needs
 
 put-text-requires-2 : tie.Need-put-text-requires-2
 put-text-requires-2 c κs =
-    let t = c .before .before .before .before .before .before .before .before .before .before .before .before .before .before .before .before .before .before .before .before .args .text .now in
-    let p = c .before .before .before .before .before .before .before .before .before .before .before .before .before .before .before .before .before .before .before .before .args .place in
-    let w = c .before .before .before .before .before .before .before .before .before .before .before .before .before .before .before .before .before .shown-around .result in
-    omega (arith, c .before .before .before .before .before .before .before .before .before .before .before .before .before .before .before .before .before .before .before .before .pre, c .before .before .before .before .before .before .before .before .before .before .before .before .before .before .before .before .before .shown-around .ensures, c .before .before .before .before .before .before .before .before .before .before .before .before .before .before .put-text .ensures, c .before .before .before .before .before .before .before .before .before .put-shown .ensures, span-few t (p - w .from) (w .from), span-few t (w .to - p) p, c .before .before .before .before .put-shown2 .ensures)
+    let a = c .before .before .before .before .before .before .before .before .before .before .before .before .before .before .before .before .before .before .before .before .args in
+    let b = c .before .before .before .before .before .before .before .before .before .before .before .before .before .before .before .before .before in
+    let t = a .text .now in
+    let p = a .place in
+    let w = b .shown-around .result in
+    omega (arith, c .before .before .before .before .before .before .before .before .before .before .before .before .before .before .before .before .before .before .before .before .pre, b .shown-around .ensures, c .before .before .before .before .before .before .before .before .before .before .before .before .before .before .put-text .ensures, c .before .before .before .before .before .before .before .before .before .put-shown .ensures, span-few t (p - w .from) (w .from), span-few t (w .to - p) p, c .before .before .before .before .put-shown2 .ensures)
 
 sub-put-blanks : tie.Need-sub-put-blanks
 sub-put-blanks c = search needs
@@ -69,20 +73,24 @@ part-put-blanks-end c = search needs
 
 put-blanks-requires : tie.Need-put-blanks-requires
 put-blanks-requires c κs =
-    let t = c .before .before .before .before .before .before .before .before .before .before .before .before .before .before .before .before .before .before .before .before .before .before .before .before .before .args .text .now in
-    let p = c .before .before .before .before .before .before .before .before .before .before .before .before .before .before .before .before .before .before .before .before .before .before .before .before .before .args .place in
-    let w = c .before .before .before .before .before .before .before .before .before .before .before .before .before .before .before .before .before .before .before .before .before .before .shown-around .result in
-    omega (arith, c .before .before .before .before .before .before .before .before .before .before .before .before .before .before .before .before .before .before .before .before .before .before .before .before .before .pre, c .before .before .before .before .before .before .before .before .before .before .before .before .before .before .before .before .before .before .before .before .before .before .shown-around .ensures, c .before .before .before .before .before .before .before .before .before .before .before .before .before .before .before .before .before .before .before .put-text .ensures, c .before .before .before .before .before .before .before .before .before .before .before .before .before .before .put-shown .ensures, span-few t (p - w .from) (w .from), span-few t (w .to - p) p, c .before .before .before .before .before .before .before .before .before .put-shown2 .ensures, c .before .before .before .before .put-text2 .ensures)
+    let a = c .before .before .before .before .before .before .before .before .before .before .before .before .before .before .before .before .before .before .before .before .before .before .before .before .before .args in
+    let b = c .before .before .before .before .before .before .before .before .before .before .before .before .before .before .before .before .before .before .before .before .before .before in
+    let t = a .text .now in
+    let p = a .place in
+    let w = b .shown-around .result in
+    omega (arith, c .before .before .before .before .before .before .before .before .before .before .before .before .before .before .before .before .before .before .before .before .before .before .before .before .before .pre, b .shown-around .ensures, c .before .before .before .before .before .before .before .before .before .before .before .before .before .before .before .before .before .before .before .put-text .ensures, c .before .before .before .before .before .before .before .before .before .before .before .before .before .before .put-shown .ensures, span-few t (p - w .from) (w .from), span-few t (w .to - p) p, c .before .before .before .before .before .before .before .before .before .put-shown2 .ensures, c .before .before .before .before .put-text2 .ensures)
 
 slice-aggregate-put-text-3 : tie.Need-slice-aggregate-put-text-3
 slice-aggregate-put-text-3 c = search needs
 
 put-text-requires-3 : tie.Need-put-text-requires-3
 put-text-requires-3 c κs =
-    let t = c .before .before .before .before .before .before .before .before .before .before .before .before .before .before .before .before .before .before .before .before .before .before .before .before .before .before .before .before .before .before .args .text .now in
-    let p = c .before .before .before .before .before .before .before .before .before .before .before .before .before .before .before .before .before .before .before .before .before .before .before .before .before .before .before .before .before .before .args .place in
-    let w = c .before .before .before .before .before .before .before .before .before .before .before .before .before .before .before .before .before .before .before .before .before .before .before .before .before .before .before .shown-around .result in
-    omega (arith, c .before .before .before .before .before .before .before .before .before .before .before .before .before .before .before .before .before .before .before .before .before .before .before .before .before .before .before .before .before .before .pre, c .before .before .before .before .before .before .before .before .before .before .before .before .before .before .before .before .before .before .before .before .before .before .before .before .before .before .before .shown-around .ensures, c .before .before .before .before .before .before .before .before .before .before .before .before .before .before .before .before .before .before .before .before .before .before .before .before .put-text .ensures, c .before .before .before .before .before .before .before .before .before .before .before .before .before .before .before .before .before .before .before .put-shown .ensures, span-few t (p - w .from) (w .from), span-few t (w .to - p) p, c .before .before .before .before .before .before .before .before .before .before .before .before .before .before .put-shown2 .ensures, c .before .before .before .before .before .before .before .before .before .put-text2 .ensures, c .before .before .before .before .put-blanks .ensures)
+    let a = c .before .before .before .before .before .before .before .before .before .before .before .before .before .before .before .before .before .before .before .before .before .before .before .before .before .before .before .before .before .before .args in
+    let b = c .before .before .before .before .before .before .before .before .before .before .before .before .before .before .before .before .before .before .before .before .before .before .before .before .before .before .before in
+    let t = a .text .now in
+    let p = a .place in
+    let w = b .shown-around .result in
+    omega (arith, c .before .before .before .before .before .before .before .before .before .before .before .before .before .before .before .before .before .before .before .before .before .before .before .before .before .before .before .before .before .before .pre, b .shown-around .ensures, c .before .before .before .before .before .before .before .before .before .before .before .before .before .before .before .before .before .before .before .before .before .before .before .before .put-text .ensures, c .before .before .before .before .before .before .before .before .before .before .before .before .before .before .before .before .before .before .before .put-shown .ensures, span-few t (p - w .from) (w .from), span-few t (w .to - p) p, c .before .before .before .before .before .before .before .before .before .before .before .before .before .before .put-shown2 .ensures, c .before .before .before .before .before .before .before .before .before .put-text2 .ensures, c .before .before .before .before .put-blanks .ensures)
 
 same-length : tie.Need-same-length
 same-length c = search needs
@@ -90,11 +98,12 @@ same-length c = search needs
 returns : tie.Need-returns
 unfolding caretOf part
 returns c =
+    let b = c .before .before .before .before .before .before .before .before .before .before .before .before .before .before .before .before .before .before .before .before .before .before .before .before .before .before .before .before .before .before in
     follow (c .before .before .before .before .before .before .before .before .before .before .before .before .before .before .before .before .before .before .before .before .before .before .before .before .before .before .before .put-text .ensures)
-    (follow (puts-of (ap shown (c .before .before .before .before .before .before .before .before .before .before .before .before .before .before .before .before .before .before .before .before .before .before .before .before .before .before .before .before .before .before .shown-around .ensures .before)) (c .before .before .before .before .before .before .before .before .before .before .before .before .before .before .before .before .before .before .before .before .before .before .put-shown .ensures .0))
-    (follow (puts-of (ap shown (c .before .before .before .before .before .before .before .before .before .before .before .before .before .before .before .before .before .before .before .before .before .before .before .before .before .before .before .before .before .before .shown-around .ensures .behind)) (c .before .before .before .before .before .before .before .before .before .before .before .before .before .before .before .before .before .put-shown2 .ensures .0))
+    (follow (puts-of (ap shown (b .shown-around .ensures .before)) (c .before .before .before .before .before .before .before .before .before .before .before .before .before .before .before .before .before .before .before .before .before .before .put-shown .ensures .0))
+    (follow (puts-of (ap shown (b .shown-around .ensures .behind)) (c .before .before .before .before .before .before .before .before .before .before .before .before .before .before .before .before .before .put-shown2 .ensures .0))
     (follow (c .before .before .before .before .before .before .before .before .before .before .before .before .put-text2 .ensures)
-    (follow (puts-of (ap blanks (c .before .before .before .before .before .before .before .before .before .before .before .before .before .before .before .before .before .before .before .before .before .before .before .before .before .before .before .before .before .before .shown-around .ensures .before)) (c .before .before .before .before .before .before .before .put-blanks .ensures .0)) (c .before .before .put-text3 .ensures)))))
+    (follow (puts-of (ap blanks (b .shown-around .ensures .before)) (c .before .before .before .before .before .before .before .put-blanks .ensures .0)) (c .before .before .put-text3 .ensures)))))
 
 pub put-caret-spec : {M : Type 1} → statement M
 put-caret-spec =

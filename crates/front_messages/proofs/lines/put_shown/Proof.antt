@@ -32,7 +32,9 @@ loop-less : tie.Need-loop-less Inv-loop μ-loop
 loop-less c = omega arith
 
 loop-again : tie.Need-loop-again Inv-loop μ-loop
-loop-again c = (omega arith, search needs, omega (arith, c .before .before .put-shown-byte .ensures .count, shown-few (getD (c .before .before .before .before .before .before .before .before .before .args .s .now) (c .before .before .before .before .before .before .loop .i) 0)), spell-next _ _ _ _ _ _ _ _ _ (c .before .before .before .before .before .loop-test .taken) (c .before .before .before .before .before .before .loop .inv .3) (c .before .before .put-shown-byte .ensures))
+loop-again c =
+    let b = c .before .before .before .before .before .before in
+    (omega arith, search needs, omega (arith, c .before .before .put-shown-byte .ensures .count, shown-few (getD (c .before .before .before .before .before .before .before .before .before .args .s .now) (b .loop .i) 0)), spell-next _ _ _ _ _ _ _ _ _ (c .before .before .before .before .before .loop-test .taken) (b .loop .inv .3) (c .before .before .put-shown-byte .ensures))
 
 same-length : tie.Need-same-length Inv-loop μ-loop
 same-length c = search needs

@@ -49,10 +49,14 @@ same-length c = search needs
 
 returns : tie.Need-returns
 unfolding outcomeText
-returns c = (
-  follow ((puts-of (meaning-is _ _ (c .before .before .before .before .before .before .before .before .before .before .before .before .before .before .before .before .before .before .before .find-word .ensures)) (c .before .before .before .before .before .before .before .before .before .before .before .before .before .before .before .before .put-text .ensures))) (follow (c .before .before .before .before .before .before .before .before .before .before .before .put-text2 .ensures) (follow (c .before .before .before .before .before .before .before .put-decimal .ensures .0) (c .before .before .put-text3 .ensures))),
-  omega (arith, c .before .before .before .before .before .before .before .before .before .before .before .before .before .before .before .before .before .before .before .find-word .ensures, c .before .before .before .before .before .before .before .before .before .before .before .before .before .before .before .before .put-text .ensures, c .before .before .before .before .before .before .before .before .before .before .before .put-text2 .ensures, c .before .before .before .before .before .before .before .put-decimal .ensures, c .before .before .put-text3 .ensures),
-)
+returns c =
+    let b = c .before .before .before .before .before .before .before .before .before .before .before .before .before .before .before .before .before .before .before in
+    let p = c .before .before .before .before .before .before .before .before .before .before .before .before .before .before .before .before in
+    let q = c .before .before .before .before .before .before .before .before .before .before .before in
+    let s = c .before .before .before .before .before .before .before in (
+      follow ((puts-of (meaning-is _ _ (b .find-word .ensures)) (p .put-text .ensures))) (follow (q .put-text2 .ensures) (follow (s .put-decimal .ensures .0) (c .before .before .put-text3 .ensures))),
+      omega (arith, b .find-word .ensures, p .put-text .ensures, q .put-text2 .ensures, s .put-decimal .ensures, c .before .before .put-text3 .ensures),
+    )
 
 pub put-outcome-spec : {M : Type 1} → statement M
 put-outcome-spec =

@@ -45,10 +45,16 @@ same-length c = search needs
 
 returns : tie.Need-returns
 unfolding placeText
-returns c = (
-  follow (c .before .before .before .before .before .before .before .before .before .before .before .before .before .before .before .before .before .before .before .before .before .before .before .before .before .before .before .before .before .put-text .ensures) (follow (c .before .before .before .before .before .before .before .before .before .before .before .before .before .before .before .before .before .before .before .before .before .before .before .before .before .put-text2 .ensures) (follow (c .before .before .before .before .before .before .before .before .before .before .before .before .before .before .before .before .before .before .before .before .put-text3 .ensures) (follow (c .before .before .before .before .before .before .before .before .before .before .before .before .before .before .before .before .put-decimal .ensures .0) (follow (c .before .before .before .before .before .before .before .before .before .before .before .put-text4 .ensures) (follow (c .before .before .before .before .before .before .before .put-decimal2 .ensures .0) (c .before .before .put-text5 .ensures)))))),
-  omega (arith, c .before .before .before .before .before .before .before .before .before .before .before .before .before .before .before .before .before .before .before .before .before .before .before .before .before .before .before .before .before .put-text .ensures, c .before .before .before .before .before .before .before .before .before .before .before .before .before .before .before .before .before .before .before .before .before .before .before .before .before .put-text2 .ensures, c .before .before .before .before .before .before .before .before .before .before .before .before .before .before .before .before .before .before .before .before .put-text3 .ensures, c .before .before .before .before .before .before .before .before .before .before .before .before .before .before .before .before .put-decimal .ensures, c .before .before .before .before .before .before .before .before .before .before .before .put-text4 .ensures, c .before .before .before .before .before .before .before .put-decimal2 .ensures, c .before .before .put-text5 .ensures),
-)
+returns c =
+    let b = c .before .before .before .before .before .before .before .before .before .before .before .before .before .before .before .before .before .before .before .before .before .before .before .before .before .before .before .before .before in
+    let p = c .before .before .before .before .before .before .before .before .before .before .before .before .before .before .before .before .before .before .before .before .before .before .before .before .before in
+    let q = c .before .before .before .before .before .before .before .before .before .before .before .before .before .before .before .before .before .before .before .before in
+    let s = c .before .before .before .before .before .before .before .before .before .before .before .before .before .before .before .before in
+    let u = c .before .before .before .before .before .before .before .before .before .before .before in
+    let w = c .before .before .before .before .before .before .before in (
+      follow (b .put-text .ensures) (follow (p .put-text2 .ensures) (follow (q .put-text3 .ensures) (follow (s .put-decimal .ensures .0) (follow (u .put-text4 .ensures) (follow (w .put-decimal2 .ensures .0) (c .before .before .put-text5 .ensures)))))),
+      omega (arith, b .put-text .ensures, p .put-text2 .ensures, q .put-text3 .ensures, s .put-decimal .ensures, u .put-text4 .ensures, w .put-decimal2 .ensures, c .before .before .put-text5 .ensures),
+    )
 
 pub put-place-spec : {M : Type 1} → statement M
 put-place-spec =

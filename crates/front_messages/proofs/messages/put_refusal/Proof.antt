@@ -28,7 +28,9 @@ put-text-requires : tie.Need-put-text-requires
 put-text-requires c κs = omega (arith, c .before .before .before .before .before .before .before .before .before .before .before .before .before .before .before .pre)
 
 put-caret-requires : tie.Need-put-caret-requires
-put-caret-requires c κs = (omega (arith, c .before .before .before .before .before .before .before .before .before .before .before .before .before .before .before .before .before .before .before .pre, c .before .before .before .before .before .before .before .before .before .before .before .before .put-place .ensures, c .before .before .before .before .before .before .before .before .put-outcome .ensures, c .before .before .before .put-text .ensures), c .before .before .before .before .before .before .before .before .before .before .before .before .before .before .before .before .before .before .before .pre .1, c .before .before .before .before .before .before .before .before .before .before .before .before .before .before .before .before .before .before .before .pre .2)
+put-caret-requires c κs =
+    let b = c .before .before .before .before .before .before .before .before .before .before .before .before .before .before .before .before .before .before .before in
+    (omega (arith, b .pre, c .before .before .before .before .before .before .before .before .before .before .before .before .put-place .ensures, c .before .before .before .before .before .before .before .before .put-outcome .ensures, c .before .before .before .put-text .ensures), b .pre .1, b .pre .2)
 
 same-length : tie.Need-same-length
 same-length c = search needs

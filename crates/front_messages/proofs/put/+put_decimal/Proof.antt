@@ -126,10 +126,12 @@ put-decimal-returns-2 : (t : ℕ) → put-decimal-lts.Need-returns-2 (
   put-decimal-below t,
   put-decimal.Post,
 ) (put-decimal-at t) put-decimal.Post
-put-decimal-returns-2 t c = (
-  put-digits (c .before .before .before .before .before .before .before .before .before .before .args .n) (c .before .before .before .before .before .before .before .before .if1 .left) (c .before .before .before .before .before .before .put-decimal .ensures .0) (c .before .before .put-byte2 .ensures),
-  omega (arith, c .before .before .before .before .before .before .put-decimal .ensures .0 .count, tenth-few (c .before .before .before .before .before .before .before .before .before .before .args .n) (omega (arith, c .before .before .before .before .before .before .before .before .before .before .good))),
-)
+put-decimal-returns-2 t c =
+    let a = c .before .before .before .before .before .before .before .before .before .before .args in
+    let b = c .before .before .before .before .before .before in (
+      put-digits (a .n) (c .before .before .before .before .before .before .before .before .if1 .left) (b .put-decimal .ensures .0) (c .before .before .put-byte2 .ensures),
+      omega (arith, b .put-decimal .ensures .0 .count, tenth-few (a .n) (omega (arith, c .before .before .before .before .before .before .before .before .before .before .good))),
+    )
 
 pub +put-decimal-spec : {M : Type 1} → statement M
 +put-decimal-spec = close μ-put-decimal λ t. put-decimal-lts.spec (

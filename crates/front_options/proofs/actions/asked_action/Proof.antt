@@ -74,9 +74,10 @@ write-action-requires c κs = search needs
 returns-7 : tie.Need-returns-7
 unfolding actionOf
 returns-7 c =
+    let a = c .before .before .before .before .before .before .before .before .before .before .before .args in
     simp (le-ltb _ _ (c .before .before .before .before .before .before .before .before .before .if1 .left), ne-eqb _ _ (c .before .before .before .before .before .before .before .before .if2 .left), eq-eqb _ _ (c .before .before .before .before .before .before .before .if3 .left), eq-eqb _ _ (c .before .before .before .before .before .before .if4 .left), eq-eqb _ _ (c .before .before .before .if5 .left), eq-eqb _ _ (c .before .before .if6 .left), ne-eqb _ _ (c .before .if7 .taken))
     (c .write-action .ensures
-    ∙ ap (λ (n : ℕ). writeAction n (c .before .before .before .before .before .before .before .before .before .before .before .args .o .operand) (c .before .before .before .before .before .before .before .before .before .before .before .args .words) (getD (c .before .before .before .before .before .before .before .before .before .before .before .args .o .given) 5 0)) (c .before .before .before .before .given-count .ensures))
+    ∙ ap (λ (n : ℕ). writeAction n (a .o .operand) (a .words) (getD (a .o .given) 5 0)) (c .before .before .before .before .given-count .ensures))
 
 array-read-run-action : tie.Need-array-read-run-action
 array-read-run-action c = search needs

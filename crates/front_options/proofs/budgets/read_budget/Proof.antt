@@ -35,7 +35,8 @@ enum-told c = search needs
 
 returns-2 : tie.Need-returns-2 Inv-loop μ-loop
 returns-2 c =
-    digit-bad (c .before .before .before .before .before .before .before .before .args .word .now) (c .before .before .before .before .before .loop .i) (c .before .before .before .before .loop-test .taken) (c .before .before .before .before .before .loop .value) (c .before .before .before .before .before .loop .inv .1)
+    let b = c .before .before .before .before .before in
+    digit-bad (c .before .before .before .before .before .before .before .before .args .word .now) (b .loop .i) (c .before .before .before .before .loop-test .taken) (b .loop .value) (b .loop .inv .1)
     (sym (c .enum-told .given .1) ∙ c .before .before .with-digit .ensures)
 
 add-i : tie.Need-add-i Inv-loop μ-loop
@@ -45,11 +46,12 @@ loop-less : tie.Need-loop-less Inv-loop μ-loop
 loop-less c = omega arith
 
 loop-again : tie.Need-loop-again Inv-loop μ-loop
-loop-again c = (
-  omega arith,
-  digit-on (c .before .before .before .before .before .before .before .before .before .args .word .now) (c .before .before .before .before .before .before .loop .i) (c .before .before .before .before .before .loop-test .taken) (c .before .before .before .before .before .before .loop .value) (c .before .before .before .before .before .before .loop .inv .1)
-      (sym (c .before .s .given .1) ∙ c .before .before .before .with-digit .ensures),
-)
+loop-again c =
+    let b = c .before .before .before .before .before .before in (
+      omega arith,
+      digit-on (c .before .before .before .before .before .before .before .before .before .args .word .now) (b .loop .i) (c .before .before .before .before .before .loop-test .taken) (b .loop .value) (b .loop .inv .1)
+          (sym (c .before .s .given .1) ∙ c .before .before .before .with-digit .ensures),
+    )
 
 returns-3 : tie.Need-returns-3 Inv-loop μ-loop
 returns-3 c = digit-end (c .before .before .before .before .args .word .now) (c .before .loop .i) (c .before .loop .value) (c .loop-test .left) (c .before .loop .inv .1)

@@ -36,7 +36,9 @@ equal-requires c κs = search needs
 
 returns : tie.Need-returns Inv-loop μ-loop
 returns c =
-    omega (arith, c .before .before .before .before .before .loop .inv .2, number-here (c .before .before .before .before .before .before .before .before .args .block .now) (c .before .before .before .before .before .before .before .before .args .word .now) (c .before .before .before .before .before .loop .at) _ (c .before .before .before .word-at .ensures) (c .before .equal .ensures) (c .if1 .taken))
+    let a = c .before .before .before .before .before .before .before .before .args in
+    let b = c .before .before .before .before .before in
+    omega (arith, b .loop .inv .2, number-here (a .block .now) (a .word .now) (b .loop .at) _ (c .before .before .before .word-at .ensures) (c .before .equal .ensures) (c .if1 .taken))
 
 add-k : tie.Need-add-k Inv-loop μ-loop
 add-k c = omega arith
@@ -46,11 +48,15 @@ loop-less c = omega (arith, c .before .before .before .word-at .ensures .further
 
 loop-again : tie.Need-loop-again Inv-loop μ-loop
 loop-again c =
+    let a = c .before .before .before .before .before .before .before .before .args in
+    let b = c .before .before .before .before .before in
     let e = c .before .before .before .word-at .ensures in
-    (e .within, omega (arith, e .further), omega (arith, c .before .before .before .before .before .loop .inv .2, number-on (c .before .before .before .before .before .before .before .before .args .block .now) (c .before .before .before .before .before .before .before .before .args .word .now) (c .before .before .before .before .before .loop .at) _ e (c .before .equal .ensures) (c .if1 .left)))
+    (e .within, omega (arith, e .further), omega (arith, b .loop .inv .2, number-on (a .block .now) (a .word .now) (b .loop .at) _ e (c .before .equal .ensures) (c .if1 .left)))
 
 returns-2 : tie.Need-returns-2 Inv-loop μ-loop
-returns-2 c = omega (arith, c .before .loop .inv .2, number-end (c .before .before .before .before .args .block .now) (c .before .before .before .before .args .word .now) (c .before .loop .at) (c .loop-test .left))
+returns-2 c =
+    let a = c .before .before .before .before .args in
+    omega (arith, c .before .loop .inv .2, number-end (a .block .now) (a .word .now) (c .before .loop .at) (c .loop-test .left))
 
 pub number-in-spec : {M : Type 1} → statement M
 number-in-spec =

@@ -46,8 +46,9 @@ loop-less c = omega (arith, c .before .before .word-at .ensures .further, c .bef
 
 loop-again : tie.Need-loop-again Inv-loop μ-loop
 loop-again c =
+    let b = c .before .before .before .before in
     let e = c .before .before .word-at .ensures in
-    (e .within, omega (arith, e .further), read-on (c .before .before .before .before .before .before .before .args .block .now) (c .before .before .before .before .loop .at) (c .before .before .before .before .loop .k) _ (c .before .before .before .before .loop .o) e (c .before .before .before .before .loop .inv .2) (c .step .ensures))
+    (e .within, omega (arith, e .further), read-on (c .before .before .before .before .before .before .before .args .block .now) (b .loop .at) (b .loop .k) _ (b .loop .o) e (b .loop .inv .2) (c .step .ensures))
 
 returns : tie.Need-returns Inv-loop μ-loop
 returns c = read-end (c .before .before .before .before .args .block .now) (c .before .loop .at) (c .before .loop .k) (c .before .loop .o) (c .loop-test .left) (c .before .loop .inv .2)

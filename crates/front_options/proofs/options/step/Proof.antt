@@ -23,7 +23,8 @@ option-in-requires c κs = c .kind-of .ensures .1
 returns-2 : tie.Need-returns-2
 unfolding stepOf
 returns-2 c =
-    simp (le-ltb _ _ (c .before .before .before .if1 .left), eq-eqb _ _ (c .before .before .if2 .taken)) (c .option-in .ensures ∙ ap (optionIn (c .before .before .before .before .before .args .o) (c .before .before .before .before .before .args .k)) (c .before .kind-of .ensures .0))
+    let a = c .before .before .before .before .before .args in
+    simp (le-ltb _ _ (c .before .before .before .if1 .left), eq-eqb _ _ (c .before .before .if2 .taken)) (c .option-in .ensures ∙ ap (optionIn (a .o) (a .k)) (c .before .kind-of .ensures .0))
 
 operand-in-requires : tie.Need-operand-in-requires
 operand-in-requires c κs = search needs

@@ -25,7 +25,9 @@ width-requires : tie.Need-width-requires Inv-loop μ-loop
 width-requires c κs = search needs
 
 returns : tie.Need-returns Inv-loop μ-loop
-returns c = (omega (arith, fit-stop (c .before .before .before .before .before .before .args .s .now) (c .before .before .before .before .loop .rest) (c .before .before .before .before .loop .i) (c .before .before .before .loop-test .taken) (omega (arith, c .before .width .ensures .0))), omega arith)
+returns c =
+    let b = c .before .before .before .before in
+    (omega (arith, fit-stop (c .before .before .before .before .before .before .args .s .now) (b .loop .rest) (b .loop .i) (c .before .before .before .loop-test .taken) (omega (arith, c .before .width .ensures .0))), omega arith)
 
 add-i : tie.Need-add-i Inv-loop μ-loop
 add-i c = omega arith

@@ -19,7 +19,9 @@ loop-holds : tie.Need-loop-holds Inv-loop μ-loop
 loop-holds c = search needs
 
 returns : tie.Need-returns Inv-loop μ-loop
-returns c = (omega (arith, out-stop (c .before .before .before .before .args .s .now) (c .before .before .before .before .args .most) (c .before .before .loop .i) (c .before .loop-test .taken) (omega arith)), omega arith)
+returns c =
+    let a = c .before .before .before .before .args in
+    (omega (arith, out-stop (a .s .now) (a .most) (c .before .before .loop .i) (c .before .loop-test .taken) (omega arith)), omega arith)
 
 shared-slice-read-width : tie.Need-shared-slice-read-width Inv-loop μ-loop
 shared-slice-read-width c = omega arith
@@ -38,9 +40,11 @@ loop-less c = omega arith
 
 loop-again : tie.Need-loop-again Inv-loop μ-loop
 loop-again c =
-    let s = c .before .before .before .before .before .before .args .s .now in
-    let h = columns-next s (c .before .before .before .before .loop .i) (c .before .before .before .loop-test .taken) in
-    let o = out-next s (c .before .before .before .before .before .before .args .most) (c .before .before .before .before .loop .i) (c .before .before .before .loop-test .taken) (omega arith) in
+    let a = c .before .before .before .before .before .before .args in
+    let b = c .before .before .before .before in
+    let s = a .s .now in
+    let h = columns-next s (b .loop .i) (c .before .before .before .loop-test .taken) in
+    let o = out-next s (a .most) (b .loop .i) (c .before .before .before .loop-test .taken) (omega arith) in
     (omega arith, omega (arith, h, c .width .ensures .0), omega (arith, o))
 
 returns-2 : tie.Need-returns-2 Inv-loop μ-loop

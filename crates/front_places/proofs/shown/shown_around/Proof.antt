@@ -34,7 +34,9 @@ first-byte-requires : tie.Need-first-byte-requires
 first-byte-requires c κs = search needs
 
 add-end : tie.Need-add-end
-add-end c = omega (arith, left-few (c .before .before .before .before .before .args .text .now) (c .before .before .before .before .before .args .place) _ (c .before .before .before .before .before .pre .0) (c .first-byte .ensures))
+add-end c =
+    let a = c .before .before .before .before .before .args in
+    omega (arith, left-few (a .text .now) (a .place) _ (c .before .before .before .before .before .pre .0) (c .first-byte .ensures))
 
 sub-omit : tie.Need-sub-omit
 sub-omit c = omega arith
@@ -52,15 +54,19 @@ part-omit-start-2 : tie.Need-part-omit-start-2
 part-omit-start-2 c = search needs
 
 part-omit-end-2 : tie.Need-part-omit-end-2
-part-omit-end-2 c = search (needs, left-few (c .before .before .before .before .before .before .args .text .now) (c .before .before .before .before .before .before .args .place) _ (c .before .before .before .before .before .before .pre .0) (c .before .first-byte .ensures))
+part-omit-end-2 c =
+    let a = c .before .before .before .before .before .before .args in
+    search (needs, left-few (a .text .now) (a .place) _ (c .before .before .before .before .before .before .pre .0) (c .before .first-byte .ensures))
 
 omit-requires : tie.Need-omit-requires
 omit-requires c κs =
-    let t = c .before .before .before .before .before .before .before .args .text .now in
-    let p = c .before .before .before .before .before .before .before .args .place in
+    let a = c .before .before .before .before .before .before .before .args in
+    let b = c .before .before .before .before .before .before .before in
+    let t = a .text .now in
+    let p = a .place in
     let s = p - c .before .before .before .before .since-newline .result in
     let e = p + c .before .before .first-byte .result in
-    (omega (arith, c .before .before .before .before .before .before .before .pre, part-few t (p - s) s), omega (arith, c .before .before .before .before .before .before .before .pre, left-few t p _ (c .before .before .before .before .before .before .before .pre .0) (c .before .before .first-byte .ensures), part-few t (e - p) p))
+    (omega (arith, b .pre, part-few t (p - s) s), omega (arith, b .pre, left-few t p _ (b .pre .0) (c .before .before .first-byte .ensures), part-few t (e - p) p))
 
 add-from : tie.Need-add-from
 add-from c = omega arith
@@ -81,24 +87,31 @@ part-fit-behind-start-2 : tie.Need-part-fit-behind-start-2
 part-fit-behind-start-2 c = search needs
 
 part-fit-behind-end-2 : tie.Need-part-fit-behind-end-2
-part-fit-behind-end-2 c = search (needs, left-few (c .before .before .before .before .before .before .before .before .before .args .text .now) (c .before .before .before .before .before .before .before .before .before .args .place) _ (c .before .before .before .before .before .before .before .before .before .pre .0) (c .before .before .before .before .first-byte .ensures))
+part-fit-behind-end-2 c =
+    let a = c .before .before .before .before .before .before .before .before .before .args in
+    search (needs, left-few (a .text .now) (a .place) _ (c .before .before .before .before .before .before .before .before .before .pre .0) (c .before .before .before .before .first-byte .ensures))
 
 fit-behind-requires : tie.Need-fit-behind-requires
 fit-behind-requires c κs = search needs
 
 add-t9 : tie.Need-add-t9
 add-t9 c =
-    let t = c .before .before .before .before .before .before .before .before .before .before .before .args .text .now in
-    let p = c .before .before .before .before .before .before .before .before .before .before .before .args .place in
-    let e = p + c .before .before .before .before .before .before .first-byte .result in
-    omega (arith, c .fit-behind .ensures .1, left-few t p _ (c .before .before .before .before .before .before .before .before .before .before .before .pre .0) (c .before .before .before .before .before .before .first-byte .ensures), part-few t (e - p) p)
+    let a = c .before .before .before .before .before .before .before .before .before .before .before .args in
+    let b = c .before .before .before .before .before .before in
+    let t = a .text .now in
+    let p = a .place in
+    let e = p + b .first-byte .result in
+    omega (arith, c .fit-behind .ensures .1, left-few t p _ (c .before .before .before .before .before .before .before .before .before .before .before .pre .0) (b .first-byte .ensures), part-few t (e - p) p)
 
 returns : tie.Need-returns
 returns c =
-    let t = c .before .before .before .before .before .before .before .before .before .before .before .args .text .now in
-    let p = c .before .before .before .before .before .before .before .before .before .before .before .args .place in
-    shows-by t p (c .before .before .before .before .before .before .before .before .since-newline .result) (c .before .before .before .before .before .before .first-byte .result) (since-few t p _ (c .before .before .before .before .before .before .before .before .since-newline .ensures .1))
-    (c .before .before .before .before .before .before .before .before .since-newline .ensures .0) (c .before .before .before .before .before .before .first-byte .ensures) (c .before .before .before .omit .result) (c .before .before .before .omit .ensures .0) (c .fit-behind .result)
+    let a = c .before .before .before .before .before .before .before .before .before .before .before .args in
+    let b = c .before .before .before .before .before .before .before .before in
+    let q = c .before .before .before .before .before .before in
+    let t = a .text .now in
+    let p = a .place in
+    shows-by t p (b .since-newline .result) (q .first-byte .result) (since-few t p _ (b .since-newline .ensures .1))
+    (b .since-newline .ensures .0) (q .first-byte .ensures) (c .before .before .before .omit .result) (c .before .before .before .omit .ensures .0) (c .fit-behind .result)
     (c .before .before .before .omit .ensures .1) (c .fit-behind .ensures .0) (c .fit-behind .ensures .1) (c .before .before .before .before .before .before .before .before .before .before .before .pre .0)
 
 pub shown-around-spec : {M : Type 1} → statement M

@@ -19,7 +19,9 @@ loop-holds : tie.Need-loop-holds Inv-loop μ-loop
 loop-holds c = (omega arith, refl)
 
 returns : tie.Need-returns Inv-loop μ-loop
-returns c = span-none (c .before .before .before .before .args .block .now) (c .before .before .loop .at) (c .before .before .loop .left) 0 (c .before .before .before .before .args .k) (c .if1 .taken) (c .before .before .loop .inv .0) (c .before .before .loop .inv .1)
+returns c =
+    let a = c .before .before .before .before .args in
+    span-none (a .block .now) (c .before .before .loop .at) (c .before .before .loop .left) 0 (a .k) (c .if1 .taken) (c .before .before .loop .inv .0) (c .before .before .loop .inv .1)
 
 word-at-requires : tie.Need-word-at-requires Inv-loop μ-loop
 word-at-requires c κs = search needs
@@ -39,9 +41,10 @@ span-at-requires c κs = c .before .loop .inv .0
 
 returns-2 : tie.Need-returns-2 Inv-loop μ-loop
 returns-2 c =
-    let b = c .before .before .before .before .args .block .now in
+    let a = c .before .before .before .before .args in
+    let b = a .block .now in
     let z : c .before .before .loop .left ≡ 0 = omega arith in
-    span-of b (c .before .before .loop .at) (c .before .before .before .before .args .k) (c .before .before .loop .inv .1 ∙ ap (wordIn (wordsOf (drop (c .before .before .loop .at) b))) z) (c .span-at .ensures)
+    span-of b (c .before .before .loop .at) (a .k) (c .before .before .loop .inv .1 ∙ ap (wordIn (wordsOf (drop (c .before .before .loop .at) b))) z) (c .span-at .ensures)
 
 pub find-word-spec : {M : Type 1} → statement M
 find-word-spec =

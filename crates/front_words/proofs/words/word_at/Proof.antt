@@ -25,10 +25,14 @@ add-t10 : tie.Need-add-t10
 add-t10 c = search needs
 
 returns : tie.Need-returns
-returns c = ends-before (c .before .before .before .before .args .block .now) (c .before .before .before .before .args .at) _ (c .before .before .before .before .pre) (c .before .first-byte .ensures) (c .if1 .taken)
+returns c =
+    let a = c .before .before .before .before .args in
+    ends-before (a .block .now) (a .at) _ (c .before .before .before .before .pre) (c .before .first-byte .ensures) (c .if1 .taken)
 
 returns-2 : tie.Need-returns-2
-returns-2 c = ends-last (c .before .before .before .before .args .block .now) (c .before .before .before .before .args .at) _ (c .before .before .before .before .pre) (c .before .first-byte .ensures) (c .if1 .left)
+returns-2 c =
+    let a = c .before .before .before .before .args in
+    ends-last (a .block .now) (a .at) _ (c .before .before .before .before .pre) (c .before .first-byte .ensures) (c .if1 .left)
 
 pub word-at-spec : {M : Type 1} → statement M
 word-at-spec =

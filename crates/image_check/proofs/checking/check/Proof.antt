@@ -11,13 +11,17 @@ passes-requires : tie.Need-passes-requires
 passes-requires c κs = search needs
 
 returns : tie.Need-returns
-returns c = outcome-accepted (c .before .before .before .before .args .image .now) (subst (ImageJudged (c .before .before .before .before .args .image .now)) (c .if2 .taken) (c .before .passes .ensures))
+returns c =
+    let a = c .before .before .before .before .args in
+    outcome-accepted (a .image .now) (subst (ImageJudged (a .image .now)) (c .if2 .taken) (c .before .passes .ensures))
 
 is-image-requires : tie.Need-is-image-requires
 is-image-requires c κs = search needs
 
 returns-2 : tie.Need-returns-2
-returns-2 c = outcome-rejected (c .before .before .before .before .args .image .now) (sym (c .if3 .taken) ∙ c .before .is-image .ensures) (⊎-elim (λ w. subst (ImageJudged (c .before .before .before .before .args .image .now)) (w .2 .left) (w .1 .ensures)) (λ w. long-refused (c .before .before .before .before .args .image .now) (w .left)) (c .before .before .if1 .came))
+returns-2 c =
+    let a = c .before .before .before .before .args in
+    outcome-rejected (a .image .now) (sym (c .if3 .taken) ∙ c .before .is-image .ensures) (⊎-elim (λ w. subst (ImageJudged (a .image .now)) (w .2 .left) (w .1 .ensures)) (λ w. long-refused (a .image .now) (w .left)) (c .before .before .if1 .came))
 
 returns-3 : tie.Need-returns-3
 returns-3 c = outcome-malformed (c .before .before .before .before .args .image .now) (sym (c .if3 .left) ∙ c .before .is-image .ensures)

@@ -13,16 +13,22 @@ same-length : tie.Need-same-length
 same-length c = search needs
 
 returns : tie.Need-returns
-returns c = section-unfit (c .before .before .before .before .before .before .before .before .args .context) (c .before .before .before .before .before .before .before .before .args .image .now) (c .before .before .before .before .before .before .before .before .args .at) _ _ (c .before .before .before .before .list-at .ensures) (not-true _ (c .if1 .taken))
+returns c =
+    let a = c .before .before .before .before .before .before .before .before .args in
+    section-unfit (a .context) (a .image .now) (a .at) _ _ (c .before .before .before .before .list-at .ensures) (not-true _ (c .if1 .taken))
 
 check-instructions-requires : tie.Need-check-instructions-requires
-check-instructions-requires c κs = let f = c .before .before .before .before .before .list-at .ensures .found (not-false _ (c .before .if1 .left)) in (omega (arith, f .2, f .3 .few, c .before .before .before .before .before .before .before .before .before .pre .2, c .before .before .before .before .index), c .before .before .before .before .before .before .before .before .before .pre .3)
+check-instructions-requires c κs =
+    let b = c .before .before .before .before .before .before .before .before .before in
+    let f = c .before .before .before .before .before .list-at .ensures .found (not-false _ (c .before .if1 .left)) in (omega (arith, f .2, f .3 .few, b .pre .2, c .before .before .before .before .index), b .pre .3)
 
 same-length-2 : tie.Need-same-length-2
 same-length-2 c = search needs
 
 returns-2 : tie.Need-returns-2
-returns-2 c = section-judged (c .before .before .before .before .before .before .before .before .before .before .args .context) (c .before .before .before .before .before .before .before .before .before .before .args .image .now) (c .before .before .before .before .before .before .before .before .before .before .args .at) _ _ (c .before .before .before .before .before .before .list-at .ensures) (not-false _ (c .before .before .if1 .left)) _ (c .check-instructions .ensures)
+returns-2 c =
+    let a = c .before .before .before .before .before .before .before .before .before .before .args in
+    section-judged (a .context) (a .image .now) (a .at) _ _ (c .before .before .before .before .before .before .list-at .ensures) (not-false _ (c .before .before .if1 .left)) _ (c .check-instructions .ensures)
 
 pub section-spec : {M : Type 1} → statement M
 section-spec =

@@ -13,28 +13,40 @@ section-requires : tie.Need-section-requires
 section-requires c κs = search needs
 
 returns : tie.Need-returns
-returns c = first-refused (c .before .before .before .before .before .before .args .edition) (c .before .before .before .before .before .before .args .users) (c .before .before .before .before .before .before .args .constants) (c .before .before .before .before .before .before .args .eres) (c .before .before .before .before .before .before .args .image .now) (c .before .before .before .before .before .before .args .at) _ (c .before .before .before .section .ensures) (not-true _ (c .if1 .taken))
+returns c =
+    let a = c .before .before .before .before .before .before .args in
+    first-refused (a .edition) (a .users) (a .constants) (a .eres) (a .image .now) (a .at) _ (c .before .before .before .section .ensures) (not-true _ (c .if1 .taken))
 
 slice-aggregate-section-2 : tie.Need-slice-aggregate-section-2
 slice-aggregate-section-2 c = search needs
 
 section-requires-2 : tie.Need-section-requires-2
-section-requires-2 c κs = (c .before .before .before .before .section .ensures .inside (not-false _ (c .before .if1 .left)), c .before .before .before .before .before .before .before .pre .1, search needs, c .before .before .before .before .before .before .before .pre .2)
+section-requires-2 c κs =
+    let b = c .before .before .before .before .before .before .before in
+    (c .before .before .before .before .section .ensures .inside (not-false _ (c .before .if1 .left)), b .pre .1, search needs, b .pre .2)
 
 returns-2 : tie.Need-returns-2
-returns-2 c = second-refused (c .before .before .before .before .before .before .before .before .before .before .before .args .edition) (c .before .before .before .before .before .before .before .before .before .before .before .args .users) (c .before .before .before .before .before .before .before .before .before .before .before .args .constants) (c .before .before .before .before .before .before .before .before .before .before .before .args .eres) (c .before .before .before .before .before .before .before .before .before .before .before .args .image .now) (c .before .before .before .before .before .before .before .before .before .before .before .args .at) _ (c .before .before .before .before .before .before .before .before .section .ensures) (not-false _ (c .before .before .before .before .before .if1 .left)) _ (c .before .before .before .section2 .ensures) (not-true _ (c .if2 .taken))
+returns-2 c =
+    let a = c .before .before .before .before .before .before .before .before .before .before .before .args in
+    second-refused (a .edition) (a .users) (a .constants) (a .eres) (a .image .now) (a .at) _ (c .before .before .before .before .before .before .before .before .section .ensures) (not-false _ (c .before .before .before .before .before .if1 .left)) _ (c .before .before .before .section2 .ensures) (not-true _ (c .if2 .taken))
 
 slice-aggregate-section-3 : tie.Need-slice-aggregate-section-3
 slice-aggregate-section-3 c = search needs
 
 section-requires-3 : tie.Need-section-requires-3
-section-requires-3 c κs = (c .before .before .before .before .section2 .ensures .inside (not-false _ (c .before .if2 .left)), c .before .before .before .before .before .before .before .before .before .before .before .before .pre .1, search needs, c .before .before .before .before .before .before .before .before .before .before .before .before .pre .2)
+section-requires-3 c κs =
+    let b = c .before .before .before .before .before .before .before .before .before .before .before .before in
+    (c .before .before .before .before .section2 .ensures .inside (not-false _ (c .before .if2 .left)), b .pre .1, search needs, b .pre .2)
 
 returns-3 : tie.Need-returns-3
-returns-3 c = third-judged (c .before .before .before .before .before .before .before .before .before .before .before .before .before .before .before .before .args .edition) (c .before .before .before .before .before .before .before .before .before .before .before .before .before .before .before .before .args .users) (c .before .before .before .before .before .before .before .before .before .before .before .before .before .before .before .before .args .constants) (c .before .before .before .before .before .before .before .before .before .before .before .before .before .before .before .before .args .eres) (c .before .before .before .before .before .before .before .before .before .before .before .before .before .before .before .before .args .image .now) (c .before .before .before .before .before .before .before .before .before .before .before .before .before .before .before .before .args .at) _ (c .before .before .before .before .before .before .before .before .before .before .before .before .before .section .ensures) (not-false _ (c .before .before .before .before .before .before .before .before .before .before .if1 .left)) _ (c .before .before .before .before .before .before .before .before .section2 .ensures) (not-false _ (c .before .before .before .before .before .if2 .left)) _ (c .before .before .before .section3 .ensures) _ (rw (c .before .if3 .taken))
+returns-3 c =
+    let a = c .before .before .before .before .before .before .before .before .before .before .before .before .before .before .before .before .args in
+    third-judged (a .edition) (a .users) (a .constants) (a .eres) (a .image .now) (a .at) _ (c .before .before .before .before .before .before .before .before .before .before .before .before .before .section .ensures) (not-false _ (c .before .before .before .before .before .before .before .before .before .before .if1 .left)) _ (c .before .before .before .before .before .before .before .before .section2 .ensures) (not-false _ (c .before .before .before .before .before .if2 .left)) _ (c .before .before .before .section3 .ensures) _ (rw (c .before .if3 .taken))
 
 returns-4 : tie.Need-returns-4
-returns-4 c = third-judged (c .before .before .before .before .before .before .before .before .before .before .before .before .before .before .before .args .edition) (c .before .before .before .before .before .before .before .before .before .before .before .before .before .before .before .args .users) (c .before .before .before .before .before .before .before .before .before .before .before .before .before .before .before .args .constants) (c .before .before .before .before .before .before .before .before .before .before .before .before .before .before .before .args .eres) (c .before .before .before .before .before .before .before .before .before .before .before .before .before .before .before .args .image .now) (c .before .before .before .before .before .before .before .before .before .before .before .before .before .before .before .args .at) _ (c .before .before .before .before .before .before .before .before .before .before .before .before .section .ensures) (not-false _ (c .before .before .before .before .before .before .before .before .before .if1 .left)) _ (c .before .before .before .before .before .before .before .section2 .ensures) (not-false _ (c .before .before .before .before .if2 .left)) _ (c .before .before .section3 .ensures) _ (rw (c .if3 .left))
+returns-4 c =
+    let a = c .before .before .before .before .before .before .before .before .before .before .before .before .before .before .before .args in
+    third-judged (a .edition) (a .users) (a .constants) (a .eres) (a .image .now) (a .at) _ (c .before .before .before .before .before .before .before .before .before .before .before .before .section .ensures) (not-false _ (c .before .before .before .before .before .before .before .before .before .if1 .left)) _ (c .before .before .before .before .before .before .before .section2 .ensures) (not-false _ (c .before .before .before .before .if2 .left)) _ (c .before .before .section3 .ensures) _ (rw (c .if3 .left))
 
 pub sections-spec : {M : Type 1} → statement M
 sections-spec =

@@ -30,10 +30,11 @@ part-result-end c = search needs
 returns : tie.Need-returns
 unfolding part
 returns c =
+    let a = c .before .before .before .before .before .args in
     let r = c .before .constant-at .result in
     let y = c .before .constant-at .ensures in (
-      is-part (c .before .before .before .before .before .args .image .now) (c .before .before .before .before .before .args .image .ptr) (r .start) (r .end) (y .ordered) (y .inside),
-      λ edition bytes s. constant-reached (c .before .before .before .before .before .args .image .now) (getD (c .before .before .before .before .before .args .index .now) (c .before .before .before .before .before .args .n) 0) (s .0) bytes r y (s .1),
+      is-part (a .image .now) (a .image .ptr) (r .start) (r .end) (y .ordered) (y .inside),
+      λ edition bytes s. constant-reached (a .image .now) (getD (a .index .now) (a .n) 0) (s .0) bytes r y (s .1),
     )
 
 pub constant-bytes-spec : {M : Type 1} → statement M

@@ -14,7 +14,9 @@ no-entry-requires : tie.Need-no-entry-requires
 no-entry-requires c κs = search needs
 
 returns : tie.Need-returns
-returns c = entry-missing (c .before .before .before .before .before .args .edition) Constants (c .before .before .before .before .before .args .image .now) (c .before .before .before .before .before .args .at) _ (c .no-entry .ensures) (c .before .before .before .constant-at .ensures .refused (not-true _ (c .before .if1 .taken)))
+returns c =
+    let a = c .before .before .before .before .before .args in
+    entry-missing (a .edition) Constants (a .image .now) (a .at) _ (c .no-entry .ensures) (c .before .before .before .constant-at .ensures .refused (not-true _ (c .before .if1 .taken)))
 
 sub-if2 : tie.Need-sub-if2
 sub-if2 c = search needs
@@ -24,18 +26,22 @@ no-entry-requires-2 c κs = search needs
 
 returns-2 : tie.Need-returns-2
 returns-2 c =
-    let y = c .before .before .before .before .before .constant-at .ensures in
+    let a = c .before .before .before .before .before .before .before .args in
+    let b = c .before .before .before .before .before in
+    let y = b .constant-at .ensures in
     let h = not-false _ (c .before .before .before .if1 .left) in
-    entry-unfit (c .before .before .before .before .before .before .before .args .edition) Constants (c .before .before .before .before .before .before .before .args .image .now) (c .before .before .before .before .before .before .before .args .at) _ (c .no-entry2 .ensures) _ _ (y .found h) (constant-long (c .before .before .before .before .before .before .before .args .edition) (c .before .before .before .before .before .before .before .args .image .now) (c .before .before .before .before .before .before .before .args .at) (c .before .before .before .before .before .constant-at .result) y h (c .before .if2 .taken))
+    entry-unfit (a .edition) Constants (a .image .now) (a .at) _ (c .no-entry2 .ensures) _ _ (y .found h) (constant-long (a .edition) (a .image .now) (a .at) (b .constant-at .result) y h (c .before .if2 .taken))
 
 cast-t7 : tie.Need-cast-t7
 cast-t7 c = search needs
 
 returns-3 : tie.Need-returns-3
 returns-3 c =
-    let y = c .before .before .before .before .constant-at .ensures in
+    let a = c .before .before .before .before .before .before .args in
+    let b = c .before .before .before .before in
+    let y = b .constant-at .ensures in
     let h = not-false _ (c .before .before .if1 .left) in
-    entry-there (c .before .before .before .before .before .before .args .edition) Constants (c .before .before .before .before .before .before .args .image .now) (c .before .before .before .before .before .before .args .at) _ refl _ (y .found h) (constant-fits (c .before .before .before .before .before .before .args .edition) (c .before .before .before .before .before .before .args .image .now) (c .before .before .before .before .before .before .args .at) (c .before .before .before .before .constant-at .result) y (c .if2 .left)) (_, y .found h)
+    entry-there (a .edition) Constants (a .image .now) (a .at) _ refl _ (y .found h) (constant-fits (a .edition) (a .image .now) (a .at) (b .constant-at .result) y (c .if2 .left)) (_, y .found h)
 
 pub constant-entry-spec : {M : Type 1} → statement M
 constant-entry-spec =

@@ -25,13 +25,19 @@ instruction-entry-requires : tie.Need-instruction-entry-requires
 instruction-entry-requires c κs = search needs
 
 returns : tie.Need-returns
-returns c = subst (λ (k : Kind). EntryAt (c .before .before .before .before .args .edition) k (c .before .before .before .before .args .image .now) (c .before .before .before .before .args .at) (c .constant-entry .result)) (sym (c .before .enum-told .given .1)) (c .constant-entry .ensures)
+returns c =
+    let a = c .before .before .before .before .args in
+    subst (λ (k : Kind). EntryAt (a .edition) k (a .image .now) (a .at) (c .constant-entry .result)) (sym (c .before .enum-told .given .1)) (c .constant-entry .ensures)
 
 returns-2 : tie.Need-returns-2
-returns-2 c = subst (λ (k : Kind). EntryAt (c .before .before .before .before .args .edition) k (c .before .before .before .before .args .image .now) (c .before .before .before .before .args .at) (c .ere-entry .result)) (sym (c .before .enum-told2 .given .1)) (c .ere-entry .ensures)
+returns-2 c =
+    let a = c .before .before .before .before .args in
+    subst (λ (k : Kind). EntryAt (a .edition) k (a .image .now) (a .at) (c .ere-entry .result)) (sym (c .before .enum-told2 .given .1)) (c .ere-entry .ensures)
 
 returns-3 : tie.Need-returns-3
-returns-3 c = subst (λ (k : Kind). EntryAt (c .before .before .before .before .args .edition) k (c .before .before .before .before .args .image .now) (c .before .before .before .before .args .at) (c .instruction-entry .result)) (sym (c .before .enum-told3 .given .1)) (c .instruction-entry .ensures)
+returns-3 c =
+    let a = c .before .before .before .before .args in
+    subst (λ (k : Kind). EntryAt (a .edition) k (a .image .now) (a .at) (c .instruction-entry .result)) (sym (c .before .enum-told3 .given .1)) (c .instruction-entry .ensures)
 
 pub entry-at-spec : {M : Type 1} → statement M
 entry-at-spec =

@@ -16,7 +16,9 @@ no-entry-requires : tie.Need-no-entry-requires
 no-entry-requires c κs = search needs
 
 returns : tie.Need-returns
-returns c = entry-missing (c .before .before .before .before .before .args .edition) Eres (c .before .before .before .before .before .args .image .now) (c .before .before .before .before .before .args .at) _ (c .no-entry .ensures) (c .before .before .before .text-at .ensures .refused (not-true _ (c .before .if1 .taken)))
+returns c =
+    let a = c .before .before .before .before .before .args in
+    entry-missing (a .edition) Eres (a .image .now) (a .at) _ (c .no-entry .ensures) (c .before .before .before .text-at .ensures .refused (not-true _ (c .before .if1 .taken)))
 
 cast-place : tie.Need-cast-place
 cast-place c = search needs
@@ -42,16 +44,18 @@ no-entry-requires-2 c κs = search needs
 returns-2 : tie.Need-returns-2
 unfolding part
 returns-2 c =
+    let a = c .before .before .before .before .before .before .before .before .before .before .args in
     let y = c .before .before .before .before .before .before .before .before .text-at .ensures in
     let n = c .before .before .before .compile .ensures .refused (not-true _ (c .before .if2 .taken)) in
-    entry-unfit (c .before .before .before .before .before .before .before .before .before .before .args .edition) Eres (c .before .before .before .before .before .before .before .before .before .before .args .image .now) (c .before .before .before .before .before .before .before .before .before .before .args .at) _ (c .no-entry2 .ensures) _ _ (y .found (not-false _ (c .before .before .before .before .before .before .if1 .left))) (λ f. none-some (sym n ∙ f .1))
+    entry-unfit (a .edition) Eres (a .image .now) (a .at) _ (c .no-entry2 .ensures) _ _ (y .found (not-false _ (c .before .before .before .before .before .before .if1 .left))) (λ f. none-some (sym n ∙ f .1))
 
 returns-3 : tie.Need-returns-3
 unfolding part
 returns-3 c =
+    let a = c .before .before .before .before .before .before .before .before .before .args in
     let y = c .before .before .before .before .before .before .before .text-at .ensures .found (not-false _ (c .before .before .before .before .before .if1 .left)) in
     let e = c .before .before .compile .ensures .read (not-false _ (c .if2 .left)) in
-    entry-there (c .before .before .before .before .before .before .before .before .before .args .edition) Eres (c .before .before .before .before .before .before .before .before .before .args .image .now) (c .before .before .before .before .before .before .before .before .before .args .at) _ refl _ y (e .0, e .1) (_, y)
+    entry-there (a .edition) Eres (a .image .now) (a .at) _ refl _ y (e .0, e .1) (_, y)
 
 pub ere-entry-spec : {M : Type 1} → statement M
 ere-entry-spec =

@@ -25,10 +25,11 @@ no-entry-requires-2 c κs = search needs
 
 returns-2 : tie.Need-returns-2
 returns-2 c =
+    let b = c .before .before .before .before .before in
     let a = c .before .before .before .before .before .before .before .args in
-    let r = c .before .before .before .before .before .instruction-at .result in
+    let r = b .instruction-at .result in
     entry-unfit (a .edition) Instructions (a .image .now) (a .at) _ (c .no-entry2 .ensures) _ _
-    (c .before .before .before .before .before .instruction-at .ensures .found (not-false _ (c .before .before .before .if1 .left)))
+    (b .instruction-at .ensures .found (not-false _ (c .before .before .before .if1 .left)))
     (instruction-deep (a .edition) (r .code) (r .depth) (r .first) (r .second) (c .before .if2 .taken))
 
 no-entry-requires-3 : tie.Need-no-entry-requires-3
@@ -36,9 +37,10 @@ no-entry-requires-3 c κs = search needs
 
 returns-3 : tie.Need-returns-3
 returns-3 c =
+    let b = c .before .before .before .before .before .before .before in
     let a = c .before .before .before .before .before .before .before .before .before .args in
-    let r = c .before .before .before .before .before .before .before .instruction-at .result in
-    let y = c .before .before .before .before .before .before .before .instruction-at .ensures in
+    let r = b .instruction-at .result in
+    let y = b .instruction-at .ensures in
     let h = not-false _ (c .before .before .before .before .before .if1 .left) in
     entry-unfit (a .edition) Instructions (a .image .now) (a .at) _ (c .no-entry3 .ensures) _ _ (y .found h)
     (first-far (a .edition) (r .code) (r .depth) (r .first) (r .second) (y .no-first h) (c .before .if3 .taken))
@@ -48,9 +50,10 @@ no-entry-requires-4 c κs = search needs
 
 returns-4 : tie.Need-returns-4
 returns-4 c =
+    let b = c .before .before .before .before .before .before .before .before .before in
     let a = c .before .before .before .before .before .before .before .before .before .before .before .args in
-    let r = c .before .before .before .before .before .before .before .before .before .instruction-at .result in
-    let y = c .before .before .before .before .before .before .before .before .before .instruction-at .ensures in
+    let r = b .instruction-at .result in
+    let y = b .instruction-at .ensures in
     let h = not-false _ (c .before .before .before .before .before .before .before .if1 .left) in
     entry-unfit (a .edition) Instructions (a .image .now) (a .at) _ (c .no-entry4 .ensures) _ _ (y .found h)
     (second-far (a .edition) (r .code) (r .depth) (r .first) (r .second) (y .no-second h) (c .before .if4 .taken))
@@ -78,14 +81,17 @@ cast-t12 c = omega (arith, c .before .before .before .before .before .before .be
 
 returns-5 : tie.Need-returns-5
 returns-5 c =
+    let b = c .before .before .before .before .before .before .before .before .before .before .before .before in
+    let p = c .before .before .before .before .before .before .before .before in
+    let q = c .before .before .before .before .before .before in
     let a = c .before .before .before .before .before .before .before .before .before .before .before .before .before .before .args in
-    let r = c .before .before .before .before .before .before .before .before .before .before .before .before .instruction-at .result in
-    let y = c .before .before .before .before .before .before .before .before .before .before .before .before .instruction-at .ensures in
+    let r = b .instruction-at .result in
+    let y = b .instruction-at .ensures in
     let h = not-false _ (c .before .before .before .before .before .before .before .before .before .before .if1 .left) in
     entry-there (a .edition) Instructions (a .image .now) (a .at) _ refl _ (y .found h)
-    (instruction-fits (a .edition) (r .code) (r .depth) (r .first) (r .second) (c .before .before .before .before .before .before .before .before .if2 .left) (c .before .before .before .before .before .before .if3 .left) (c .before .before .before .before .if4 .left))
+    (instruction-fits (a .edition) (r .code) (r .depth) (r .first) (r .second) (p .if2 .left) (q .if3 .left) (c .before .before .before .before .if4 .left))
     (unpacked-packed (a .edition) (r .code) (r .depth) (r .first) (r .second) (omega (arith, y .known h, count-few (a .edition)))
-    (omega (arith, c .before .before .before .before .before .before .before .before .if2 .left)) (c .before .before .before .before .before .before .if3 .left))
+    (omega (arith, p .if2 .left)) (q .if3 .left))
 
 pub instruction-entry-spec : {M : Type 1} → statement M
 instruction-entry-spec =

@@ -54,15 +54,18 @@ pops-requires c κs = search needs
 
 returns-5 : tie.Need-returns-5
 returns-5 c =
+    let b = c .before .before .before .before .before .before .before .before .before .before .before .before in
     let known = was-true (c .before .before .before .before .before .before .before .before .before .before .if1 .left) (c .before .before .before .before .before .before .before .before .before .before .before .known-code .ensures) in
     let first = was-true (c .before .before .before .before .before .before .before .if2 .left) (c .before .before .before .before .before .before .before .before .exists .ensures) in
     let second = was-true (c .before .before .before .before .before .if3 .left) (c .before .before .before .before .before .before .exists2 .ensures) in
     let placed = was-true (c .before .before .before .if4 .left) (c .before .before .before .before .check-position .ensures) in
-    judged-as _ _ _ _ _ (c .before .before .before .before .before .before .before .before .before .before .before .before .instruction .ensures) (c .before .before .before .before .before .before .before .before .before .row .ensures) (c .before .before .pops .ensures) known first second placed
-    (sym (lt-leb (c .before .before .pops .result) (c .before .before .before .before .before .before .before .before .before .before .before .before .instruction .result .depth) (c .if5 .taken))) refl refl
+    judged-as _ _ _ _ _ (b .instruction .ensures) (c .before .before .before .before .before .before .before .before .before .row .ensures) (c .before .before .pops .ensures) known first second placed
+    (sym (lt-leb (c .before .before .pops .result) (b .instruction .result .depth) (c .if5 .taken))) refl refl
 
 add-after : tie.Need-add-after
-add-after c = omega (arith, depth-small (getD (c .before .before .before .before .before .before .before .before .before .before .before .before .before .before .before .args .index .now) (c .before .before .before .before .before .before .before .before .before .before .before .before .before .before .before .args .n) 0) (c .before .before .before .before .before .before .before .before .before .before .before .before .before .instruction .ensures))
+add-after c =
+    let a = c .before .before .before .before .before .before .before .before .before .before .before .before .before .before .before .args in
+    omega (arith, depth-small (getD (a .index .now) (a .n) 0) (c .before .before .before .before .before .before .before .before .before .before .before .before .before .instruction .ensures))
 
 check-successors-requires : tie.Need-check-successors-requires
 check-successors-requires c κs = search needs
@@ -72,21 +75,25 @@ allowed-requires c κs = search needs
 
 returns-6 : tie.Need-returns-6
 returns-6 c =
+    let b = c .before .before .before .before .before .before .before .before .before .before .before .before .before .before .before .before in
+    let p = c .before .before .before .before .before .before in
     let known = was-true (c .before .before .before .before .before .before .before .before .before .before .before .before .before .before .if1 .left) (c .before .before .before .before .before .before .before .before .before .before .before .before .before .before .before .known-code .ensures) in
     let first = was-true (c .before .before .before .before .before .before .before .before .before .before .before .if2 .left) (c .before .before .before .before .before .before .before .before .before .before .before .before .exists .ensures) in
     let second = was-true (c .before .before .before .before .before .before .before .before .before .if3 .left) (c .before .before .before .before .before .before .before .before .before .before .exists2 .ensures) in
     let placed = was-true (c .before .before .before .before .before .before .before .if4 .left) (c .before .before .before .before .before .before .before .before .check-position .ensures) in
-    judged-as _ _ _ _ _ (c .before .before .before .before .before .before .before .before .before .before .before .before .before .before .before .before .instruction .ensures) (c .before .before .before .before .before .before .before .before .before .before .before .before .before .row .ensures) (c .before .before .before .before .before .before .pops .ensures) known first second placed
-    (sym (le-leb (c .before .before .before .before .before .before .pops .result) (c .before .before .before .before .before .before .before .before .before .before .before .before .before .before .before .before .instruction .result .depth) (c .before .before .before .before .if5 .left))) (sym (c .before .if6 .taken) ∙ c .before .before .check-successors .ensures) (c .allowed .ensures)
+    judged-as _ _ _ _ _ (b .instruction .ensures) (c .before .before .before .before .before .before .before .before .before .before .before .before .before .row .ensures) (p .pops .ensures) known first second placed
+    (sym (le-leb (p .pops .result) (b .instruction .result .depth) (c .before .before .before .before .if5 .left))) (sym (c .before .if6 .taken) ∙ c .before .before .check-successors .ensures) (c .allowed .ensures)
 
 returns-7 : tie.Need-returns-7
 returns-7 c =
+    let b = c .before .before .before .before .before .before .before .before .before .before .before .before .before .before .before in
+    let p = c .before .before .before .before .before in
     let known = was-true (c .before .before .before .before .before .before .before .before .before .before .before .before .before .if1 .left) (c .before .before .before .before .before .before .before .before .before .before .before .before .before .before .known-code .ensures) in
     let first = was-true (c .before .before .before .before .before .before .before .before .before .before .if2 .left) (c .before .before .before .before .before .before .before .before .before .before .before .exists .ensures) in
     let second = was-true (c .before .before .before .before .before .before .before .before .if3 .left) (c .before .before .before .before .before .before .before .before .before .exists2 .ensures) in
     let placed = was-true (c .before .before .before .before .before .before .if4 .left) (c .before .before .before .before .before .before .before .check-position .ensures) in
-    c .if6 .left ∙ judged-as _ _ _ _ _ (c .before .before .before .before .before .before .before .before .before .before .before .before .before .before .before .instruction .ensures) (c .before .before .before .before .before .before .before .before .before .before .before .before .row .ensures) (c .before .before .before .before .before .pops .ensures) known first second placed
-    (sym (le-leb (c .before .before .before .before .before .pops .result) (c .before .before .before .before .before .before .before .before .before .before .before .before .before .before .before .instruction .result .depth) (c .before .before .before .if5 .left))) (sym (c .if6 .left) ∙ c .before .check-successors .ensures) refl
+    c .if6 .left ∙ judged-as _ _ _ _ _ (b .instruction .ensures) (c .before .before .before .before .before .before .before .before .before .before .before .before .row .ensures) (p .pops .ensures) known first second placed
+    (sym (le-leb (p .pops .result) (b .instruction .result .depth) (c .before .before .before .if5 .left))) (sym (c .if6 .left) ∙ c .before .check-successors .ensures) refl
 
 pub check-instruction-spec : {M : Type 1} → statement M
 check-instruction-spec =

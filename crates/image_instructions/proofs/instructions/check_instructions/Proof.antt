@@ -19,7 +19,9 @@ check-instruction-requires : tie.Need-check-instruction-requires Inv-loop μ-loo
 check-instruction-requires c κs = (c .before .before .before .pre .0, c .loop-test .taken, c .before .before .before .pre .1)
 
 returns : tie.Need-returns Inv-loop μ-loop
-returns c = reached-fail (c .before .before .before .before .before .args .context) (c .before .before .before .before .before .args .index .now) (c .before .before .before .before .before .args .count) (c .before .before .before .loop .n) (c .before .before .before .loop .inv .1) (c .before .before .loop-test .taken) (c .before .before .before .before .before .pre .0) (was-false (c .if1 .taken) (c .before .check-instruction .ensures))
+returns c =
+    let a = c .before .before .before .before .before .args in
+    reached-fail (a .context) (a .index .now) (a .count) (c .before .before .before .loop .n) (c .before .before .before .loop .inv .1) (c .before .before .loop-test .taken) (c .before .before .before .before .before .pre .0) (was-false (c .if1 .taken) (c .before .check-instruction .ensures))
 
 add-n : tie.Need-add-n Inv-loop μ-loop
 add-n c = omega arith
@@ -28,7 +30,9 @@ loop-less : tie.Need-loop-less Inv-loop μ-loop
 loop-less c = omega arith
 
 loop-again : tie.Need-loop-again Inv-loop μ-loop
-loop-again c = (omega arith, reached-more (c .before .before .before .before .before .args .context) (c .before .before .before .before .before .args .index .now) (c .before .before .before .before .before .args .count) (c .before .before .before .loop .n) (c .before .before .before .loop .inv .1) (c .before .before .loop-test .taken) (c .before .before .before .before .before .pre .0) (was-true (c .if1 .left) (c .before .check-instruction .ensures)))
+loop-again c =
+    let a = c .before .before .before .before .before .args in
+    (omega arith, reached-more (a .context) (a .index .now) (a .count) (c .before .before .before .loop .n) (c .before .before .before .loop .inv .1) (c .before .before .loop-test .taken) (c .before .before .before .before .before .pre .0) (was-true (c .if1 .left) (c .before .check-instruction .ensures)))
 
 returns-2 : tie.Need-returns-2 Inv-loop μ-loop
 returns-2 c = reached-end (c .before .before .before .args .context) (c .before .before .before .args .index .now) (c .before .before .before .args .count) (c .before .loop .n) (c .before .loop .inv .1) (c .loop-test .left)

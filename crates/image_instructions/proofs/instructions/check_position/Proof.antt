@@ -25,10 +25,14 @@ zero-if-requires-2 : tie.Need-zero-if-requires-2
 zero-if-requires-2 c κs = search needs
 
 returns-3 : tie.Need-returns-3
-returns-3 c = placed-as (c .before .before .before .before .before .before .args .context) (c .before .before .before .before .before .before .args .count) (c .before .before .before .before .before .before .args .n) (c .before .before .before .before .before .before .args .code) (c .before .before .before .before .before .before .args .depth) (c .before .before .before .before .before .if1 .left) (was-true (c .before .before .before .if2 .left) (c .before .before .before .before .zero-if .ensures)) (c .before .before .terminates .ensures) (was-false (c .if3 .taken) (c .before .zero-if2 .ensures))
+returns-3 c =
+    let a = c .before .before .before .before .before .before .args in
+    placed-as (a .context) (a .count) (a .n) (a .code) (a .depth) (c .before .before .before .before .before .if1 .left) (was-true (c .before .before .before .if2 .left) (c .before .before .before .before .zero-if .ensures)) (c .before .before .terminates .ensures) (was-false (c .if3 .taken) (c .before .zero-if2 .ensures))
 
 returns-4 : tie.Need-returns-4
-returns-4 c = placed-as (c .before .before .before .before .before .before .args .context) (c .before .before .before .before .before .before .args .count) (c .before .before .before .before .before .before .args .n) (c .before .before .before .before .before .before .args .code) (c .before .before .before .before .before .before .args .depth) (c .before .before .before .before .before .if1 .left) (was-true (c .before .before .before .if2 .left) (c .before .before .before .before .zero-if .ensures)) (c .before .before .terminates .ensures) (was-true (c .if3 .left) (c .before .zero-if2 .ensures))
+returns-4 c =
+    let a = c .before .before .before .before .before .before .args in
+    placed-as (a .context) (a .count) (a .n) (a .code) (a .depth) (c .before .before .before .before .before .if1 .left) (was-true (c .before .before .before .if2 .left) (c .before .before .before .before .zero-if .ensures)) (c .before .before .terminates .ensures) (was-true (c .if3 .left) (c .before .zero-if2 .ensures))
 
 pub check-position-spec : {M : Type 1} → statement M
 check-position-spec =

@@ -28,16 +28,22 @@ has-depth-requires-2 : tie.Need-has-depth-requires-2
 has-depth-requires-2 c κs = search needs
 
 returns-3 : tie.Need-returns-3
-returns-3 c = leads-as (c .before .before .before .before .before .before .args .context) (c .before .before .before .before .before .before .args .count) (hasDepth (c .before .before .before .before .before .before .args .index .now) (c .before .before .before .before .before .before .args .count)) (c .before .before .before .before .before .before .args .n) (c .before .before .before .before .before .before .args .code) (c .before .before .before .before .before .before .args .v) (c .before .before .before .before .before .before .args .after) false _ (sym (c .before .before .before .before .terminates .ensures) ∙ c .before .before .before .if1 .left) (ne-eqb (c .before .before .before .before .before .before .args .code) 27 (c .before .before .if2 .left)) (was-false (c .if3 .taken) (c .before .has-depth2 .ensures)) refl
+returns-3 c =
+    let a = c .before .before .before .before .before .before .args in
+    leads-as (a .context) (a .count) (hasDepth (a .index .now) (a .count)) (a .n) (a .code) (a .v) (a .after) false _ (sym (c .before .before .before .before .terminates .ensures) ∙ c .before .before .before .if1 .left) (ne-eqb (a .code) 27 (c .before .before .if2 .left)) (was-false (c .if3 .taken) (c .before .has-depth2 .ensures)) refl
 
 has-depth-requires-3 : tie.Need-has-depth-requires-3
 has-depth-requires-3 c κs = search needs
 
 returns-4 : tie.Need-returns-4
-returns-4 c = leads-as (c .before .before .before .before .before .before .before .before .args .context) (c .before .before .before .before .before .before .before .before .args .count) (hasDepth (c .before .before .before .before .before .before .before .before .args .index .now) (c .before .before .before .before .before .before .before .before .args .count)) (c .before .before .before .before .before .before .before .before .args .n) (c .before .before .before .before .before .before .before .before .args .code) (c .before .before .before .before .before .before .before .before .args .v) (c .before .before .before .before .before .before .before .before .args .after) true (c .has-depth3 .result) (sym (c .before .before .before .before .before .before .terminates .ensures) ∙ c .before .before .before .before .before .if1 .left) (ne-eqb (c .before .before .before .before .before .before .before .before .args .code) 27 (c .before .before .before .before .if2 .left)) (was-true (c .before .before .if3 .left) (c .before .before .before .has-depth2 .ensures)) (rw (eq-eqb (c .before .before .before .before .before .before .before .before .args .code) 28 (c .before .if4 .taken), and-true) (c .has-depth3 .ensures))
+returns-4 c =
+    let a = c .before .before .before .before .before .before .before .before .args in
+    leads-as (a .context) (a .count) (hasDepth (a .index .now) (a .count)) (a .n) (a .code) (a .v) (a .after) true (c .has-depth3 .result) (sym (c .before .before .before .before .before .before .terminates .ensures) ∙ c .before .before .before .before .before .if1 .left) (ne-eqb (a .code) 27 (c .before .before .before .before .if2 .left)) (was-true (c .before .before .if3 .left) (c .before .before .before .has-depth2 .ensures)) (rw (eq-eqb (a .code) 28 (c .before .if4 .taken), and-true) (c .has-depth3 .ensures))
 
 returns-5 : tie.Need-returns-5
-returns-5 c = leads-as (c .before .before .before .before .before .before .before .args .context) (c .before .before .before .before .before .before .before .args .count) (hasDepth (c .before .before .before .before .before .before .before .args .index .now) (c .before .before .before .before .before .before .before .args .count)) (c .before .before .before .before .before .before .before .args .n) (c .before .before .before .before .before .before .before .args .code) (c .before .before .before .before .before .before .before .args .v) (c .before .before .before .before .before .before .before .args .after) true true (sym (c .before .before .before .before .before .terminates .ensures) ∙ c .before .before .before .before .if1 .left) (ne-eqb (c .before .before .before .before .before .before .before .args .code) 27 (c .before .before .before .if2 .left)) (was-true (c .before .if3 .left) (c .before .before .has-depth2 .ensures)) (rw (ne-eqb (c .before .before .before .before .before .before .before .args .code) 28 (c .if4 .left)))
+returns-5 c =
+    let a = c .before .before .before .before .before .before .before .args in
+    leads-as (a .context) (a .count) (hasDepth (a .index .now) (a .count)) (a .n) (a .code) (a .v) (a .after) true true (sym (c .before .before .before .before .before .terminates .ensures) ∙ c .before .before .before .before .if1 .left) (ne-eqb (a .code) 27 (c .before .before .before .if2 .left)) (was-true (c .before .if3 .left) (c .before .before .has-depth2 .ensures)) (rw (ne-eqb (a .code) 28 (c .if4 .left)))
 
 pub check-successors-spec : {M : Type 1} → statement M
 check-successors-spec =

@@ -41,8 +41,9 @@ assignable-requires c κs = search needs
 
 returns-6 : tie.Need-returns-6
 returns-6 c =
-    let k = c .before .before .before .before .before .before .before .before .before .args .names in
-    let v = c .before .before .before .before .before .before .before .before .before .args .v in
+    let a = c .before .before .before .before .before .before .before .before .before .args in
+    let k = a .names in
+    let v = a .v in
     let n = c .before .before .variables2 .result in
     rw (
       ne-eqb k 1 (c .before .before .before .before .before .before .before .before .if1 .left),
@@ -58,8 +59,9 @@ returns-6 c =
 
 returns-7 : tie.Need-returns-7
 returns-7 c =
-    let k = c .before .before .before .before .before .before .before .before .args .names in
-    let v = c .before .before .before .before .before .before .before .before .args .v in
+    let a = c .before .before .before .before .before .before .before .before .args in
+    let k = a .names in
+    let v = a .v in
     let n = c .before .variables2 .result in
     rw (
       ne-eqb k 1 (c .before .before .before .before .before .before .before .if1 .left),

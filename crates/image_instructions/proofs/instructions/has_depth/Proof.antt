@@ -12,7 +12,9 @@ instruction-requires : tie.Need-instruction-requires
 instruction-requires c κs = search needs
 
 returns-2 : tie.Need-returns-2
-returns-2 c = rw (lt-ltb (c .before .before .before .before .args .m) (c .before .before .before .before .args .count) (omega (arith, c .before .before .if1 .left)), c .before .instruction .ensures)
+returns-2 c =
+    let a = c .before .before .before .before .args in
+    rw (lt-ltb (a .m) (a .count) (omega (arith, c .before .before .if1 .left)), c .before .instruction .ensures)
 
 pub has-depth-spec : {M : Type 1} → statement M
 has-depth-spec = tie.close (tie.spec returns instruction-requires returns-2)

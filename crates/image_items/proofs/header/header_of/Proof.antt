@@ -20,7 +20,9 @@ no-header-requires : tie.Need-no-header-requires
 no-header-requires c κs = search needs
 
 returns : tie.Need-returns
-returns c = edition-missing (c .before .before .before .before .before .args .image .now) _ (c .no-header .ensures) (subst (TakesAt (c .before .before .before .before .before .args .image .now) 0) (c .before .enum-told .given .1) (c .before .before .before .take-number .ensures))
+returns c =
+    let a = c .before .before .before .before .before .args in
+    edition-missing (a .image .now) _ (c .no-header .ensures) (subst (TakesAt (a .image .now) 0) (c .before .enum-told .given .1) (c .before .before .before .take-number .ensures))
 
 known-edition-requires : tie.Need-known-edition-requires
 known-edition-requires c κs = search needs
@@ -29,7 +31,9 @@ no-header-requires-2 : tie.Need-no-header-requires-2
 no-header-requires-2 c κs = search needs
 
 returns-2 : tie.Need-returns-2
-returns-2 c = edition-unknown (c .before .before .before .before .before .before .before .before .args .image .now) _ _ (subst (TakesAt (c .before .before .before .before .before .before .before .before .args .image .now) 0) (c .before .before .before .before .edition .given .1) (c .before .before .before .before .before .before .take-number .ensures)) _ (c .no-header2 .ensures) (sym (was-false (c .before .if1 .taken) (c .before .before .known-edition .ensures)))
+returns-2 c =
+    let a = c .before .before .before .before .before .before .before .before .args in
+    edition-unknown (a .image .now) _ _ (subst (TakesAt (a .image .now) 0) (c .before .before .before .before .edition .given .1) (c .before .before .before .before .before .before .take-number .ensures)) _ (c .no-header2 .ensures) (sym (was-false (c .before .if1 .taken) (c .before .before .known-edition .ensures)))
 
 take-number-requires-2 : tie.Need-take-number-requires-2
 take-number-requires-2 c κs = subst (TakesAt (c .before .before .before .before .before .before .before .args .image .now) 0) (c .before .before .before .edition .given .1) (c .before .before .before .before .before .take-number .ensures) .2
@@ -44,10 +48,14 @@ no-header-requires-3 : tie.Need-no-header-requires-3
 no-header-requires-3 c κs = search needs
 
 returns-3 : tie.Need-returns-3
-returns-3 c = users-missing (c .before .before .before .before .before .before .before .before .before .before .before .args .image .now) _ _ (subst (TakesAt (c .before .before .before .before .before .before .before .before .before .before .before .args .image .now) 0) (c .before .before .before .before .before .before .before .edition .given .1) (c .before .before .before .before .before .before .before .before .before .take-number .ensures)) _ (c .no-header3 .ensures) (subst (TakesAt (c .before .before .before .before .before .before .before .before .before .before .before .args .image .now) _) (c .before .enum-told2 .given .1) (c .before .before .before .take-number2 .ensures))
+returns-3 c =
+    let a = c .before .before .before .before .before .before .before .before .before .before .before .args in
+    users-missing (a .image .now) _ _ (subst (TakesAt (a .image .now) 0) (c .before .before .before .before .before .before .before .edition .given .1) (c .before .before .before .before .before .before .before .before .before .take-number .ensures)) _ (c .no-header3 .ensures) (subst (TakesAt (a .image .now) _) (c .before .enum-told2 .given .1) (c .before .before .before .take-number2 .ensures))
 
 returns-4 : tie.Need-returns-4
-returns-4 c = header-there (c .before .before .before .before .before .before .before .before .before .before .before .args .image .now) _ _ (subst (TakesAt (c .before .before .before .before .before .before .before .before .before .before .before .args .image .now) 0) (c .before .before .before .before .before .before .before .edition .given .1) (c .before .before .before .before .before .before .before .before .before .take-number .ensures)) (sym (was-true (c .before .before .before .before .if1 .left) (c .before .before .before .before .before .known-edition .ensures))) _ _ (subst (TakesAt (c .before .before .before .before .before .before .before .before .before .before .before .args .image .now) _) (c .before .users .given .1) (c .before .before .before .take-number2 .ensures))
+returns-4 c =
+    let a = c .before .before .before .before .before .before .before .before .before .before .before .args in
+    header-there (a .image .now) _ _ (subst (TakesAt (a .image .now) 0) (c .before .before .before .before .before .before .before .edition .given .1) (c .before .before .before .before .before .before .before .before .before .take-number .ensures)) (sym (was-true (c .before .before .before .before .if1 .left) (c .before .before .before .before .before .known-edition .ensures))) _ _ (subst (TakesAt (a .image .now) _) (c .before .users .given .1) (c .before .before .before .take-number2 .ensures))
 
 pub header-of-spec : {M : Type 1} → statement M
 header-of-spec =

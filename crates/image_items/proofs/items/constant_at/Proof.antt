@@ -21,31 +21,40 @@ no-constant-requires : tie.Need-no-constant-requires
 no-constant-requires c κs = search needs
 
 returns : tie.Need-returns
-returns c = constant-none (c .before .before .before .before .before .args .image .now) (c .before .before .before .before .before .args .at) _ (c .no-constant .ensures) (on (constantOf fromBytes) (subst (TakesAt (c .before .before .before .before .before .args .image .now) (c .before .before .before .before .before .args .at)) (c .before .enum-told .given .1) (c .before .before .before .take-number .ensures)))
+returns c =
+    let a = c .before .before .before .before .before .args in
+    constant-none (a .image .now) (a .at) _ (c .no-constant .ensures) (on (constantOf fromBytes) (subst (TakesAt (a .image .now) (a .at)) (c .before .enum-told .given .1) (c .before .before .before .take-number .ensures)))
 
 number-at-requires : tie.Need-number-at-requires
-number-at-requires c κs = subst (TakesAt (c .before .before .before .before .before .before .args .image .now) (c .before .before .before .before .before .before .args .at)) (c .before .before .kind .given .1) (c .before .before .before .before .take-number .ensures) .2
+number-at-requires c κs =
+    let a = c .before .before .before .before .before .before .args in
+    subst (TakesAt (a .image .now) (a .at)) (c .before .before .kind .given .1) (c .before .before .before .before .take-number .ensures) .2
 
 returns-2 : tie.Need-returns-2
 returns-2 c =
-    let t = subst (TakesAt (c .before .before .before .before .before .before .before .args .image .now) (c .before .before .before .before .before .before .before .args .at)) (c .before .before .before .kind .given .1) (c .before .before .before .before .before .take-number .ensures) in
-    kind-number (c .before .before .before .before .before .before .before .args .image .now) (c .before .before .before .before .before .before .before .args .at) _ _ t (c .before .if1 .taken) _ (c .number-at .ensures)
+    let a = c .before .before .before .before .before .before .before .args in
+    let t = subst (TakesAt (a .image .now) (a .at)) (c .before .before .before .kind .given .1) (c .before .before .before .before .before .take-number .ensures) in
+    kind-number (a .image .now) (a .at) _ _ t (c .before .if1 .taken) _ (c .number-at .ensures)
 
 no-constant-requires-2 : tie.Need-no-constant-requires-2
 no-constant-requires-2 c κs = search needs
 
 returns-3 : tie.Need-returns-3
 returns-3 c =
-    let t = subst (TakesAt (c .before .before .before .before .before .before .before .before .args .image .now) (c .before .before .before .before .before .before .before .before .args .at)) (c .before .before .before .before .kind .given .1) (c .before .before .before .before .before .before .take-number .ensures) in
-    constant-none (c .before .before .before .before .before .before .before .before .args .image .now) (c .before .before .before .before .before .before .before .before .args .at) _ (c .no-constant2 .ensures) (kind-unknown (c .before .before .before .before .before .before .before .before .args .image .now) (c .before .before .before .before .before .before .before .before .args .at) _ _ t (c .before .before .if1 .left) (c .before .if2 .taken))
+    let a = c .before .before .before .before .before .before .before .before .args in
+    let t = subst (TakesAt (a .image .now) (a .at)) (c .before .before .before .before .kind .given .1) (c .before .before .before .before .before .before .take-number .ensures) in
+    constant-none (a .image .now) (a .at) _ (c .no-constant2 .ensures) (kind-unknown (a .image .now) (a .at) _ _ t (c .before .before .if1 .left) (c .before .if2 .taken))
 
 text-at-requires : tie.Need-text-at-requires
-text-at-requires c κs = subst (TakesAt (c .before .before .before .before .before .before .before .args .image .now) (c .before .before .before .before .before .before .before .args .at)) (c .before .before .before .kind .given .1) (c .before .before .before .before .before .take-number .ensures) .2
+text-at-requires c κs =
+    let a = c .before .before .before .before .before .before .before .args in
+    subst (TakesAt (a .image .now) (a .at)) (c .before .before .before .kind .given .1) (c .before .before .before .before .before .take-number .ensures) .2
 
 returns-4 : tie.Need-returns-4
 returns-4 c =
-    let t = subst (TakesAt (c .before .before .before .before .before .before .before .before .args .image .now) (c .before .before .before .before .before .before .before .before .args .at)) (c .before .before .before .before .kind .given .1) (c .before .before .before .before .before .before .take-number .ensures) in
-    kind-text (c .before .before .before .before .before .before .before .before .args .image .now) (c .before .before .before .before .before .before .before .before .args .at) _ _ t (c .before .if2 .left) _ (c .text-at .ensures)
+    let a = c .before .before .before .before .before .before .before .before .args in
+    let t = subst (TakesAt (a .image .now) (a .at)) (c .before .before .before .before .kind .given .1) (c .before .before .before .before .before .before .take-number .ensures) in
+    kind-text (a .image .now) (a .at) _ _ t (c .before .if2 .left) _ (c .text-at .ensures)
 
 pub constant-at-spec : {M : Type 1} → statement M
 constant-at-spec =

@@ -19,10 +19,14 @@ no-constant-requires : tie.Need-no-constant-requires
 no-constant-requires c κs = search needs
 
 returns : tie.Need-returns
-returns c = number-none (c .before .before .before .before .before .args .image .now) (c .before .before .before .before .before .args .at) _ (c .no-constant .ensures) (subst (TakesAt (c .before .before .before .before .before .args .image .now) (c .before .before .before .before .before .args .at)) (c .before .enum-told .given .1) (c .before .before .before .take-number .ensures))
+returns c =
+    let a = c .before .before .before .before .before .args in
+    number-none (a .image .now) (a .at) _ (c .no-constant .ensures) (subst (TakesAt (a .image .now) (a .at)) (c .before .enum-told .given .1) (c .before .before .before .take-number .ensures))
 
 returns-2 : tie.Need-returns-2
-returns-2 c = number-there (c .before .before .before .before .before .args .image .now) (c .before .before .before .before .before .args .at) _ _ (subst (TakesAt (c .before .before .before .before .before .args .image .now) (c .before .before .before .before .before .args .at)) (c .before .value .given .1) (c .before .before .before .take-number .ensures))
+returns-2 c =
+    let a = c .before .before .before .before .before .args in
+    number-there (a .image .now) (a .at) _ _ (subst (TakesAt (a .image .now) (a .at)) (c .before .value .given .1) (c .before .before .before .take-number .ensures))
 
 pub number-at-spec : {M : Type 1} → statement M
 number-at-spec =

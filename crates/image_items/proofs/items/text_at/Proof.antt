@@ -22,26 +22,32 @@ no-text-requires : tie.Need-no-text-requires
 no-text-requires c κs = search needs
 
 returns : tie.Need-returns
-returns c = text-none (c .before .before .before .before .before .args .image .now) (c .before .before .before .before .before .args .at) _ (c .no-text .ensures) (on (many (wordUpTo 255)) (subst (TakesAt (c .before .before .before .before .before .args .image .now) (c .before .before .before .before .before .args .at)) (c .before .enum-told .given .1) (c .before .before .before .take-number .ensures)))
+returns c =
+    let a = c .before .before .before .before .before .args in
+    text-none (a .image .now) (a .at) _ (c .no-text .ensures) (on (many (wordUpTo 255)) (subst (TakesAt (a .image .now) (a .at)) (c .before .enum-told .given .1) (c .before .before .before .take-number .ensures)))
 
 sub-left : tie.Need-sub-left
-sub-left c = subst (TakesAt (c .before .before .before .before .before .args .image .now) (c .before .before .before .before .before .args .at)) (c .before .n .given .1) (c .before .before .before .take-number .ensures) .2
+sub-left c =
+    let a = c .before .before .before .before .before .args in
+    subst (TakesAt (a .image .now) (a .at)) (c .before .n .given .1) (c .before .before .before .take-number .ensures) .2
 
 no-text-requires-2 : tie.Need-no-text-requires-2
 no-text-requires-2 c κs = search needs
 
 returns-2 : tie.Need-returns-2
 returns-2 c =
-    let t = subst (TakesAt (c .before .before .before .before .before .before .before .args .image .now) (c .before .before .before .before .before .before .before .args .at)) (c .before .before .before .n .given .1) (c .before .before .before .before .before .take-number .ensures) in
-    text-none (c .before .before .before .before .before .before .before .args .image .now) (c .before .before .before .before .before .before .before .args .at) _ (c .no-text2 .ensures) (text-short (c .before .before .before .before .before .before .before .args .image .now) (c .before .before .before .before .before .before .before .args .at) _ _ t (λ i h. c .before .before .before .before .before .before .shared-slice-known .given i .fits) (c .before .if1 .taken))
+    let a = c .before .before .before .before .before .before .before .args in
+    let t = subst (TakesAt (a .image .now) (a .at)) (c .before .before .before .n .given .1) (c .before .before .before .before .before .take-number .ensures) in
+    text-none (a .image .now) (a .at) _ (c .no-text2 .ensures) (text-short (a .image .now) (a .at) _ _ t (λ i h. c .before .before .before .before .before .before .shared-slice-known .given i .fits) (c .before .if1 .taken))
 
 add-t10 : tie.Need-add-t10
 add-t10 c = search needs
 
 returns-3 : tie.Need-returns-3
 returns-3 c =
-    let t = subst (TakesAt (c .before .before .before .before .before .before .args .image .now) (c .before .before .before .before .before .before .args .at)) (c .before .before .n .given .1) (c .before .before .before .before .take-number .ensures) in
-    text-there (c .before .before .before .before .before .before .args .image .now) (c .before .before .before .before .before .before .args .at) _ _ t (λ i h. c .before .before .before .before .before .shared-slice-known .given i .fits) (c .if1 .left)
+    let a = c .before .before .before .before .before .before .args in
+    let t = subst (TakesAt (a .image .now) (a .at)) (c .before .before .n .given .1) (c .before .before .before .before .take-number .ensures) in
+    text-there (a .image .now) (a .at) _ _ t (λ i h. c .before .before .before .before .before .shared-slice-known .given i .fits) (c .if1 .left)
 
 pub text-at-spec : {M : Type 1} → statement M
 text-at-spec =

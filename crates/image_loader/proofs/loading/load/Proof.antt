@@ -33,7 +33,9 @@ same-length : tie.Need-same-length
 same-length c = search needs
 
 returns-3 : tie.Need-returns-3
-returns-3 c = λ i r k. never (not-true _ (c .before .if3 .taken)) (constants-walked (c .before .before .before .before .before .before .before .before .before .before .before .before .before .before .before .before .before .args .image .now) (c .before .before .before .before .before .before .before .before .before .header-of .result) (c .before .before .before .before .before .before .before .before .before .header-of .ensures) _ _ (c .before .before .before .before .before .list-at .ensures) i r k .there)
+returns-3 c =
+    let b = c .before .before .before .before .before .before .before .before .before in
+    λ i r k. never (not-true _ (c .before .if3 .taken)) (constants-walked (c .before .before .before .before .before .before .before .before .before .before .before .before .before .before .before .before .before .args .image .now) (b .header-of .result) (b .header-of .ensures) _ _ (c .before .before .before .before .before .list-at .ensures) i r k .there)
 
 list-at-requires-2 : tie.Need-list-at-requires-2
 list-at-requires-2 c κs = (c .before .before .before .before .before .list-at .ensures .found (not-false _ (c .before .if3 .left)) .1 .inside, c .before .before .before .before .before .before .before .before .before .before .if1 .left)
@@ -48,7 +50,9 @@ same-length-3 : tie.Need-same-length-3
 same-length-3 c = search needs
 
 returns-4 : tie.Need-returns-4
-returns-4 c = λ i r k. never (not-true _ (c .before .if4 .taken)) (eres-walked (c .before .before .before .before .before .before .before .before .before .before .before .before .before .before .before .before .before .before .before .before .before .before .before .args .image .now) (c .before .before .before .before .before .before .before .before .before .before .before .before .before .before .before .header-of .result) (c .before .before .before .before .before .before .before .before .before .before .before .before .before .before .before .header-of .ensures) _ _ (c .before .before .before .before .before .before .before .before .before .before .before .list-at .ensures) _ _ (c .before .before .before .before .before .list-at2 .ensures) i r k .there)
+returns-4 c =
+    let b = c .before .before .before .before .before .before .before .before .before .before .before .before .before .before .before in
+    λ i r k. never (not-true _ (c .before .if4 .taken)) (eres-walked (c .before .before .before .before .before .before .before .before .before .before .before .before .before .before .before .before .before .before .before .before .before .before .before .args .image .now) (b .header-of .result) (b .header-of .ensures) _ _ (c .before .before .before .before .before .before .before .before .before .before .before .list-at .ensures) _ _ (c .before .before .before .before .before .list-at2 .ensures) i r k .there)
 
 sections-requires : tie.Need-sections-requires
 sections-requires c κs = (c .before .before .before .before .before .before .before .list-at2 .ensures .found (not-false _ (c .before .before .before .if4 .left)) .1 .inside, c .before .before .before .before .before .before .before .before .before .before .before .before .before .before .before .before .before .before .if1 .left)
@@ -69,7 +73,9 @@ same-length-8 : tie.Need-same-length-8
 same-length-8 c = search needs
 
 returns-5 : tie.Need-returns-5
-returns-5 c = image-loaded (c .before .before .before .before .before .before .before .before .before .before .before .before .before .before .before .before .before .before .before .before .before .before .before .before .before .before .before .before .before .before .before .before .args .image .now) (c .before .before .before .before .before .before .before .before .before .before .before .before .before .before .before .before .before .before .before .before .before .before .before .before .header-of .result) (c .before .before .before .before .before .before .before .before .before .before .before .before .before .before .before .before .before .before .before .before .before .before .before .before .header-of .ensures) _ _ (c .before .before .before .before .before .before .before .before .before .before .before .before .before .before .before .before .before .before .before .before .list-at .ensures) _ _ (c .before .before .before .before .before .before .before .before .before .before .before .before .before .before .list-at2 .ensures) _ _ _ _ (c .before .before .before .before .before .before .sections .ensures)
+returns-5 c =
+    let b = c .before .before .before .before .before .before .before .before .before .before .before .before .before .before .before .before .before .before .before .before .before .before .before .before in
+    image-loaded (c .before .before .before .before .before .before .before .before .before .before .before .before .before .before .before .before .before .before .before .before .before .before .before .before .before .before .before .before .before .before .before .before .args .image .now) (b .header-of .result) (b .header-of .ensures) _ _ (c .before .before .before .before .before .before .before .before .before .before .before .before .before .before .before .before .before .before .before .before .list-at .ensures) _ _ (c .before .before .before .before .before .before .before .before .before .before .before .before .before .before .list-at2 .ensures) _ _ _ _ (c .before .before .before .before .before .before .sections .ensures)
 
 pub load-spec : {M : Type 1} → statement M
 load-spec =

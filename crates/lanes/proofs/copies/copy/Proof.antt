@@ -46,7 +46,9 @@ loop-less c = omega arith
 
 loop-again : tie.Need-loop-again Inv-loop μ-loop
 loop-again c =
-    (omega arith, c .before .before .copy-16 .ensures ∙ block-more (c .before .before .before .before .before .before .before .before .before .args .dst .now) (c .before .before .before .before .before .before .before .before .before .args .at) (c .before .before .before .before .before .before .before .before .before .args .src .now) (c .before .before .before .before .before .before .before .before .before .pre) (c .before .before .before .before .before .loop .k) 16 (omega arith) (c .before .before .before .before .before .loop .inv .1), omega arith)
+    let a = c .before .before .before .before .before .before .before .before .before .args in
+    let b = c .before .before .before .before .before in
+    (omega arith, c .before .before .copy-16 .ensures ∙ block-more (a .dst .now) (a .at) (a .src .now) (c .before .before .before .before .before .before .before .before .before .pre) (b .loop .k) 16 (omega arith) (b .loop .inv .1), omega arith)
 
 add-copy-16-2 : tie.Need-add-copy-16-2 Inv-loop μ-loop
 add-copy-16-2 c = omega arith
@@ -59,8 +61,10 @@ same-length-2 c = search needs
 
 returns-2 : tie.Need-returns-2 Inv-loop μ-loop
 returns-2 c =
+    let a = c .before .before .before .before .before .before .before .before .before .args in
+    let b = c .before .before .before .before .before in
     c .before .before .copy-162 .ensures
-    ∙ block-last (c .before .before .before .before .before .before .before .before .before .args .dst .now) (c .before .before .before .before .before .before .before .before .before .args .at) (c .before .before .before .before .before .before .before .before .before .args .src .now) (c .before .before .before .before .before .before .before .before .before .pre) (c .before .before .before .before .before .loop .k) (length (c .before .before .before .before .before .before .before .before .before .args .src .now) - 16) 16 (omega arith) (omega arith) (omega arith) (c .before .before .before .before .before .loop .inv .1)
+    ∙ block-last (a .dst .now) (a .at) (a .src .now) (c .before .before .before .before .before .before .before .before .before .pre) (b .loop .k) (length (a .src .now) - 16) 16 (omega arith) (omega arith) (omega arith) (b .loop .inv .1)
 
 pub copy-spec : {M : Type 1} → statement M
 copy-spec =

@@ -29,8 +29,9 @@ is-either-requires c κs = search needs
 
 returns : tie.Need-returns Inv-loop μ-loop
 returns c =
+    let b = c .before .before .before .before in
     let a = c .before .before .before .before .before .before .args in
-    omega (arith, c .before .before .before .before .loop .inv .1, leading-stop (neither (a .a) (a .b)) (a .s .now) (c .before .before .before .before .loop .k) (omega arith) (ap not (sym (c .before .is-either .ensures) ∙ c .if1 .taken)))
+    omega (arith, b .loop .inv .1, leading-stop (neither (a .a) (a .b)) (a .s .now) (b .loop .k) (omega arith) (ap not (sym (c .before .is-either .ensures) ∙ c .if1 .taken)))
 
 add-k : tie.Need-add-k Inv-loop μ-loop
 add-k c = omega arith
@@ -40,8 +41,9 @@ loop-less c = omega arith
 
 loop-again : tie.Need-loop-again Inv-loop μ-loop
 loop-again c =
+    let b = c .before .before .before .before in
     let a = c .before .before .before .before .before .before .args in
-    (omega arith, omega (arith, c .before .before .before .before .loop .inv .1, leading-more (neither (a .a) (a .b)) (a .s .now) (c .before .before .before .before .loop .k) (omega arith) (ap not (sym (c .before .is-either .ensures) ∙ c .if1 .left))))
+    (omega arith, omega (arith, b .loop .inv .1, leading-more (neither (a .a) (a .b)) (a .s .now) (b .loop .k) (omega arith) (ap not (sym (c .before .is-either .ensures) ∙ c .if1 .left))))
 
 returns-2 : tie.Need-returns-2 Inv-loop μ-loop
 returns-2 c =

@@ -35,10 +35,14 @@ returns : tie.Need-returns Inv-loop μ-loop
 returns c = c .first-in-32 .ensures
 
 add-k : tie.Need-add-k Inv-loop μ-loop
-add-k c = omega (arith, first-byte-most (c .before .before .before .before .before .args .b) (c .before .before .before .before .before .args .s .now))
+add-k c =
+    let a = c .before .before .before .before .before .args in
+    omega (arith, first-byte-most (a .b) (a .s .now))
 
 loop-less : tie.Need-loop-less Inv-loop μ-loop
-loop-less c = omega (arith, first-byte-most (c .before .before .before .before .before .args .b) (c .before .before .before .before .before .args .s .now))
+loop-less c =
+    let a = c .before .before .before .before .before .args in
+    omega (arith, first-byte-most (a .b) (a .s .now))
 
 loop-again : tie.Need-loop-again Inv-loop μ-loop
 loop-again c =

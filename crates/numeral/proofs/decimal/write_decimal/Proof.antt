@@ -47,13 +47,14 @@ same-length c = c .before .before .write-digits .kept .0 ∙ simp length-set
 
 returns : tie.Need-returns
 returns c =
-    let w = c .before .before .before .before .before .before .before .args .w in
+    let a = c .before .before .before .before .before .before .before .args in
+    let w = a .w in
     let e = text-below w (c .before .before .before .before .before .if1 .taken) in
     let s = ap length e in (
       omega arith,
       c .before .before .write-digits .ensures
-          ∙ minus-put (c .before .before .before .before .before .before .before .args .out .now) (c .before .before .before .before .before .before .before .args .at) (decimalDigits (numberBound - w)) (omega arith)
-          ∙ ap (put (c .before .before .before .before .before .before .before .args .out .now) (c .before .before .before .before .before .before .before .args .at)) (sym e),
+          ∙ minus-put (a .out .now) (a .at) (decimalDigits (numberBound - w)) (omega arith)
+          ∙ ap (put (a .out .now) (a .at)) (sym e),
     )
 
 same-length-2 : tie.Need-same-length-2
@@ -61,10 +62,11 @@ same-length-2 c = search needs
 
 returns-2 : tie.Need-returns-2
 returns-2 c =
-    let w = c .before .before .before .before .before .before .before .args .w in
+    let a = c .before .before .before .before .before .before .before .args in
+    let w = a .w in
     let e = text-above w (c .before .before .before .before .before .if1 .left) in
     let s = ap length e in
-    (omega arith, c .before .before .write-digits2 .ensures ∙ ap (put (c .before .before .before .before .before .before .before .args .out .now) (c .before .before .before .before .before .before .before .args .at)) (sym e))
+    (omega arith, c .before .before .write-digits2 .ensures ∙ ap (put (a .out .now) (a .at)) (sym e))
 
 pub write-decimal-spec : {M : Type 1} → statement M
 write-decimal-spec =

@@ -33,16 +33,19 @@ is-digit-requires c κs = search needs
 
 returns : tie.Need-returns Inv-loop μ-loop
 returns c =
+    let b = c .before .before .before .before in
     let t = c .before .before .before .before .before .before .args .t .now in
-    let k = c .before .before .before .before .loop .k in
+    let k = b .loop .k in
     let e : k ≡ leading isDigit t =
     omega (arith, leading-stop isDigit t k (omega arith) (sym (c .before .is-digit .ensures) ∙ not-true _ (c .if1 .taken))) in
-    record { counted = e; valued = c .before .before .before .before .loop .inv .2 ∙ ap (λ (n : ℕ). capped (digitsValue (take n t))) e }
+    record { counted = e; valued = b .loop .inv .2 ∙ ap (λ (n : ℕ). capped (digitsValue (take n t))) e }
 
 with-digit-requires : tie.Need-with-digit-requires Inv-loop μ-loop
 with-digit-requires c κs =
-    let d : isDigit (getD (c .before .before .before .before .before .before .args .t .now) (c .before .before .before .before .loop .k) 0) ≡ true = sym (c .before .is-digit .ensures) ∙ not-false _ (c .if1 .left) in
-    (omega (arith, c .before .before .before .before .loop .inv .2, capped-le (digitsValue (take (c .before .before .before .before .loop .k) (c .before .before .before .before .before .before .args .t .now)))), digit-range _ d .0, digit-range _ d .1)
+    let a = c .before .before .before .before .before .before .args in
+    let b = c .before .before .before .before in
+    let d : isDigit (getD (a .t .now) (b .loop .k) 0) ≡ true = sym (c .before .is-digit .ensures) ∙ not-false _ (c .if1 .left) in
+    (omega (arith, b .loop .inv .2, capped-le (digitsValue (take (b .loop .k) (a .t .now)))), digit-range _ d .0, digit-range _ d .1)
 
 add-k : tie.Need-add-k Inv-loop μ-loop
 add-k c = omega arith
@@ -52,12 +55,13 @@ loop-less c = omega arith
 
 loop-again : tie.Need-loop-again Inv-loop μ-loop
 loop-again c =
+    let b = c .before .before .before .before .before in
     let t = c .before .before .before .before .before .before .before .args .t .now in
-    let k = c .before .before .before .before .before .loop .k in (
+    let k = b .loop .k in (
       omega arith,
       omega (arith, leading-more isDigit t k (omega arith) (sym (c .before .before .is-digit .ensures) ∙ not-false _ (c .before .if1 .left))),
       c .with-digit .ensures
-          ∙ ap (λ (v : ℕ). capped (appended v (getD t k 0))) (c .before .before .before .before .before .loop .inv .2)
+          ∙ ap (λ (v : ℕ). capped (appended v (getD t k 0))) (b .loop .inv .2)
           ∙ capped-more (digitsValue (take k t)) (getD t k 0)
           ∙ ap capped (sym (value-more t k (omega arith))),
     )

@@ -45,11 +45,12 @@ loop-less c = omega (arith, c .before .before .before .before .before .before .b
 
 loop-again : tie.Need-loop-again Inv-loop μ-loop
 loop-again c =
+    let b = c .before .before .before .before .before .before .before in
     let a = c .before .before .before .before .before .before .before .before .before .before .before .before .args in
     let l = c .before .before .before .before .before .before .before .before .loop in
     let w = c .before .before .before .before .number-word in
-    let below : l .i < length (a .section .now) = omega (arith, c .before .before .before .before .before .before .before .loop-test .taken, c .before .before .before .before .before .before .before .before .before .before .before .before .pre .1) in (
-      omega (arith, c .before .before .before .before .before .before .before .loop-test .taken),
+    let below : l .i < length (a .section .now) = omega (arith, b .loop-test .taken, c .before .before .before .before .before .before .before .before .before .before .before .before .pre .1) in (
+      omega (arith, b .loop-test .taken),
       search needs,
       search needs,
       section-more (a .edition .number) (a .s .now) (a .what) (a .section .now) (a .table .now) (a .n) (l .i) below

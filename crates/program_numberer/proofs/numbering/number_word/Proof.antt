@@ -32,9 +32,11 @@ entry-at-requires c κs = search needs
 
 enter-requires : tie.Need-enter-requires
 enter-requires c κs =
+    let b = c .before .before .before .before .before in
+    let p = c .before .before .before .before in
     let a = c .before .before .before .before .before .before .before .before .before .before .args in
     let q = word-named (a .edition .number) (a .s .now) (a .what) (a .section .now) (a .i) (a .table .now) (a .n)
-    (c .before .before .before .before .before .op-in .result) (c .before .before .before .before .before .op-in .ensures) (c .before .before .before .before .is-named .result) (c .before .before .before .before .is-named .ensures) (c .before .before .before .if1 .left) in
+    (b .op-in .result) (b .op-in .ensures) (p .is-named .result) (p .is-named .ensures) (c .before .before .before .if1 .left) in
     (q .1, c .before .before .before .before .before .before .before .before .before .before .pre .3 .1 .held .few (q .1) .1, c .before .entry-at .ensures .inside)
 
 depth-in-requires : tie.Need-depth-in-requires
@@ -42,16 +44,19 @@ depth-in-requires c κs = search needs
 
 instruction-requires : tie.Need-instruction-requires
 instruction-requires c κs =
+    let b = c .before .before .before .before .before .before .before .before .before .before .before .before .before .before in
+    let p = c .before .before .before .before .before .before .before .before .before in
+    let s = c .before .before .before .before .before .before .before .before in
     let a = c .before .before .before .before .before .before .before .before .before .before .before .before .before .before .args in
     let q = word-named (a .edition .number) (a .s .now) (a .what) (a .section .now) (a .i) (a .table .now) (a .n)
-    (c .before .before .before .before .before .before .before .before .before .op-in .result) (c .before .before .before .before .before .before .before .before .before .op-in .ensures) (c .before .before .before .before .before .before .before .before .is-named .result) (c .before .before .before .before .before .before .before .before .is-named .ensures) (c .before .before .before .before .before .before .before .if1 .left) in
+    (p .op-in .result) (p .op-in .ensures) (s .is-named .result) (s .is-named .ensures) (c .before .before .before .before .before .before .before .if1 .left) in
     let f = c .before .before .before .before .before .before .first-in in
     let e = c .before .before .before .before .before .entry-at in
     let k = c .before .before .before .enter in
     let small = number-small (a .edition .number) (a .s .now) (a .what) (a .section .now) (a .i) (a .table .now) (a .n)
-    (q .0) (q .1) (f .result) (f .ensures) (e .result) (e .ensures) (k .result) (k .ensures .0) (c .before .before .before .before .before .before .before .before .before .before .before .before .before .before .pre .3) (c .before .before .before .before .before .before .before .before .before .before .before .before .before .before .pre .2) in
+    (q .0) (q .1) (f .result) (f .ensures) (e .result) (e .ensures) (k .result) (k .ensures .0) (b .pre .3) (b .pre .2) in
     record {
-      op-fits = omega (arith, c .before .before .before .before .before .before .before .before .before .op-in .ensures);
+      op-fits = omega (arith, p .op-in .ensures);
       depth-fits = omega (arith, c .depth-in .ensures);
       first-fits = small;
       second-fits = omega arith;
@@ -71,9 +76,11 @@ same-length-2 c = search needs
 
 returns-2 : tie.Need-returns-2
 returns-2 c =
+    let b = c .before .before .before .before .before .before .before .before .before .before .before in
+    let p = c .before .before .before .before .before .before .before .before .before .before in
     let a = c .before .before .before .before .before .before .before .before .before .before .before .before .before .before .before .before .args in
     let q = word-named (a .edition .number) (a .s .now) (a .what) (a .section .now) (a .i) (a .table .now) (a .n)
-    (c .before .before .before .before .before .before .before .before .before .before .before .op-in .result) (c .before .before .before .before .before .before .before .before .before .before .before .op-in .ensures) (c .before .before .before .before .before .before .before .before .before .before .is-named .result) (c .before .before .before .before .before .before .before .before .before .before .is-named .ensures) (c .before .before .before .before .before .before .before .before .before .if1 .left) in
+    (b .op-in .result) (b .op-in .ensures) (p .is-named .result) (p .is-named .ensures) (c .before .before .before .before .before .before .before .before .before .if1 .left) in
     let f = c .before .before .before .before .before .before .before .before .first-in in
     let e = c .before .before .before .before .before .before .before .entry-at in
     let k = c .before .before .before .before .before .enter in
@@ -81,13 +88,15 @@ returns-2 c =
     let v = c .before .instruction in
     word-known (a .edition .number) (a .s .now) (a .what) (a .section .now) (a .i) (a .table .now) (a .n) (q .0) (q .1)
     (f .result) (f .ensures) (e .result) (e .ensures) (k .result) (k .ensures .0) (k .last .1 .0) (k .ensures .1)
-    (c .before .before .before .before .before .before .before .before .before .before .before .op-in .result) (d .result) (v .result) (c .before .before .before .before .before .before .before .before .before .before .before .op-in .ensures) (d .ensures) (v .ensures) _ refl (omega (arith, c .if2 .taken))
+    (b .op-in .result) (d .result) (v .result) (b .op-in .ensures) (d .ensures) (v .ensures) _ refl (omega (arith, c .if2 .taken))
 
 add-result : tie.Need-add-result
 add-result c =
+    let b = c .before .before .before .before .before .before .before .before .before .before .before in
+    let p = c .before .before .before .before .before .before .before .before .before .before in
     let a = c .before .before .before .before .before .before .before .before .before .before .before .before .before .before .before .before .args in
     let q = word-named (a .edition .number) (a .s .now) (a .what) (a .section .now) (a .i) (a .table .now) (a .n)
-    (c .before .before .before .before .before .before .before .before .before .before .before .op-in .result) (c .before .before .before .before .before .before .before .before .before .before .before .op-in .ensures) (c .before .before .before .before .before .before .before .before .before .before .is-named .result) (c .before .before .before .before .before .before .before .before .before .before .is-named .ensures) (c .before .before .before .before .before .before .before .before .before .if1 .left) in
+    (b .op-in .result) (b .op-in .ensures) (p .is-named .result) (p .is-named .ensures) (c .before .before .before .before .before .before .before .before .before .if1 .left) in
     record { fits = omega (arith, q .1, c .before .before .before .before .before .before .before .before .before .before .before .before .before .before .before .before .pre .2) }
 
 same-length-3 : tie.Need-same-length-3
@@ -98,9 +107,11 @@ same-length-4 c = search needs
 
 returns-3 : tie.Need-returns-3
 returns-3 c =
+    let b = c .before .before .before .before .before .before .before .before .before .before .before in
+    let p = c .before .before .before .before .before .before .before .before .before .before in
     let a = c .before .before .before .before .before .before .before .before .before .before .before .before .before .before .before .before .args in
     let q = word-named (a .edition .number) (a .s .now) (a .what) (a .section .now) (a .i) (a .table .now) (a .n)
-    (c .before .before .before .before .before .before .before .before .before .before .before .op-in .result) (c .before .before .before .before .before .before .before .before .before .before .before .op-in .ensures) (c .before .before .before .before .before .before .before .before .before .before .is-named .result) (c .before .before .before .before .before .before .before .before .before .before .is-named .ensures) (c .before .before .before .before .before .before .before .before .before .if1 .left) in
+    (b .op-in .result) (b .op-in .ensures) (p .is-named .result) (p .is-named .ensures) (c .before .before .before .before .before .before .before .before .before .if1 .left) in
     let f = c .before .before .before .before .before .before .before .before .first-in in
     let e = c .before .before .before .before .before .before .before .entry-at in
     let k = c .before .before .before .before .before .enter in
@@ -108,7 +119,7 @@ returns-3 c =
     let v = c .before .instruction in
     word-new (a .edition .number) (a .s .now) (a .what) (a .section .now) (a .i) (a .table .now) (a .n) (q .0) (q .1)
     (f .result) (f .ensures) (e .result) (e .ensures) (k .result) (k .ensures .0) (k .last .1 .0) (k .ensures .1)
-    (c .before .before .before .before .before .before .before .before .before .before .before .op-in .result) (d .result) (v .result) (c .before .before .before .before .before .before .before .before .before .before .before .op-in .ensures) (d .ensures) (v .ensures) _ refl (omega (arith, c .if2 .left))
+    (b .op-in .result) (d .result) (v .result) (b .op-in .ensures) (d .ensures) (v .ensures) _ refl (omega (arith, c .if2 .left))
 
 pub number-word-spec : {M : Type 1} → statement M
 number-word-spec =

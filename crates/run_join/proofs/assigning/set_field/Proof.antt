@@ -37,16 +37,18 @@ same-length c = search needs
 
 returns : tie.Need-returns
 returns c =
+    let q = c .before .before .before .before .before .before .before .before .before .before in
+    let s = c .before .before .before .before .before .before in
     let a = c .before .before .before .before .before .before .before .before .before .before .before .before .before .before .args in
     let p = c .before .before .before .before .before .before .before .before .before .before .before .before .before .before .pre in
-    let u = c .before .before .before .before .before .before .before .before .before .before .show .last .0 in
-    let y = c .before .before .before .before .before .before .split-all .last .0 in
-    let o = c .before .before .before .before .before .before .before .before .before .before .show .ensures in
-    let d = c .before .before .before .before .before .before .split-all .ensures in
+    let u = q .show .last .0 in
+    let y = s .split-all .last .0 in
+    let o = q .show .ensures in
+    let d = s .split-all .ensures in
     let fits : baseEnd ≤ length y = omega (arith, p .0, o .slotted .outside .size, d .outside .size) in
-    let b = part (ofsSlot * slotBytes + headSize) (c .before .before .before .before .before .before .before .before .before .before .show .result) y in
-    let lb : length b ≡ c .before .before .before .before .before .before .before .before .before .before .show .result = length-part (ofsSlot * slotBytes + headSize) (c .before .before .before .before .before .before .before .before .before .before .show .result) y (omega (arith, fits, o .most)) in
-    set-long (a .edition .number) (a .t .now) (a .kind) (a .work .now) u y (a .line) (c .before .before .before .before .before .before .split-all .result) (a .k) (a .v) (c .before .before .before .field-count .result) (c .before .before .before .before .before .before .before .before .before .before .show .result) (p .0) (p .1) o d (p .4) (c .before .before .before .field-count .ensures) (c .before .too-long .ensures .long (c .if1 .taken) b lb)
+    let b = part (ofsSlot * slotBytes + headSize) (q .show .result) y in
+    let lb : length b ≡ q .show .result = length-part (ofsSlot * slotBytes + headSize) (q .show .result) y (omega (arith, fits, o .most)) in
+    set-long (a .edition .number) (a .t .now) (a .kind) (a .work .now) u y (a .line) (s .split-all .result) (a .k) (a .v) (c .before .before .before .field-count .result) (q .show .result) (p .0) (p .1) o d (p .4) (c .before .before .before .field-count .ensures) (c .before .too-long .ensures .long (c .if1 .taken) b lb)
 
 mul-from : tie.Need-mul-from
 mul-from c = search needs
@@ -56,17 +58,19 @@ add-from c = search needs
 
 join-all-requires : tie.Need-join-all-requires
 join-all-requires c κs =
+    let q = c .before .before .before .before .before .before .before .before .before .before .before in
+    let s = c .before .before .before .before .before .before .before in
     let a = c .before .before .before .before .before .before .before .before .before .before .before .before .before .before .before .args in
     let p = c .before .before .before .before .before .before .before .before .before .before .before .before .before .before .before .pre in
-    let u = c .before .before .before .before .before .before .before .before .before .before .before .show .last .0 in
-    let y = c .before .before .before .before .before .before .before .split-all .last .0 in
-    let o = c .before .before .before .before .before .before .before .before .before .before .before .show .ensures in
-    let d = c .before .before .before .before .before .before .before .split-all .ensures in
+    let u = q .show .last .0 in
+    let y = s .split-all .last .0 in
+    let o = q .show .ensures in
+    let d = s .split-all .ensures in
     let fits : baseEnd ≤ length y = omega (arith, p .0, o .slotted .outside .size, d .outside .size) in
-    let b = part (ofsSlot * slotBytes + headSize) (c .before .before .before .before .before .before .before .before .before .before .before .show .result) y in
-    let lb : length b ≡ c .before .before .before .before .before .before .before .before .before .before .before .show .result = length-part (ofsSlot * slotBytes + headSize) (c .before .before .before .before .before .before .before .before .before .before .before .show .result) y (omega (arith, fits, o .most)) in (
+    let b = part (ofsSlot * slotBytes + headSize) (q .show .result) y in
+    let lb : length b ≡ q .show .result = length-part (ofsSlot * slotBytes + headSize) (q .show .result) y (omega (arith, fits, o .most)) in (
       fits,
-      (all-lined (a .edition .number) (a .t .now) (a .kind) u y (a .line) (c .before .before .before .before .before .before .before .split-all .result) (p .1 .placed) d) .placed,
+      (all-lined (a .edition .number) (a .t .now) (a .kind) u y (a .line) (s .split-all .result) (p .1 .placed) d) .placed,
       omega (arith, c .before .before .before .before .field-count .ensures, p .3, d .few),
       omega (arith, p .4),
       o .most,
@@ -76,28 +80,32 @@ join-all-requires c κs =
 
 sub-t20 : tie.Need-sub-t20
 sub-t20 c =
+    let q = c .before .before .before .before .before .before .before .before .before .before .before .before .before .before .before in
+    let s = c .before .before .before .before .before .before .before .before .before .before .before in
     let a = c .before .before .before .before .before .before .before .before .before .before .before .before .before .before .before .before .before .before .before .args in
     let p = c .before .before .before .before .before .before .before .before .before .before .before .before .before .before .before .before .before .before .before .pre in
-    let u = c .before .before .before .before .before .before .before .before .before .before .before .before .before .before .before .show .last .0 in
-    let y = c .before .before .before .before .before .before .before .before .before .before .before .split-all .last .0 in
-    let o = c .before .before .before .before .before .before .before .before .before .before .before .before .before .before .before .show .ensures in
-    let d = c .before .before .before .before .before .before .before .before .before .before .before .split-all .ensures in
+    let u = q .show .last .0 in
+    let y = s .split-all .last .0 in
+    let o = q .show .ensures in
+    let d = s .split-all .ensures in
     let fits : baseEnd ≤ length y = omega (arith, p .0, o .slotted .outside .size, d .outside .size) in
-    let b = part (ofsSlot * slotBytes + headSize) (c .before .before .before .before .before .before .before .before .before .before .before .before .before .before .before .show .result) y in
-    let lb : length b ≡ c .before .before .before .before .before .before .before .before .before .before .before .before .before .before .before .show .result = length-part (ofsSlot * slotBytes + headSize) (c .before .before .before .before .before .before .before .before .before .before .before .before .before .before .before .show .result) y (omega (arith, fits, o .most)) in
+    let b = part (ofsSlot * slotBytes + headSize) (q .show .result) y in
+    let lb : length b ≡ q .show .result = length-part (ofsSlot * slotBytes + headSize) (q .show .result) y (omega (arith, fits, o .most)) in
     omega (arith, c .before .before .before .join-all .ensures .place, c .before .before .before .before .before .before .too-long .ensures .short (c .before .before .before .before .before .if1 .left) b lb, d .side, p .1 .placed .side)
 
 add-t23 : tie.Need-add-t23
 add-t23 c =
+    let q = c .before .before .before .before .before .before .before .before .before .before .before .before .before .before .before in
+    let s = c .before .before .before .before .before .before .before .before .before .before .before in
     let a = c .before .before .before .before .before .before .before .before .before .before .before .before .before .before .before .before .before .before .before .args in
     let p = c .before .before .before .before .before .before .before .before .before .before .before .before .before .before .before .before .before .before .before .pre in
-    let u = c .before .before .before .before .before .before .before .before .before .before .before .before .before .before .before .show .last .0 in
-    let y = c .before .before .before .before .before .before .before .before .before .before .before .split-all .last .0 in
-    let o = c .before .before .before .before .before .before .before .before .before .before .before .before .before .before .before .show .ensures in
-    let d = c .before .before .before .before .before .before .before .before .before .before .before .split-all .ensures in
+    let u = q .show .last .0 in
+    let y = s .split-all .last .0 in
+    let o = q .show .ensures in
+    let d = s .split-all .ensures in
     let fits : baseEnd ≤ length y = omega (arith, p .0, o .slotted .outside .size, d .outside .size) in
-    let b = part (ofsSlot * slotBytes + headSize) (c .before .before .before .before .before .before .before .before .before .before .before .before .before .before .before .show .result) y in
-    let lb : length b ≡ c .before .before .before .before .before .before .before .before .before .before .before .before .before .before .before .show .result = length-part (ofsSlot * slotBytes + headSize) (c .before .before .before .before .before .before .before .before .before .before .before .before .before .before .before .show .result) y (omega (arith, fits, o .most)) in
+    let b = part (ofsSlot * slotBytes + headSize) (q .show .result) y in
+    let lb : length b ≡ q .show .result = length-part (ofsSlot * slotBytes + headSize) (q .show .result) y (omega (arith, fits, o .most)) in
     omega (arith, c .before .before .before .join-all .ensures .place, c .before .before .before .before .before .before .too-long .ensures .short (c .before .before .before .before .before .if1 .left) b lb, d .side, p .1 .placed .side)
 
 same-length-2 : tie.Need-same-length-2
@@ -105,16 +113,19 @@ same-length-2 c = search needs
 
 returns-2 : tie.Need-returns-2
 returns-2 c =
+    let q = c .before .before .before .before .before .before .before .before .before .before .before .before .before .before .before in
+    let s = c .before .before .before .before .before .before .before .before .before .before .before in
+    let w = c .before .before .before .before .before .before .before .before in
     let a = c .before .before .before .before .before .before .before .before .before .before .before .before .before .before .before .before .before .before .before .args in
     let p = c .before .before .before .before .before .before .before .before .before .before .before .before .before .before .before .before .before .before .before .pre in
-    let u = c .before .before .before .before .before .before .before .before .before .before .before .before .before .before .before .show .last .0 in
-    let y = c .before .before .before .before .before .before .before .before .before .before .before .split-all .last .0 in
-    let o = c .before .before .before .before .before .before .before .before .before .before .before .before .before .before .before .show .ensures in
-    let d = c .before .before .before .before .before .before .before .before .before .before .before .split-all .ensures in
+    let u = q .show .last .0 in
+    let y = s .split-all .last .0 in
+    let o = q .show .ensures in
+    let d = s .split-all .ensures in
     let fits : baseEnd ≤ length y = omega (arith, p .0, o .slotted .outside .size, d .outside .size) in
-    let b = part (ofsSlot * slotBytes + headSize) (c .before .before .before .before .before .before .before .before .before .before .before .before .before .before .before .show .result) y in
-    let lb : length b ≡ c .before .before .before .before .before .before .before .before .before .before .before .before .before .before .before .show .result = length-part (ofsSlot * slotBytes + headSize) (c .before .before .before .before .before .before .before .before .before .before .before .before .before .before .before .show .result) y (omega (arith, fits, o .most)) in
-    set-some (a .edition .number) (a .t .now) (a .kind) (a .work .now) u y (a .line) (c .before .before .before .before .before .before .before .before .before .before .before .split-all .result) (a .k) (a .v) (c .before .before .before .before .before .before .before .before .field-count .result) (c .before .before .before .before .before .before .before .before .before .before .before .before .before .before .before .show .result) (p .0) (p .1) o d (p .4) (c .before .before .before .before .before .before .before .before .field-count .ensures) (c .before .before .before .join-all .last .0) _ (c .before .before .before .join-all .result) _ (omega (arith, c .before .before .before .before .before .before .before .before .field-count .ensures, p .3, d .few)) (c .before .before .before .join-all .ensures)
+    let b = part (ofsSlot * slotBytes + headSize) (q .show .result) y in
+    let lb : length b ≡ q .show .result = length-part (ofsSlot * slotBytes + headSize) (q .show .result) y (omega (arith, fits, o .most)) in
+    set-some (a .edition .number) (a .t .now) (a .kind) (a .work .now) u y (a .line) (s .split-all .result) (a .k) (a .v) (w .field-count .result) (q .show .result) (p .0) (p .1) o d (p .4) (w .field-count .ensures) (c .before .before .before .join-all .last .0) _ (c .before .before .before .join-all .result) _ (omega (arith, w .field-count .ensures, p .3, d .few)) (c .before .before .before .join-all .ensures)
     (omega (arith, c .before .before .before .before .before .before .too-long .ensures .short (c .before .before .before .before .before .if1 .left) b lb))
     (omega arith) (omega arith) (omega arith) (omega arith) (omega arith)
 

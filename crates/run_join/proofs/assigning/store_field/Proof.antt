@@ -35,7 +35,10 @@ same-length-2 : tie.Need-same-length-2
 same-length-2 c = search needs
 
 returns-2 : tie.Need-returns-2
-returns-2 c = let a = c .before .before .before .before .before .before .before .before .before .before .before .before .args in let p = c .before .before .before .before .before .before .before .before .before .before .before .before .pre in stores-refused (a .edition .number) (a .t .now) (a .kind) (a .work .now) (a .line) (a .a) (p .1) (p .3) (c .before .before .before .before .before .before .before .before .field-number .result) (c .before .before .before .before .before .before .before .before .field-number .ensures) (c .before .before .before .before .before .before .if1 .left) _ (c .before .before .before .before .assign .result .line) (c .before .before .before .before .assign .result .outcome) (c .before .before .before .before .assign .ensures) (c .if2 .taken)
+returns-2 c =
+    let b = c .before .before .before .before .before .before .before .before in
+    let q = c .before .before .before .before in
+    let a = c .before .before .before .before .before .before .before .before .before .before .before .before .args in let p = c .before .before .before .before .before .before .before .before .before .before .before .before .pre in stores-refused (a .edition .number) (a .t .now) (a .kind) (a .work .now) (a .line) (a .a) (p .1) (p .3) (b .field-number .result) (b .field-number .ensures) (c .before .before .before .before .before .before .if1 .left) _ (q .assign .result .line) (q .assign .result .outcome) (q .assign .ensures) (c .if2 .taken)
 
 add-copy-slot : tie.Need-add-copy-slot
 add-copy-slot c = search needs
@@ -47,7 +50,10 @@ same-length-3 : tie.Need-same-length-3
 same-length-3 c = search needs
 
 returns-3 : tie.Need-returns-3
-returns-3 c = let a = c .before .before .before .before .before .before .before .before .before .before .before .before .before .before .before .before .args in let p = c .before .before .before .before .before .before .before .before .before .before .before .before .before .before .before .before .pre in stores-value (a .edition .number) (a .t .now) (a .kind) (a .work .now) (a .line) (a .a) (p .1) (p .3) (c .before .before .before .before .before .before .before .before .before .before .before .before .field-number .result) (c .before .before .before .before .before .before .before .before .before .before .before .before .field-number .ensures) (c .before .before .before .before .before .before .before .before .before .before .if1 .left) (c .before .before .before .before .before .before .before .before .assign .last .0) (c .before .before .before .before .before .before .before .before .assign .result .line) (c .before .before .before .before .before .before .before .before .assign .result .outcome) (c .before .before .before .before .before .before .before .before .assign .ensures) (c .before .before .before .before .if2 .left) _ (c .before .before .copy-slot .ensures)
+returns-3 c =
+    let b = c .before .before .before .before .before .before .before .before .before .before .before .before in
+    let q = c .before .before .before .before .before .before .before .before in
+    let a = c .before .before .before .before .before .before .before .before .before .before .before .before .before .before .before .before .args in let p = c .before .before .before .before .before .before .before .before .before .before .before .before .before .before .before .before .pre in stores-value (a .edition .number) (a .t .now) (a .kind) (a .work .now) (a .line) (a .a) (p .1) (p .3) (b .field-number .result) (b .field-number .ensures) (c .before .before .before .before .before .before .before .before .before .before .if1 .left) (q .assign .last .0) (q .assign .result .line) (q .assign .result .outcome) (q .assign .ensures) (c .before .before .before .before .if2 .left) _ (c .before .before .copy-slot .ensures)
 
 pub store-field-spec : {M : Type 1} → statement M
 store-field-spec =

@@ -22,10 +22,11 @@ same-length c = search needs
 
 returns : tie.Need-returns
 returns c =
+    let b = c .before .before .before .before in
     let a = c .before .before .before .before .before .before .before .before .args in
     let p = c .before .before .before .before .before .before .before .before .pre in
-    let o = c .before .before .before .before .split-to .ensures in
-    all-of (a .edition .number) (a .t .now) (a .kind) (a .work .now) _ (a .line) (c .before .before .before .before .split-to .result) (p .0) (p .1) (p .3) (o .2) (o .0) (o .1) (c .split .result) (c .split .ensures)
+    let o = b .split-to .ensures in
+    all-of (a .edition .number) (a .t .now) (a .kind) (a .work .now) _ (a .line) (b .split-to .result) (p .0) (p .1) (p .3) (o .2) (o .0) (o .1) (c .split .result) (c .split .ensures)
 
 pub split-all-spec : {M : Type 1} → statement M
 split-all-spec =

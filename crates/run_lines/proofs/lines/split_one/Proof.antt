@@ -42,19 +42,21 @@ same-length c = search needs
 
 returns : tie.Need-returns
 returns c =
+    let b = c .before .before .before .before .before .before .before .before in
     let a = c .before .before .before .before .before .before .before .before .before .before .before .args in
     let p = c .before .before .before .before .before .before .before .before .before .before .before .pre in
     let f = c .before .before .before .before .next-field in
-    ended (a .edition .number) (a .t .now) (a .kind) (a .work .now) (a .line) (p .0) (p .1) (p .3) (c .before .before .before .before .before .before .before .before .record-start .result) (c .before .before .before .before .before .before .before .before .record-start .ensures)
+    ended (a .edition .number) (a .t .now) (a .kind) (a .work .now) (a .line) (p .0) (p .1) (p .3) (b .record-start .result) (b .record-start .ensures)
     (f .result) (f .ensures) (c .split .result) (not-true _ (c .before .before .if1 .taken)) (c .split .ensures)
 
 put-entry-requires : tie.Need-put-entry-requires
 put-entry-requires c κs =
+    let q = c .before .before .before .before .before .before .before in
     let a = c .before .before .before .before .before .before .before .before .before .before .args in
     let p = c .before .before .before .before .before .before .before .before .before .before .pre in
     let f = c .before .before .before .next-field in
     let b =
-    turn-bounds (a .edition .number) (a .t .now) (a .kind) (a .work .now) (a .line) (p .0) (p .1) (p .3) (c .before .before .before .before .before .before .before .record-start .result) (c .before .before .before .before .before .before .before .record-start .ensures)
+    turn-bounds (a .edition .number) (a .t .now) (a .kind) (a .work .now) (a .line) (p .0) (p .1) (p .3) (q .record-start .result) (q .record-start .ensures)
     (f .result) (f .ensures) (not-false _ (c .before .if1 .left)) in
     (p .0, p .4, omega (arith, b .0, p .1 .size), omega (arith, b .0, p .1 .size))
 
@@ -69,10 +71,11 @@ same-length-2 c = search needs
 
 returns-2 : tie.Need-returns-2
 returns-2 c =
+    let b = c .before .before .before .before .before .before .before .before .before .before .before .before in
     let a = c .before .before .before .before .before .before .before .before .before .before .before .before .before .before .before .args in
     let p = c .before .before .before .before .before .before .before .before .before .before .before .before .before .before .before .pre in
     let f = c .before .before .before .before .before .before .before .before .next-field in
-    turned (a .edition .number) (a .t .now) (a .kind) (a .work .now) (a .line) (p .0) (p .1) (p .3) (c .before .before .before .before .before .before .before .before .before .before .before .before .record-start .result) (c .before .before .before .before .before .before .before .before .before .before .before .before .record-start .ensures)
+    turned (a .edition .number) (a .t .now) (a .kind) (a .work .now) (a .line) (p .0) (p .1) (p .3) (b .record-start .result) (b .record-start .ensures)
     (f .result) (f .ensures) _ (c .split2 .result) _ (not-false _ (c .before .before .before .before .before .before .if1 .left)) (p .4) (c .before .before .before .before .put-entry .ensures) (refl, refl, refl) (c .split2 .ensures)
 
 pub split-one-spec : {M : Type 1} → statement M

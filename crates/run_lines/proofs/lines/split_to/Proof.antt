@@ -22,14 +22,17 @@ same-length : tie.Need-same-length Inv-loop μ-loop
 same-length c = c .before .before .before .before .loop .inv .0 .outside .size
 
 returns : tie.Need-returns Inv-loop μ-loop
-returns c = (λ h. c .if2 .taken, c .before .before .before .before .loop .inv .1, c .before .before .before .before .loop .inv .0)
+returns c =
+    let b = c .before .before .before .before in
+    (λ h. c .if2 .taken, b .loop .inv .1, b .loop .inv .0)
 
 split-one-requires : tie.Need-split-one-requires Inv-loop μ-loop
 split-one-requires c κs =
+    let b = c .before .before .before .before .before in
     let a = c .before .before .before .before .before .before .before .before .args in
     let p = c .before .before .before .before .before .before .before .before .pre in
-    let i = c .before .before .before .before .before .loop .inv .0 in
-    let placed = splits-placed (a .edition .number) (a .t .now) (a .kind) (a .work .now) (c .before .before .before .before .before .loop .work) (a .line) (c .before .before .before .before .before .loop .r) (p .1) i in
+    let i = b .loop .inv .0 in
+    let placed = splits-placed (a .edition .number) (a .t .now) (a .kind) (a .work .now) (b .loop .work) (a .line) (b .loop .r) (p .1) i in
     (omega (arith, i .outside .size, p .0), placed, p .2, c .before .if2 .left, omega (arith, c .before .before .before .if1 .taken, p .3))
 
 loop-less : tie.Need-loop-less Inv-loop μ-loop
@@ -37,10 +40,11 @@ loop-less c = omega (arith, c .before .before .before .before .if2 .left, c .bef
 
 loop-again : tie.Need-loop-again Inv-loop μ-loop
 loop-again c =
+    let b = c .before .before .before .before .before .before .before .before in
     let a = c .before .before .before .before .before .before .before .before .before .before .before .args in
-    let i = c .before .before .before .before .before .before .before .before .loop .inv in
+    let i = b .loop .inv in
     let o = c .before .before .split-one .ensures in (
-      splits-on (a .edition .number) (a .t .now) (a .kind) (a .work .now) (c .before .before .before .before .before .before .before .before .loop .work) _ (a .line) (c .before .before .before .before .before .before .before .before .loop .r) (c .before .before .split-one .result) (i .0) (o .2),
+      splits-on (a .edition .number) (a .t .now) (a .kind) (a .work .now) (b .loop .work) _ (a .line) (b .loop .r) (c .before .before .split-one .result) (i .0) (o .2),
       λ h. omega (arith, c .before .before .before .before .before .before .if1 .taken, o .1),
     )
 

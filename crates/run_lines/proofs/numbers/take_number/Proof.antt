@@ -33,10 +33,11 @@ text-number-requires c κs = search needs
 
 returns-3 : tie.Need-returns-3
 returns-3 c =
+    let b = c .before .before .before .before in
     let a = c .before .before .before .before .before .before .args in
     let v = slotAt (a .work .now) (a .i) in
-    taken-text v (c .before .before .before .before .slot-kind .result) _ _ (c .before .before .before .before .slot-kind .ensures) (c .before .before .before .if1 .left) (c .before .before .if2 .left)
-    (c .before .slot-text .ensures (kind-text v (c .before .before .before .before .slot-kind .result) (c .before .before .before .before .slot-kind .ensures) (c .before .before .before .if1 .left) (c .before .before .if2 .left))) (c .text-number .ensures)
+    taken-text v (b .slot-kind .result) _ _ (b .slot-kind .ensures) (c .before .before .before .if1 .left) (c .before .before .if2 .left)
+    (c .before .slot-text .ensures (kind-text v (b .slot-kind .result) (b .slot-kind .ensures) (c .before .before .before .if1 .left) (c .before .before .if2 .left))) (c .text-number .ensures)
 
 pub take-number-spec : {M : Type 1} → statement M
 take-number-spec =

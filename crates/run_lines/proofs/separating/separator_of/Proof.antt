@@ -41,8 +41,9 @@ same-length-2 c = search needs
 
 returns : tie.Need-returns
 returns c =
+    let b = c .before .before .before .before .before .before .before .before in
     let a = c .before .before .before .before .before .before .before .before .before .before .before .before .args in
-    separator-is (a .edition .number) (a .work .now) _ _ (c .before .before .kind-of .result) _ (c .before .before .before .before .before .before .before .before .show .result) refl (c .before .before .before .before .before .before .before .before .show .ensures) (c .before .before .kind-of .ensures)
+    separator-is (a .edition .number) (a .work .now) _ _ (c .before .before .kind-of .result) _ (b .show .result) refl (b .show .ensures) (c .before .before .kind-of .ensures)
 
 pub separator-of-spec : {M : Type 1} → statement M
 separator-of-spec =

@@ -21,9 +21,10 @@ same-length c = search needs
 
 returns : tie.Need-returns
 returns c =
+    let b = c .before .before .before .before .before .before in
     let a = c .before .before .before .before .before .before .before .before .before .before .args in
     let p = c .before .before .before .before .before .before .before .before .before .before .pre in
-    set-all (a .edition .number) (a .t .now) (a .kind) (a .work .now) _ _ (a .line) (c .before .before .before .before .before .before .split-all .result) fsSlot (p .0) (p .1) (omega arith) (c .before .before .before .before .before .before .split-all .ensures) (a .from) (p .3) (c .before .before .copy-slot .ensures)
+    set-all (a .edition .number) (a .t .now) (a .kind) (a .work .now) _ _ (a .line) (b .split-all .result) fsSlot (p .0) (p .1) (omega arith) (b .split-all .ensures) (a .from) (p .3) (c .before .before .copy-slot .ensures)
 
 pub set-separator-spec : {M : Type 1} → statement M
 set-separator-spec = tie.close (tie.spec split-all-requires copy-slot-requires same-length returns)

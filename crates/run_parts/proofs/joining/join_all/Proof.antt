@@ -45,17 +45,19 @@ loop-less c = omega (arith, c .before .before .before .before .loop-test .taken)
 
 loop-again : tie.Need-loop-again Inv-loop μ-loop
 loop-again c =
+    let q = c .before .before .before .before .before in
+    let s = c .before .before .before .before in
     let a = c .before .before .before .before .before .before .before .args in
     let p = c .before .before .before .before .before .before .before .pre in
     let b = part (a .from) (a .n) (a .work .now) in
     let z = c .before .before .join-one .last .0 in
     let o =
-    subst (Turned (c .before .before .before .before .before .loop .work) z (a .line) (a .k) (a .v) (c .before .before .before .before .before .loop .i) (c .before .before .before .before .before .loop .at) (c .before .before .join-one .result))
-    (between-same (a .work .now) (c .before .before .before .before .before .loop .work) (a .line) (a .k) (a .v) b (c .before .before .before .before .before .loop .i) (c .before .before .before .before .before .loop .at) (p .0) (p .1) (p .3) (omega (arith, c .before .before .before .before .loop-test .taken, p .2)) (c .before .before .before .before .before .loop .inv .1) (a .from) (a .n) (omega (arith, p .5))) (c .before .before .join-one .ensures) in
-    let most = joined-below (a .work .now) (a .line) (a .k) (a .v) b (suc (c .before .before .before .before .before .loop .i)) (a .count) (c .before .before .before .before .loop-test .taken) in (
-      omega (arith, c .before .before .before .before .loop-test .taken),
-      subst (λ (m : ℕ). Joins (a .work .now) z (a .line) (a .k) (a .v) b m (c .before .before .join-one .result)) (sym (add-one (c .before .before .before .before .before .loop .i)))
-          (joins-more (a .work .now) (c .before .before .before .before .before .loop .work) (a .line) (a .k) (a .v) b (c .before .before .before .before .before .loop .i) (c .before .before .before .before .before .loop .at) (p .0) (p .1) (p .3) (omega (arith, c .before .before .before .before .loop-test .taken, p .2)) (c .before .before .before .before .before .loop .inv .1) _ (c .before .before .join-one .result) (omega (arith, most, p .6)) o),
+    subst (Turned (q .loop .work) z (a .line) (a .k) (a .v) (q .loop .i) (q .loop .at) (c .before .before .join-one .result))
+    (between-same (a .work .now) (q .loop .work) (a .line) (a .k) (a .v) b (q .loop .i) (q .loop .at) (p .0) (p .1) (p .3) (omega (arith, s .loop-test .taken, p .2)) (q .loop .inv .1) (a .from) (a .n) (omega (arith, p .5))) (c .before .before .join-one .ensures) in
+    let most = joined-below (a .work .now) (a .line) (a .k) (a .v) b (suc (q .loop .i)) (a .count) (s .loop-test .taken) in (
+      omega (arith, s .loop-test .taken),
+      subst (λ (m : ℕ). Joins (a .work .now) z (a .line) (a .k) (a .v) b m (c .before .before .join-one .result)) (sym (add-one (q .loop .i)))
+          (joins-more (a .work .now) (q .loop .work) (a .line) (a .k) (a .v) b (q .loop .i) (q .loop .at) (p .0) (p .1) (p .3) (omega (arith, s .loop-test .taken, p .2)) (q .loop .inv .1) _ (c .before .before .join-one .result) (omega (arith, most, p .6)) o),
     )
 
 same-length : tie.Need-same-length Inv-loop μ-loop

@@ -27,41 +27,49 @@ put-gap-requires c κs = search needs
 
 put-text-requires : tie.Need-put-text-requires
 put-text-requires c κs =
+    let b = c .before .before .before .before .before in
     let a = c .before .before .before .before .before .before .before .before .before .args in
     let p = c .before .before .before .before .before .before .before .before .before .pre in
     let side = 1 - a .line .side in
-    let part-of = c .before .before .before .before .before .field-part .ensures .1 side (omega (arith, p .1 .side)) in
-    let e = ap (λ (q : Value). length (textOf q)) (value-kept (a .work .now) _ side (a .at) _ (c .before .before .before .before .before .field-part .result) part-of (c .before .before .before .put-gap .ensures .1) _ (c .before .before .before .before .before .field-part .ensures .0)) in
+    let part-of = b .field-part .ensures .1 side (omega (arith, p .1 .side)) in
+    let e = ap (λ (q : Value). length (textOf q)) (value-kept (a .work .now) _ side (a .at) _ (b .field-part .result) part-of (c .before .before .before .put-gap .ensures .1) _ (b .field-part .ensures .0)) in
     (omega (arith, p .0, c .before .before .before .put-gap .ensures .1 .outside .size), omega (arith, p .1 .side), part-of, omega (arith, e, c .before .before .before .put-gap .ensures .0, p .6))
 
 put-entry-requires : tie.Need-put-entry-requires
 put-entry-requires c κs =
+    let b = c .before .before .before .before .before .before .before .before .before in
+    let s = c .before .before .before .before .before .before .before in
     let a = c .before .before .before .before .before .before .before .before .before .before .before .before .before .args in
     let p = c .before .before .before .before .before .before .before .before .before .before .before .before .before .pre in
     let side = 1 - a .line .side in
-    let part-of = c .before .before .before .before .before .before .before .before .before .field-part .ensures .1 side (omega (arith, p .1 .side)) in
-    let e = ap (λ (q : Value). length (textOf q)) (value-kept (a .work .now) _ side (a .at) _ (c .before .before .before .before .before .before .before .before .before .field-part .result) part-of (c .before .before .before .before .before .before .before .put-gap .ensures .1) _ (c .before .before .before .before .before .before .before .before .before .field-part .ensures .0)) in
-    (omega (arith, p .0, c .before .before .before .before .before .before .before .put-gap .ensures .1 .outside .size, c .before .before .before .put-text .ensures .1 .outside .size), p .2, omega (arith, c .before .before .before .before .before .before .before .put-gap .ensures .0, p .6), omega (arith, e, c .before .before .before .put-text .ensures .0, p .6))
+    let part-of = b .field-part .ensures .1 side (omega (arith, p .1 .side)) in
+    let e = ap (λ (q : Value). length (textOf q)) (value-kept (a .work .now) _ side (a .at) _ (b .field-part .result) part-of (s .put-gap .ensures .1) _ (b .field-part .ensures .0)) in
+    (omega (arith, p .0, s .put-gap .ensures .1 .outside .size, c .before .before .before .put-text .ensures .1 .outside .size), p .2, omega (arith, s .put-gap .ensures .0, p .6), omega (arith, e, c .before .before .before .put-text .ensures .0, p .6))
 
 add-result : tie.Need-add-result
 add-result c =
+    let b = c .before .before .before .before .before .before .before .before .before .before .before .before in
+    let s = c .before .before .before .before .before .before .before .before .before .before in
     let a = c .before .before .before .before .before .before .before .before .before .before .before .before .before .before .before .before .args in
     let p = c .before .before .before .before .before .before .before .before .before .before .before .before .before .before .before .before .pre in
     let side = 1 - a .line .side in
-    let part-of = c .before .before .before .before .before .before .before .before .before .before .before .before .field-part .ensures .1 side (omega (arith, p .1 .side)) in
-    let e = ap (λ (q : Value). length (textOf q)) (value-kept (a .work .now) _ side (a .at) _ (c .before .before .before .before .before .before .before .before .before .before .before .before .field-part .result) part-of (c .before .before .before .before .before .before .before .before .before .before .put-gap .ensures .1) _ (c .before .before .before .before .before .before .before .before .before .before .before .before .field-part .ensures .0)) in
-    omega (arith, e, c .before .before .before .before .before .before .before .before .before .before .put-gap .ensures .0, c .before .before .before .before .before .before .put-text .ensures .0, p .6)
+    let part-of = b .field-part .ensures .1 side (omega (arith, p .1 .side)) in
+    let e = ap (λ (q : Value). length (textOf q)) (value-kept (a .work .now) _ side (a .at) _ (b .field-part .result) part-of (s .put-gap .ensures .1) _ (b .field-part .ensures .0)) in
+    omega (arith, e, s .put-gap .ensures .0, c .before .before .before .before .before .before .put-text .ensures .0, p .6)
 
 same-length : tie.Need-same-length
 same-length c = search needs
 
 returns : tie.Need-returns
 returns c =
+    let b = c .before .before .before .before .before .before .before .before .before .before .before .before in
+    let q = c .before .before .before .before .before .before .before .before .before .before in
+    let s = c .before .before .before .before .before .before in
     let a = c .before .before .before .before .before .before .before .before .before .before .before .before .before .before .before .before .args in
     let p = c .before .before .before .before .before .before .before .before .before .before .before .before .before .before .before .before .pre in
-    one-joined (a .work .now) _ _ _ (a .line) (a .k) (a .v) (a .i) (a .at) (c .before .before .before .before .before .before .before .before .before .before .put-gap .result) (c .before .before .before .before .before .before .put-text .result) (c .before .before .before .before .before .before .before .before .before .before .before .before .field-part .result)
-    (part (a .from) (a .n) (a .work .now)) (c .before .before .before .before .before .before .before .before .before .before .before .before .field-part .ensures .1 (1 - a .line .side) (omega (arith, p .1 .side))) (c .before .before .before .before .before .before .before .before .before .before .before .before .field-part .ensures .0)
-    (c .before .before .before .before .before .before .before .before .before .before .put-gap .ensures .0) (c .before .before .before .before .before .before .before .before .before .before .put-gap .ensures .1) (c .before .before .before .before .before .before .put-text .ensures .0) (c .before .before .before .before .before .before .put-text .ensures .1) _ (refl, refl, refl, refl) (c .before .before .put-entry .ensures)
+    one-joined (a .work .now) _ _ _ (a .line) (a .k) (a .v) (a .i) (a .at) (q .put-gap .result) (s .put-text .result) (b .field-part .result)
+    (part (a .from) (a .n) (a .work .now)) (b .field-part .ensures .1 (1 - a .line .side) (omega (arith, p .1 .side))) (b .field-part .ensures .0)
+    (q .put-gap .ensures .0) (q .put-gap .ensures .1) (s .put-text .ensures .0) (s .put-text .ensures .1) _ (refl, refl, refl, refl) (c .before .before .put-entry .ensures)
 
 pub join-one-spec : {M : Type 1} → statement M
 join-one-spec =

@@ -32,10 +32,11 @@ same-length c = search needs
 
 returns-2 : tie.Need-returns-2
 returns-2 c =
+    let b = c .before .before .before .before in
     let a = c .before .before .before .before .before .before .args in
     let p = c .before .before .before .before .before .before .pre in (
-      omega (arith, gap-size (a .work .now) (a .from) (a .n) (a .i) (omega (arith, p .0, p .4)) (c .before .before .before .before .if1 .left)),
-      grown-is (a .work .now) _ (a .side) (a .at) _ _ (sym (gap-some (part (a .from) (a .n) (a .work .now)) (a .i) (c .before .before .before .before .if1 .left))) (c .before .before .grow-text .ensures),
+      omega (arith, gap-size (a .work .now) (a .from) (a .n) (a .i) (omega (arith, p .0, p .4)) (b .if1 .left)),
+      grown-is (a .work .now) _ (a .side) (a .at) _ _ (sym (gap-some (part (a .from) (a .n) (a .work .now)) (a .i) (b .if1 .left))) (c .before .before .grow-text .ensures),
     )
 
 pub put-gap-spec : {M : Type 1} → statement M

@@ -30,8 +30,9 @@ add-write-decimal c = search needs
 
 write-decimal-requires : tie.Need-write-decimal-requires
 write-decimal-requires c κs =
-    let a = c .before .before .before .before .before .args in
-    let q = c .before .before .before .before .before .args .p in
+    let args = c .before .before .before .before .before .args in
+    let a = args in
+    let q = args .p in
     let p = c .before .before .before .before .before .pre in
     let e = ap length (number-text (q .kind) (q .word) (c .before .before .least-word .result) (part (q .from) (q .size) (a .work .now)) (c .before .before .before .if1 .taken) (c .before .before .least-word .ensures)) in
     (omega (arith, c .before .before .least-word .ensures), omega (arith, e, p .3, c .record-start .ensures))
@@ -41,15 +42,17 @@ same-length c = search needs
 
 returns : tie.Need-returns
 returns c =
-    let a = c .before .before .before .before .before .before .before .before .args in
-    let q = c .before .before .before .before .before .before .before .before .args .p in
+    let args = c .before .before .before .before .before .before .before .before .args in
+    let b = c .before .before .before .before .before in
+    let a = args in
+    let q = args .p in
     let p = c .before .before .before .before .before .before .before .before .pre in
-    let e = number-text (q .kind) (q .word) (c .before .before .before .before .before .least-word .result) (part (q .from) (q .size) (a .work .now)) (c .before .before .before .before .before .before .if1 .taken) (c .before .before .before .before .before .least-word .ensures) in
+    let e = number-text (q .kind) (q .word) (b .least-word .result) (part (q .from) (q .size) (a .work .now)) (c .before .before .before .before .before .before .if1 .taken) (b .least-word .ensures) in
     let l = ap length e in (
       c .before .before .write-decimal .ensures .0 ∙ sym l,
       grown-is (a .work .now) _ (a .side) (a .at) _ _ (sym e)
           (grown-whole (a .work .now) (a .side) (a .at) _ (p .0) (p .1) (omega (arith, l, p .3))
-          (c .before .before .write-decimal .ensures .1 ∙ ap (λ (m : ℕ). put (a .work .now) (m + a .at) (decimalText (unbias (c .before .before .before .before .before .least-word .result)))) (c .before .before .before .record-start .ensures))),
+          (c .before .before .write-decimal .ensures .1 ∙ ap (λ (m : ℕ). put (a .work .now) (m + a .at) (decimalText (unbias (b .least-word .result)))) (c .before .before .before .record-start .ensures))),
     )
 
 returns-2 : tie.Need-returns-2
@@ -62,8 +65,9 @@ returns-2 c =
 
 grow-text-requires : tie.Need-grow-text-requires
 grow-text-requires c κs =
-    let a = c .before .before .before .before .args in
-    let q = c .before .before .before .before .args .p in
+    let args = c .before .before .before .before .args in
+    let a = args in
+    let q = args .p in
     let p = c .before .before .before .before .pre in
     let e = ap length (text-words (q .kind) (q .word) (part (q .from) (q .size) (a .work .now)) (c .before .if2 .left)) in
     (p .0, p .1, omega (arith, e, length-part (q .from) (q .size) (a .work .now) (omega (arith, p .0, p .2 .fits)), p .3), p .2 .fits, p .2 .apart)
@@ -73,8 +77,9 @@ same-length-2 c = search needs
 
 returns-3 : tie.Need-returns-3
 returns-3 c =
-    let a = c .before .before .before .before .before .before .before .args in
-    let q = c .before .before .before .before .before .before .before .args .p in
+    let args = c .before .before .before .before .before .before .before .args in
+    let a = args in
+    let q = args .p in
     let p = c .before .before .before .before .before .before .before .pre in
     let e = text-words (q .kind) (q .word) (part (q .from) (q .size) (a .work .now)) (c .before .before .before .before .if2 .left) in
     let l = ap length e in (

@@ -36,11 +36,12 @@ add-result c = omega arith
 
 returns : tie.Need-returns Inv-loop μ-loop
 returns c =
+    let b = c .before .before .before .before in
     let a = c .before .before .before .before .before .before .args in
     let p = c .before .before .before .before .before .before .pre in
     let f = c .before .before .field-part .ensures in
     let m = c .before .text-length .ensures (a .work .now) (omega (arith, f .1 (1 - a .line .side) (omega (arith, p .1 .side)) .fits, p .0)) ∙ ap (λ (q : Value). length (textOf q)) (f .0) in
-    measured-big (a .work .now) (a .line) (a .k) (a .v) (a .n) (c .before .before .before .before .loop .i) (a .count) (c .before .before .before .before .loop .sum) (c .before .text-length .result) (c .before .before .before .before .loop .inv .2) m (c .before .before .before .loop-test .taken) (c .if1 .taken)
+    measured-big (a .work .now) (a .line) (a .k) (a .v) (a .n) (b .loop .i) (a .count) (b .loop .sum) (c .before .text-length .result) (b .loop .inv .2) m (c .before .before .before .loop-test .taken) (c .if1 .taken)
 
 gap-length-requires : tie.Need-gap-length-requires Inv-loop μ-loop
 gap-length-requires c κs = tt
@@ -56,11 +57,12 @@ add-result-2 c = omega arith
 
 returns-2 : tie.Need-returns-2 Inv-loop μ-loop
 returns-2 c =
+    let b = c .before .before .before .before .before .before in
     let a = c .before .before .before .before .before .before .before .before .args in
     let p = c .before .before .before .before .before .before .before .before .pre in
     let f = c .before .before .before .before .field-part .ensures in
     let m = c .before .before .before .text-length .ensures (a .work .now) (omega (arith, f .1 (1 - a .line .side) (omega (arith, p .1 .side)) .fits, p .0)) ∙ ap (λ (q : Value). length (textOf q)) (f .0) in
-    measured-over (a .work .now) (a .line) (a .k) (a .v) (a .n) (c .before .before .before .before .before .before .loop .i) (a .count) (c .before .before .before .before .before .before .loop .sum) (c .before .before .before .text-length .result) (c .before .before .before .before .before .before .loop .inv .2) m (c .before .before .before .before .before .loop-test .taken) (c .before .gap-length .result) (c .before .gap-length .ensures .1) (c .if2 .taken)
+    measured-over (a .work .now) (a .line) (a .k) (a .v) (a .n) (b .loop .i) (a .count) (b .loop .sum) (c .before .before .before .text-length .result) (b .loop .inv .2) m (c .before .before .before .before .before .loop-test .taken) (c .before .gap-length .result) (c .before .gap-length .ensures .1) (c .if2 .taken)
 
 add-i : tie.Need-add-i Inv-loop μ-loop
 add-i c = omega (arith, c .before .before .before .before .before .loop-test .taken, c .before .before .before .before .before .before .before .before .pre .2)
@@ -70,11 +72,13 @@ loop-less c = omega (arith, c .before .before .before .before .before .loop-test
 
 loop-again : tie.Need-loop-again Inv-loop μ-loop
 loop-again c =
+    let b = c .before .before .before .before .before .before in
+    let s = c .before .before .before .before .before in
     let a = c .before .before .before .before .before .before .before .before .args in
     let p = c .before .before .before .before .before .before .before .before .pre in
     let f = c .before .before .before .before .field-part .ensures in
     let m = c .before .before .before .text-length .ensures (a .work .now) (omega (arith, f .1 (1 - a .line .side) (omega (arith, p .1 .side)) .fits, p .0)) ∙ ap (λ (q : Value). length (textOf q)) (f .0) in
-    (omega (arith, c .before .before .before .before .before .loop-test .taken), c .if2 .left, measured-more (a .work .now) (a .line) (a .k) (a .v) (a .n) (c .before .before .before .before .before .before .loop .i) (a .count) (c .before .before .before .before .before .before .loop .sum) (c .before .before .before .text-length .result) (c .before .before .before .before .before .before .loop .inv .2) m (c .before .before .before .before .before .loop-test .taken) (c .before .gap-length .result) (c .before .gap-length .ensures .1))
+    (omega (arith, s .loop-test .taken), c .if2 .left, measured-more (a .work .now) (a .line) (a .k) (a .v) (a .n) (b .loop .i) (a .count) (b .loop .sum) (c .before .before .before .text-length .result) (b .loop .inv .2) m (s .loop-test .taken) (c .before .gap-length .result) (c .before .gap-length .ensures .1))
 
 returns-3 : tie.Need-returns-3 Inv-loop μ-loop
 returns-3 c =

@@ -31,11 +31,12 @@ text-size-requires c κs = search needs
 
 returns : tie.Need-returns
 returns c =
+    let b = c .before .before .before .before .before in
     let a = c .before .before .before .before .before .args in
     let t = c .text-size .ensures in (
       new-slot (a .work .now) (a .line) (a .k) (a .v) (a .i) (c .before .before .slot-kind .result) (c .before .slot-number .result) (c .text-size .result) (c .before .before .before .if1 .taken)
           (c .before .before .slot-kind .ensures) (c .before .slot-number .ensures) t,
-      λ side e. record { size = t .most; fits = omega (arith, t .most, c .before .before .before .before .before .pre .3); apart = inl (omega (arith, t .most, c .before .before .before .before .before .pre .3)) },
+      λ side e. record { size = t .most; fits = omega (arith, t .most, b .pre .3); apart = inl (omega (arith, t .most, b .pre .3)) },
     )
 
 returns-2 : tie.Need-returns-2

@@ -23,9 +23,10 @@ same-length c = search needs
 
 returns : tie.Need-returns
 returns c =
+    let b = c .before .before .before .before .before .before in
     let a = c .before .before .before .before .before .before .before .before .before .before .args in
     let p = c .before .before .before .before .before .before .before .before .before .before .pre in
-    counted-all (a .edition .number) (a .t .now) (a .kind) (a .work .now) _ _ (a .line) (c .before .before .before .before .before .before .split-all .result) (a .slot) (p .0) (p .1) (p .3) (c .before .before .before .before .before .before .split-all .ensures) _ refl (c .before .before .set-number .ensures)
+    counted-all (a .edition .number) (a .t .now) (a .kind) (a .work .now) _ _ (a .line) (b .split-all .result) (a .slot) (p .0) (p .1) (p .3) (b .split-all .ensures) _ refl (c .before .before .set-number .ensures)
 
 pub get-count-spec : {M : Type 1} → statement M
 get-count-spec =

@@ -19,10 +19,11 @@ same-length c = search needs
 
 returns : tie.Need-returns
 returns c =
+    let b = c .before .before .before .before .before .before in
     let a = c .before .before .before .before .before .before .before .before .before .before .args in
     let p = c .before .before .before .before .before .before .before .before .before .before .pre in
-    let o = c .before .before .before .before .before .before .split-to .ensures in
-    got (a .edition .number) (a .t .now) (a .kind) (a .work .now) _ _ (a .line) (c .before .before .before .before .before .before .split-to .result) (a .slot) (p .0) (p .1) (p .4) (a .k) (o .0) (o .2) (c .before .before .put-field .ensures)
+    let o = b .split-to .ensures in
+    got (a .edition .number) (a .t .now) (a .kind) (a .work .now) _ _ (a .line) (b .split-to .result) (a .slot) (p .0) (p .1) (p .4) (a .k) (o .0) (o .2) (c .before .before .put-field .ensures)
 
 pub get-field-spec : {M : Type 1} → statement M
 get-field-spec = tie.close (tie.spec split-to-requires put-field-requires same-length returns)

@@ -31,8 +31,9 @@ same-length-2 c = search needs
 
 returns-2 : tie.Need-returns-2
 returns-2 c =
+    let b = c .before .before .before .before .before .before in
     let a = c .before .before .before .before .before .before .before .before .before .before .args in
-    load-field (a .edition .number) (a .t .now) (a .kind) (a .work .now) (a .line) (a .a) (c .before .before .before .before .before .before .field-number .result) (c .before .before .before .before .before .before .field-number .ensures) _ (c .before .before .get-field .result) (c .before .before .before .before .if1 .left) (c .before .before .get-field .ensures)
+    load-field (a .edition .number) (a .t .now) (a .kind) (a .work .now) (a .line) (a .a) (b .field-number .result) (b .field-number .ensures) _ (c .before .before .get-field .result) (c .before .before .before .before .if1 .left) (c .before .before .get-field .ensures)
 
 pub load-field-spec : {M : Type 1} → statement M
 load-field-spec =

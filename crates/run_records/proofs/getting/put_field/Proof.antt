@@ -23,8 +23,9 @@ same-length c = search needs
 
 returns : tie.Need-returns
 returns c =
+    let b = c .before .before .before .before .before in
     let a = c .before .before .before .before .before .before .before .args in
-    slotted-is (a .work .now) _ (a .slot) _ _ (known-record (a .work .now) (a .line) 0 (c .before .before .before .before .before .record-start .result) (a .k) (c .before .before .before .before .before .record-start .ensures) (c .before .before .before .before .if1 .taken)) (c .before .before .set-value .ensures)
+    slotted-is (a .work .now) _ (a .slot) _ _ (known-record (a .work .now) (a .line) 0 (b .record-start .result) (a .k) (b .record-start .ensures) (c .before .before .before .before .if1 .taken)) (c .before .before .set-value .ensures)
 
 set-unset-requires : tie.Need-set-unset-requires
 set-unset-requires c κs = search needs
@@ -54,9 +55,11 @@ same-length-3 c = search needs
 
 returns-3 : tie.Need-returns-3
 returns-3 c =
+    let b = c .before .before .before .before .before .before .before .before .before .before in
+    let p = c .before .before .before .before .before in
     let a = c .before .before .before .before .before .before .before .before .before .before .before .before .args in
     slotted-is (a .work .now) _ (a .slot) _ _
-    (known-entry (a .work .now) (a .line) (c .before .before .before .before .before .before .before .before .before .before .record-start .result) (a .k) (c .before .before .before .before .before .read-entry .result) (c .before .before .before .before .before .before .before .before .before .before .record-start .ensures) (c .before .before .before .before .before .before .before .before .before .if1 .left) (omega (arith, c .before .before .before .before .before .before .before .if2 .left)) (c .before .before .before .before .before .read-entry .ensures))
+    (known-entry (a .work .now) (a .line) (b .record-start .result) (a .k) (p .read-entry .result) (b .record-start .ensures) (c .before .before .before .before .before .before .before .before .before .if1 .left) (omega (arith, c .before .before .before .before .before .before .before .if2 .left)) (p .read-entry .ensures))
     (c .before .before .set-value2 .ensures)
 
 pub put-field-spec : {M : Type 1} → statement M

@@ -34,10 +34,12 @@ same-length c = search needs
 
 returns-2 : tie.Need-returns-2
 returns-2 c =
+    let b = c .before .before .before .before .before .before .before .before .before in
+    let q = c .before .before .before .before .before .before in
     let a = c .before .before .before .before .before .before .before .before .before .before .before .before .args in
     let p = c .before .before .before .before .before .before .before .before .before .before .before .before .pre in
-    set-begun (a .edition .number) (a .t .now) (a .kind) (a .work .now) (a .line) (a .v) (c .before .before .before .before .before .before .before .before .before .refusal-of .result) (p .1) (c .before .before .before .before .before .before .before .before .before .refusal-of .ensures)
-    (c .before .before .before .before .before .before .show .last .0) _ (c .before .before .begin-part .result .line) (c .before .before .before .before .before .before .show .result) (c .before .before .begin-part .result .outcome) (c .before .before .before .before .before .before .before .before .if1 .left) (p .0) (p .3) (c .before .before .before .before .before .before .show .ensures) (c .before .before .begin-part .ensures)
+    set-begun (a .edition .number) (a .t .now) (a .kind) (a .work .now) (a .line) (a .v) (b .refusal-of .result) (p .1) (b .refusal-of .ensures)
+    (q .show .last .0) _ (c .before .before .begin-part .result .line) (q .show .result) (c .before .before .begin-part .result .outcome) (c .before .before .before .before .before .before .before .before .if1 .left) (p .0) (p .3) (q .show .ensures) (c .before .before .begin-part .ensures)
 
 pub set-record-spec : {M : Type 1} → statement M
 set-record-spec =

@@ -23,10 +23,14 @@ shared-slice-read-b : tie.Need-shared-slice-read-b
 shared-slice-read-b c = search needs
 
 returns-3 : tie.Need-returns-3
-returns-3 c = ((blank (blanks (c .before .before .before .before .before .before .args .edition .number)), of-blank (c .before .before .before .before .before .before .args .edition .number) (c .before .before .before .before .before .before .args .separator .now) (omega (arith, c .before .before .before .if1 .left)) (omega (arith, c .before .before .if2 .left)) (c .if3 .taken), refl), tt)
+returns-3 c =
+    let a = c .before .before .before .before .before .before .args in
+    ((blank (blanks (a .edition .number)), of-blank (a .edition .number) (a .separator .now) (omega (arith, c .before .before .before .if1 .left)) (omega (arith, c .before .before .if2 .left)) (c .if3 .taken), refl), tt)
 
 returns-4 : tie.Need-returns-4
-returns-4 c = ((byte _, of-byte (c .before .before .before .before .before .before .args .edition .number) (c .before .before .before .before .before .before .args .separator .now) (omega (arith, c .before .before .before .if1 .left)) (omega (arith, c .before .before .if2 .left)) (c .if3 .left), refl), tt)
+returns-4 c =
+    let a = c .before .before .before .before .before .before .args in
+    ((byte _, of-byte (a .edition .number) (a .separator .now) (omega (arith, c .before .before .before .if1 .left)) (omega (arith, c .before .before .if2 .left)) (c .if3 .left), refl), tt)
 
 pub kind-of-spec : {M : Type 1} → statement M
 kind-of-spec =

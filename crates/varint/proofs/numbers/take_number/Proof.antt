@@ -41,20 +41,33 @@ last-requires c κs = (c .before .before .before .loop .inv .3, omega (arith, c 
 
 returns : tie.Need-returns Inv-loop μ-loop
 returns c =
-    subst (TakesAt (c .before .before .before .before .before .before .args .image .now) (c .before .before .before .before .before .before .args .at)) (sym (c .last .ensures))
-    (take-last (c .before .before .before .before .before .before .args .image .now) (c .before .before .before .before .before .before .args .at) (c .before .before .before .before .loop .k) (c .before .before .before .loop-test .taken) (c .before .before .before .before .loop .value) (c .before .before .before .before .loop .scale) (c .before .before .before .before .loop .inv .4) (c .before .if1 .taken))
+    let a = c .before .before .before .before .before .before .args in
+    let b = c .before .before .before .before in
+    subst (TakesAt (a .image .now) (a .at)) (sym (c .last .ensures))
+    (take-last (a .image .now) (a .at) (b .loop .k) (c .before .before .before .loop-test .taken) (b .loop .value) (b .loop .scale) (b .loop .inv .4) (c .before .if1 .taken))
 
 returns-2 : tie.Need-returns-2 Inv-loop μ-loop
-returns-2 c = take-many (c .before .before .before .before .before .before .args .image .now) (c .before .before .before .before .before .before .args .at) (c .before .before .before .before .loop .k) (c .before .before .before .loop-test .taken) (c .before .before .before .before .loop .value) (c .before .before .before .before .loop .scale) (c .before .before .before .before .loop .inv .4) (c .before .before .before .before .loop .inv .2) (c .if2 .taken) (c .before .before .shared-slice-known2 .given (c .before .before .before .before .before .before .args .at + c .before .before .before .before .loop .k) .fits) (c .before .if1 .left)
+returns-2 c =
+    let a = c .before .before .before .before .before .before .args in
+    let b = c .before .before .before .before in
+    take-many (a .image .now) (a .at) (b .loop .k) (c .before .before .before .loop-test .taken) (b .loop .value) (b .loop .scale) (b .loop .inv .4) (b .loop .inv .2) (c .if2 .taken) (c .before .before .shared-slice-known2 .given (a .at + b .loop .k) .fits) (c .before .if1 .left)
 
 mul-value : tie.Need-mul-value Inv-loop μ-loop
-mul-value c = omega (arith, c .before .before .before .before .loop .inv .2, scale-most (c .before .before .before .before .loop .k) (c .before .before .before .before .loop .inv .1), group-fits (c .before .before .before .before .loop .scale) (getD (c .before .before .before .before .before .before .args .image .now) (c .before .before .before .before .before .before .args .at + c .before .before .before .before .loop .k) 0 - 128) (omega (arith, c .before .before .before .before .loop .inv .2, scale-most (c .before .before .before .before .loop .k) (c .before .before .before .before .loop .inv .1))) (omega (arith, c .before .before .shared-slice-known2 .given (c .before .before .before .before .before .before .args .at + c .before .before .before .before .loop .k) .fits)))
+mul-value c =
+    let a = c .before .before .before .before .before .before .args in
+    let b = c .before .before .before .before in
+    omega (arith, b .loop .inv .2, scale-most (b .loop .k) (b .loop .inv .1), group-fits (b .loop .scale) (getD (a .image .now) (a .at + b .loop .k) 0 - 128) (omega (arith, b .loop .inv .2, scale-most (b .loop .k) (b .loop .inv .1))) (omega (arith, c .before .before .shared-slice-known2 .given (a .at + b .loop .k) .fits)))
 
 add-value : tie.Need-add-value Inv-loop μ-loop
-add-value c = omega (arith, c .before .before .before .before .loop .inv .2, c .before .before .before .before .loop .inv .3, scale-most (c .before .before .before .before .loop .k) (c .before .before .before .before .loop .inv .1), group-fits (c .before .before .before .before .loop .scale) (getD (c .before .before .before .before .before .before .args .image .now) (c .before .before .before .before .before .before .args .at + c .before .before .before .before .loop .k) 0 - 128) (omega (arith, c .before .before .before .before .loop .inv .2, scale-most (c .before .before .before .before .loop .k) (c .before .before .before .before .loop .inv .1))) (omega (arith, c .before .before .shared-slice-known2 .given (c .before .before .before .before .before .before .args .at + c .before .before .before .before .loop .k) .fits)))
+add-value c =
+    let a = c .before .before .before .before .before .before .args in
+    let b = c .before .before .before .before in
+    omega (arith, b .loop .inv .2, b .loop .inv .3, scale-most (b .loop .k) (b .loop .inv .1), group-fits (b .loop .scale) (getD (a .image .now) (a .at + b .loop .k) 0 - 128) (omega (arith, b .loop .inv .2, scale-most (b .loop .k) (b .loop .inv .1))) (omega (arith, c .before .before .shared-slice-known2 .given (a .at + b .loop .k) .fits)))
 
 mul-scale : tie.Need-mul-scale Inv-loop μ-loop
-mul-scale c = omega (arith, c .before .before .before .before .loop .inv .2, scale-most (c .before .before .before .before .loop .k) (c .before .before .before .before .loop .inv .1))
+mul-scale c =
+    let b = c .before .before .before .before in
+    omega (arith, b .loop .inv .2, scale-most (b .loop .k) (b .loop .inv .1))
 
 add-k : tie.Need-add-k Inv-loop μ-loop
 add-k c = omega (arith, c .before .before .before .before .loop .inv .1)
@@ -64,12 +77,14 @@ loop-less c = omega (arith, c .before .before .before .loop-test .taken)
 
 loop-again : tie.Need-loop-again Inv-loop μ-loop
 loop-again c =
-    let b = c .before .before .shared-slice-known2 .given (c .before .before .before .before .before .before .args .at + c .before .before .before .before .loop .k) .fits in (
+    let a = c .before .before .before .before .before .before .args in
+    let p = c .before .before .before .before in
+    let b = c .before .before .shared-slice-known2 .given (a .at + p .loop .k) .fits in (
       omega (arith, c .before .before .before .loop-test .taken),
-      omega (arith, c .before .before .before .before .loop .inv .1, c .if2 .left),
-      scale-more (c .before .before .before .before .loop .scale) (c .before .before .before .before .loop .k) (c .before .before .before .before .loop .inv .2),
-      group-below (c .before .before .before .before .loop .value) (c .before .before .before .before .loop .scale) (getD (c .before .before .before .before .before .before .args .image .now) (c .before .before .before .before .before .before .args .at + c .before .before .before .before .loop .k) 0 - 128) (c .before .before .before .before .loop .inv .3) (omega (arith, b)),
-      take-more (c .before .before .before .before .before .before .args .image .now) (c .before .before .before .before .before .before .args .at) (c .before .before .before .before .loop .k) (c .before .before .before .loop-test .taken) (c .before .before .before .before .loop .value) (c .before .before .before .before .loop .scale) (c .before .before .before .before .loop .inv .4) (omega (arith, c .before .before .before .before .loop .inv .2, scale-some (c .before .before .before .before .loop .k))) b (c .before .if1 .left),
+      omega (arith, p .loop .inv .1, c .if2 .left),
+      scale-more (p .loop .scale) (p .loop .k) (p .loop .inv .2),
+      group-below (p .loop .value) (p .loop .scale) (getD (a .image .now) (a .at + p .loop .k) 0 - 128) (p .loop .inv .3) (omega (arith, b)),
+      take-more (a .image .now) (a .at) (p .loop .k) (c .before .before .before .loop-test .taken) (p .loop .value) (p .loop .scale) (p .loop .inv .4) (omega (arith, p .loop .inv .2, scale-some (p .loop .k))) b (c .before .if1 .left),
     )
 
 returns-3 : tie.Need-returns-3 Inv-loop μ-loop
