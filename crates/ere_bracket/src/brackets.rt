@@ -1,4 +1,8 @@
 // The items of a bracket, and the bracket.
+//
+// The loop's invariant (`Leads` of specs/Items.antt): the class of the items so far, with the bytes of those that the
+// definition reads from `s.at` on, is the class of all; if none follow, the bracket ended there, or the definition
+// reads none. A step that doesn't refuse goes on by a byte at least.
 ghost use mathlib.Core.Path.{_≡_};
 ghost use mathlib.Core.Bool.{true, false};
 ghost use Prim.Native.Nat.{_<_};

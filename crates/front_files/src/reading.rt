@@ -4,14 +4,14 @@ ghost use Prim.Native.Nat.{_+_, _≤_};
 ghost use lib.ListN.{length, take};
 ghost use Rattle.front_files.specs.Filling.{FilledTo, ReadFrom};
 
-// How far the room is filled: so many bytes; or the file has more than fits; or a call failed, and errno says why.
+// How far the room is filled: by this many bytes; or the file has more than fits; or a call failed, and errno says why.
 pub enum Filled {
     To(usize),
     Full,
     Failed,
 }
 
-// What one read did: it gave so many bytes, or the file has ended, or the call failed.
+// What one read did: it gave this many bytes, or the file has ended, or the call failed.
 enum ReadStep {
     More(usize),
     End,

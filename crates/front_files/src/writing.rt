@@ -3,7 +3,7 @@ ghost use Prim.Native.Nat.{_≤_};
 ghost use lib.ListN.{length};
 ghost use Rattle.front_files.specs.Filling.{WrittenFrom};
 
-// What one write did: it took so many bytes, or the call failed.
+// What one write did: it took this many bytes, or the call failed.
 enum WriteStep {
     More(usize),
     Stop,

@@ -5,7 +5,7 @@ use crate::saying;
 use front_files::Filled;
 use libc::STDIN_FILENO;
 
-// What a room holds: so many bytes; or the files have more than fits; or a status, and what failed is said.
+// What a room holds: this many bytes; or the files have more than fits; or a status, and what failed is said.
 pub enum Loaded {
     To(usize),
     Full,

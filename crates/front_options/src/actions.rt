@@ -20,7 +20,7 @@ pub enum Action {
     RunImage,
 }
 
-// The options by number, as their words stand in the table of `kind_of`.
+// The options by number, as their words are in the table of `kind_of`.
 pub const COUNTS: usize = 1;
 
 pub const HELP: usize = 2;

@@ -6,7 +6,7 @@ use edition::Outcome;
 use front_io::Loaded;
 use image_check::Verdict;
 
-// An image of so many bytes at the front of its room, or the status that the program ends with.
+// An image of this many bytes at the front of its room, or the status that the program ends with.
 pub enum Made {
     Image(usize),
     Status(u64),

@@ -1,4 +1,8 @@
 // Reading an image: its content words, from its bytes.
+//
+// The invariant of a pass (`Going` of proofs/Passing.antt, for reading and writing): what the definition reads from `at`
+// on, where `s` says what comes next, put after the first `k` words, is what it puts for the whole image, as far as the
+// room goes; and where it reads nothing from there, the bytes are no image's.
 ghost use mathlib.Core.Path.{_≡_};
 ghost use Prim.Native.Nat.{_≤_};
 ghost use lib.ListN.{length};

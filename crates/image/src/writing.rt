@@ -1,4 +1,6 @@
 // Writing an image: its bytes, from its content words.
+//
+// The invariant of a pass is that of reading, with words taken and bytes put.
 ghost use mathlib.Core.Path.{_≡_};
 ghost use Prim.Native.Nat.{_+_, _≤_, _<_, _^_};
 ghost use lib.ListN.{length};

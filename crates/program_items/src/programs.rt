@@ -1,4 +1,8 @@
 // The reader of items and of whole programs.
+//
+// What `Reading` of program_parser/specs/Reading.antt says of an expression, the contracts here say of items, of each
+// section by itself: from its instruction n on a section has the code of those parts of the definition's tree that go
+// there, and the others are as they were.
 ghost use mathlib.Core.Path.{_≡_};
 ghost use mathlib.Core.Bool.{true, false};
 ghost use Prim.Native.Nat.{_≤_};

@@ -64,7 +64,7 @@ fn wanted(asked: &[u8], k: usize) -> usize
     n
 }
 
-// Returns the even share of each automaton that slot k asks for, of so many words; 0 if it asks for none.
+// Returns the even share of each automaton that slot k asks for, of `words` words; 0 if it asks for none.
 pub fn share(asked: &[u8], k: usize, words: usize) -> usize
     requires { ⌜ (length (now asked) ≡ poolSlots) × (k < poolSlots) ⌝ }
 {
