@@ -1,6 +1,7 @@
 -- Laws of a step.
 pub mod Stores
 pub mod Advance
+pub mod Separated
 pub mod Worked
 pub mod Moving
 pub mod Reaching

@@ -30,10 +30,10 @@ ghost use Rattle.run_operations.specs.Constants.{Fits, Decodes};
 ghost use Rattle.run_operations.specs.Assigns.{Known, Assigns};
 ghost use Rattle.run_operations.specs.Marks.{Searches, Locates, markedIn};
 ghost use Rattle.run_operations.specs.Prints.{Writes, written, PrintedBy};
-ghost use Rattle.run_operations.specs.declared.variables.Assigned.{Assigned};
 ghost use Rattle.run_operations.specs.declared.printing.Printed.{Printed as Prints};
-ghost use Rattle.run_step.specs.Machine.{advanced, advancedUnless, withLine, withKind, withLast, sectionBy};
-ghost use Rattle.run_step.specs.Machine.{endedIn, exitedIn, branchedTo, printedTo};
+ghost use Rattle.run_step.specs.Machine.{kindOf, kindIn, advanced, advancedUnless, withLine, withSeparator};
+ghost use Rattle.run_step.specs.Machine.{withLast, sectionBy, endedIn, exitedIn, branchedTo, printedTo};
+use crate::machine;
 use crate::machine::BEGIN;
 use crate::machine::BETWEEN;
 use crate::machine::FINISH;
@@ -67,11 +67,11 @@ pub fn push_constant(
 
 // Pushes variable v.
 pub fn get_variable(work: &mut [u8], fs: &[u64], edition: Edition, m: Machine, v: usize) -> Machine
-    requires { ⌜ (baseEnd ≤ length (now work)) × Lined (m .line) × Sized (m .kind) (now fs) × (m .records ≤ numberBound)
-        × (operandDepth + v < slotCount) × (m .depth < slotCount) × (m .at < 1024) ⌝ }
+    requires { ⌜ (baseEnd ≤ length (now work)) × Lined (m .line) × Sized (kindIn m) (now fs)
+        × (m .records ≤ numberBound) × (operandDepth + v < slotCount) × (m .depth < slotCount) × (m .at < 1024) ⌝ }
     ensures { λ r. ⌜ ((l : Line) × (r ≡ advanced (withLine m l) (m .depth + 1))
         × Did (now (work .entry)) (m .line) (now (work .exit)) l (Safe (now (work .entry)) (now (work .exit)) l)
-        ((t : List ℕ) → Tells (edition .number) t (now (fs .entry)) (m .kind)
+        ((t : List ℕ) → Tells (edition .number) t (now (fs .entry)) (kindIn m)
         → (s : Separator) → InForce (edition .number) t (m .line) s
         → (w : World) → Known (now (work .entry)) (m .line) s (m .records) w → (b : Value)
         → valueAt (edition .number) w v ≡ some b
@@ -79,7 +79,7 @@ pub fn get_variable(work: &mut [u8], fs: &[u64], edition: Edition, m: Machine, v
         × (storeOf (now (work .exit)) l s ≡ withSlot (storeOf (now (work .entry)) (m .line) s) (m .depth) b))) ⌝ }
 {
     let d = m.depth;
-    let kind = m.kind;
+    let kind = machine::kind_of(m.separator);
     let line = run_operations::get_variable(work, fs, kind, edition, m.line, m.records, v, d);
     let r = m.with_line(line);
     r.on(d + 1)
@@ -96,30 +96,30 @@ pub fn set_variable(
     requires { ⌜ (baseEnd ≤ length (now work)) × Lined (m .line) × (length (now fs) ≡ tableWords)
         × (operandDepth + v < slotCount)
         × (1 ≤ m .depth) × (m .depth ≤ slotCount) × (m .at < 1024) ⌝ }
-    ensures { λ r. ⌜ ((b : Assigned) × (r ≡ advanced (withKind (withLine m (b .line)) (b .kind)) (m .depth))
-        × Did (now (work .entry)) (m .line) (now (work .exit)) (b .line)
-        ((Safe (now (work .entry)) (now (work .exit)) (b .line)) × (length (now (fs .exit)) ≡ tableWords))
-        (Assigns (edition .number) (now (fs .entry)) (now (fs .exit)) (m .kind) (b .kind) (now (work .entry))
-        (now (work .exit)) (m .line)
-        (b .line) v (m .depth - 1))) ⌝ }
+    ensures { λ r. ⌜ ((l : Line) × (k : ℕ) × (r ≡ advanced (withSeparator (withLine m l) k) (m .depth))
+        × Did (now (work .entry)) (m .line) (now (work .exit)) l
+        ((Safe (now (work .entry)) (now (work .exit)) l) × (length (now (fs .exit)) ≡ tableWords))
+        (Assigns (edition .number) (now (fs .entry)) (now (fs .exit)) (kindIn m) (kindOf k)
+        (now (work .entry)) (now (work .exit)) (m .line) l v (m .depth - 1))) ⌝ }
 {
     let d = m.depth;
-    let kind = m.kind;
+    let kind = machine::kind_of(m.separator);
     let s = run_operations::set_variable(work, fs, kind, edition, m.line, v, d - 1);
     let next = s.kind;
-    let r = m.with_separator(s.line, next);
+    let separator = machine::word_of(next);
+    let r = m.with_separator(s.line, separator);
     r.on(d)
 }
 
 // Replaces a field's number by the field.
 pub fn get_field(work: &mut [u8], fs: &[u64], edition: Edition, m: Machine) -> Machine
-    requires { ⌜ (baseEnd ≤ length (now work)) × Lined (m .line) × Sized (m .kind) (now fs) × (1 ≤ m .depth)
+    requires { ⌜ (baseEnd ≤ length (now work)) × Lined (m .line) × Sized (kindIn m) (now fs) × (1 ≤ m .depth)
         × (m .depth ≤ slotCount)
         × (m .at < 1024) ⌝ }
     ensures { λ r. ⌜ ((b : Begun) × (r ≡ advancedUnless (withLine m (b .line)) (b .outcome) (m .depth))
         × Did (now (work .entry)) (m .line) (now (work .exit)) (b .line)
         (Safe (now (work .entry)) (now (work .exit)) (b .line))
-        ((t : List ℕ) → Tells (edition .number) t (now (fs .entry)) (m .kind)
+        ((t : List ℕ) → Tells (edition .number) t (now (fs .entry)) (kindIn m)
         → (s : Separator) → InForce (edition .number) t (m .line) s
         → (w : World) → w .current ≡ recordOf (lineOf (now (work .entry)) (m .line))
         (fieldsOf (now (work .entry)) (m .line) s)
@@ -128,7 +128,7 @@ pub fn get_field(work: &mut [u8], fs: &[u64], edition: Edition, m: Machine) -> M
         (getField (slotAt (now (work .entry)) (m .depth - 1)) w))) ⌝ }
 {
     let d = m.depth;
-    let kind = m.kind;
+    let kind = machine::kind_of(m.separator);
     let l = run_records::load_field(work, fs, kind, edition, m.line, d - 1);
     let r = m.with_line(l.line);
     r.after(l.outcome, d)
@@ -136,16 +136,16 @@ pub fn get_field(work: &mut [u8], fs: &[u64], edition: Edition, m: Machine) -> M
 
 // Sets a field, by its number, to the last operand, which is left.
 pub fn set_field(work: &mut [u8], fs: &[u64], edition: Edition, m: Machine) -> Machine
-    requires { ⌜ (baseEnd ≤ length (now work)) × Lined (m .line) × Sized (m .kind) (now fs) × (2 ≤ m .depth)
+    requires { ⌜ (baseEnd ≤ length (now work)) × Lined (m .line) × Sized (kindIn m) (now fs) × (2 ≤ m .depth)
         × (m .depth ≤ operandDepth)
         × (m .at < 1024) ⌝ }
     ensures { λ r. ⌜ ((b : Begun) × (r ≡ advancedUnless (withLine m (b .line)) (b .outcome) (m .depth - 1))
-        × Stores (edition .number) (now (fs .entry)) (m .kind) (now (work .entry)) (now (work .exit)) (m .line)
+        × Stores (edition .number) (now (fs .entry)) (kindIn m) (now (work .entry)) (now (work .exit)) (m .line)
         (b .line) (m .depth - 2)
         (b .outcome)) ⌝ }
 {
     let d = m.depth;
-    let kind = m.kind;
+    let kind = machine::kind_of(m.separator);
     let l = run_join::store_field(work, fs, kind, edition, m.line, d - 2);
     let r = m.with_line(l.line);
     r.after(l.outcome, d - 1)

@@ -5,10 +5,12 @@ mod stepping;
 
 pub use machine::BEGIN;
 pub use machine::BETWEEN;
+pub use machine::BLANKS;
 pub use machine::FINISH;
 pub use machine::GOES;
 pub use machine::MAIN;
 pub use machine::Machine;
 pub use machine::TO_END;
 pub use machine::TO_RECORDS;
+pub use machine::kind_of;
 pub use stepping::step;

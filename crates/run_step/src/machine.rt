@@ -1,7 +1,8 @@
 // What a run carries by value.
 ghost use mathlib.Core.Path.{_≡_};
 ghost use Prim.Native.Nat.{_<_};
-ghost use Rattle.run_step.specs.Machine.{stopped, goneTo, advanced, advancedUnless, withLine, withKind};
+ghost use Rattle.run_step.specs.Machine.{kindOf, stopped, goneTo, advanced, advancedUnless, withLine};
+ghost use Rattle.run_step.specs.Machine.{withSeparator};
 use run_room::Line;
 use separators::Kind;
 
@@ -24,9 +25,43 @@ pub const TO_RECORDS: u64 = 101;
 
 pub const TO_END: u64 = 102;
 
+// What FS separates by, as a word, since an enum in a struct goes through memory: a byte is its own number; blanks, an
+// ERE and nothing come above.
+pub const BLANKS: usize = 256;
+
+const ERE: usize = 257;
+
+const NOTHING: usize = 258;
+
+// Returns the kind of separator that a word means; one above those three is nothing.
+pub fn kind_of(word: usize) -> Kind
+    ensures { λ r. ⌜ r ≡ kindOf word ⌝ }
+{
+    if word < BLANKS {
+        return Kind::Byte(word as u8);
+    }
+    match word {
+        BLANKS => Kind::Blank,
+        ERE => Kind::Pattern,
+        _ => Kind::Refused,
+    }
+}
+
+// Codes a kind of separator as a word.
+pub fn word_of(kind: Kind) -> usize
+    ensures { λ r. ⌜ kindOf r ≡ kind ⌝ }
+{
+    match kind {
+        Kind::Blank => BLANKS,
+        Kind::Byte(b) => b as usize,
+        Kind::Pattern => ERE,
+        Kind::Refused => NOTHING,
+    }
+}
+
 // Where a run is, but for the rooms: whether it goes on; the instruction; how many operands there are; steps, records
 // begun,
-// the place in the lines, bytes written; the ERE of the shared table; what FS separates by; and the record.
+// the place in the lines, bytes written; the ERE of the shared table; the word of what FS separates by; and the record.
 pub struct Machine {
     pub status: u64,
     pub at: usize,
@@ -36,7 +71,7 @@ pub struct Machine {
     pub input: usize,
     pub written: usize,
     pub last: usize,
-    pub kind: Kind,
+    pub separator: usize,
     pub line: Line,
 }
 
@@ -91,20 +126,12 @@ impl Machine {
     }
 
     // Returns the machine with another record and what FS separates by.
-    pub fn with_separator(self, line: Line, kind: Kind) -> Machine
-        ensures { λ r. ⌜ r ≡ withKind (withLine «self» line) kind ⌝ }
+    pub fn with_separator(self, line: Line, separator: usize) -> Machine
+        ensures { λ r. ⌜ r ≡ withSeparator (withLine «self» line) separator ⌝ }
     {
-        Machine {
-            status: self.status,
-            at: self.at,
-            depth: self.depth,
-            steps: self.steps,
-            records: self.records,
-            input: self.input,
-            written: self.written,
-            last: self.last,
-            kind: kind,
-            line: line,
-        }
+        let mut m = self;
+        m.line = line;
+        m.separator = separator;
+        m
     }
 }

@@ -7,11 +7,14 @@ use borrow.Author.Needs.{needs}
 use Rattle.run_step.proofs.arms.set_field.Statement.{statement}
 use Rattle.run_step.proofs.arms.set_field.Tie as tie
 
+kind-of-requires : tie.Need-kind-of-requires
+kind-of-requires c κs = search needs
+
 sub-store-field : tie.Need-sub-store-field
 sub-store-field c = search needs
 
 store-field-requires : tie.Need-store-field-requires
-store-field-requires c κs = search needs
+store-field-requires c κs = rw (c .before .kind-of .ensures) (search needs)
 
 with-line-requires : tie.Need-with-line-requires
 with-line-requires c κs = search needs
@@ -21,7 +24,7 @@ sub-after c = search needs
 
 after-requires : tie.Need-after-requires
 after-requires c κs =
-    let p = c .before .before .before .before .before .before .before .pre in
+    let p = c .before .before .before .before .before .before .before .before .pre in
     subst (λ (q : Machine). q .at < 1024) (sym (c .with-line .ensures)) (p .5)
 
 same-length : tie.Need-same-length
@@ -29,19 +32,21 @@ same-length c = search needs
 
 returns : tie.Need-returns
 returns c =
-    let m = c .before .before .before .before .before .before .before .before .args .m in
+    let m = c .before .before .before .before .before .before .before .before .before .args .m in
     let l = c .before .before .before .before .store-field in
+    let k = c .before .before .before .before .before .before .kind-of in
     let w = c .before .with-line in (
       l .result,
       c .after .ensures ∙ ap (λ (q : Machine). advancedUnless q (l .result .outcome) (m .depth - 1))
           (w .ensures),
-      l .ensures,
+      rw (k .ensures) at (l .ensures),
     )
 
 pub set-field-spec : {M : Type 1} → statement M
 set-field-spec =
     tie.close
     (tie.spec
+    kind-of-requires
     sub-store-field
     store-field-requires
     with-line-requires
