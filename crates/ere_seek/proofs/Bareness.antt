@@ -58,6 +58,11 @@ module _ (t x : List ℕ) (at : ℕ) where
       let z : suc (length x - k) ≡ 1 = omega arith in
       ap (longestTo t x at 1 k) z ∙ none-empty k
 
+  -- where nothing may start
+  pub bare-nothing : (k : ℕ) → k ≤ length x → row t (entryRow (at + k)) ≡ noPlace → Bare t x at k
+  unfolding longestTo liveAt
+  bare-nothing k h e = bare-after k 0 (omega arith) refl e
+
   -- ---- by the bytes
 
   live-one : (k : ℕ) → row t (entryRow (at + k)) ≡ row t 1 → liveAt t x at k 1 ≡ step t (row t 1) (getD x k 0)

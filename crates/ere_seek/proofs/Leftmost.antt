@@ -10,9 +10,9 @@ use native.Mathlib.Omega.{arith}
 use lib.ListN.{length, take}
 use lib.Dec.{eqb}
 use lib.Seq.{getD-take, length-take-le}
-use borrow.Author.Tests.{eq-eqb, ne-eqb, eqb-false, le-leb}
+use borrow.Author.Tests.{eq-eqb, ne-eqb, eqb-true, eqb-false, le-leb}
 use Rattle.lists.proofs.Tests.{clash}
-use Rattle.ere_table.specs.Table.{row}
+use Rattle.ere_table.specs.Table.{row, noPlace}
 use Rattle.ere_table.specs.Wiring.{stopIn}
 use Rattle.ere_search.specs.Walk.{liveAt, longestTo, longestOf, entryRow}
 use Rattle.ere_search.specs.Find.{Inside, Finds}
@@ -20,12 +20,13 @@ use Rattle.ere_search.specs.declared.search.Found.{Found}
 use Rattle.ere_search.specs.declared.search.Found.the-variants.{At, Nowhere}
 use Rattle.ere_search.proofs.Meets.{Told, told}
 use Rattle.ere_search.proofs.Answers.{Seen, finds}
+use Rattle.ere_automaton.specs.Layout.{laterState, acceptedState}
 use Rattle.ere_automaton.specs.Follows.{FollowsOne, oneLength, oneIn, pendingIn, Seeks}
 use Rattle.ere_seek.specs.Starts.{Bare, Bares, Hulled, Candidate}
 use Rattle.ere_seek.specs.One.{accepts, endOf, Longest}
 use Rattle.ere_seek.specs.Pending.{Cleared}
 use Rattle.ere_seek.specs.Seeking.{emptyAt, Sought, SoughtFrom, Both, SoughtBoth, FindsBoth}
-use Rattle.ere_seek.proofs.Bareness.{bare-end, bares-both}
+use Rattle.ere_seek.proofs.Bareness.{bare-end, bare-nothing, bares-both, row-later}
 use Rattle.ere_seek.proofs.Following.{bits-stop}
 
 -- ---- the longest match from a start, by its end
@@ -118,6 +119,28 @@ module _ (d p x : List ℕ) (at s : ℕ) (C : Candidate d x 0 (eqb at 0) s) wher
       record {
         inside = F .inside;
         sought = λ t B. F .sought t (B .one) (B .one-hull) (λ k l m. absurd (omega arith));
+      }
+
+  -- none from the first candidate, and none starts elsewhere than at the text's start
+  pub both-only : (far until e : ℕ) → eqb (laterState d) (acceptedState d) ≡ true
+      → until ≡ cond (eqb (laterState d) (acceptedState d)) (length x) far → e ≤ s
+      → Longest d x s (eqb (at + s) 0) until e → SoughtBoth d p x at Nowhere
+  both-only far until e z u l L =
+      record {
+        inside = tt;
+        sought = λ t B k a b.
+            let D = B .one in
+            let none : row t 1 ≡ noPlace =
+            sym (D .elsewhere) ∙ ap (D .sets) (eqb-true (laterState d) (acceptedState d) z) ∙ D .stays in
+            let h : until ≡ length x = u ∙ ap (λ (y : Bool). cond y (length x) far) z in
+            let here = longest-none t d x at s (eqb (at + s) 0) D refl until e L (omega arith) l in
+            elim (decLt k s) [
+              | yes y ↦ bares-first t d x at s D (B .one-hull) C k a y
+              | no y ↦ elim (decLt s k) [
+                | yes w ↦ bare-nothing t x at k (omega arith) (row-later t (at + k) (omega arith) ∙ none)
+                | no w ↦ let same : s ≡ k = omega arith in subst (Bare t x at) same here
+              ]
+            ];
       }
 
   -- from where nothing is pending

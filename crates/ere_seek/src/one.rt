@@ -28,7 +28,7 @@ fn two_more(d: &[u16], k: usize, x: &[u8], l: Reached) -> Reached
     let i = l.at;
     let s = l.state;
     let m = states::next(d, s, x[i]);
-    let q = ere_automaton::pair(d, k, s, x[i], x[i + 1]);
+    let q = states::pair(d, k, s, x[i], x[i + 1]);
     let middle = states::accepted(states::accept_bits(d, k, m), false);
     let b = states::either(middle, i + 1, l.best);
     let end = states::accepted(states::accept_bits(d, k, q), false);

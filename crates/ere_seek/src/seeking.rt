@@ -11,7 +11,9 @@ use crate::one;
 use crate::pending;
 use crate::starts;
 use crate::states;
+use ere_automaton::ACCEPTED;
 use ere_automaton::EMPTY;
+use ere_automaton::LATER;
 use ere_automaton::LENGTH;
 use ere_search::Found;
 
@@ -48,8 +50,8 @@ fn seek_from(d: &[u16], x: &[u8], at: usize, from: usize) -> Found
     Found::Nowhere
 }
 
-// Finds the leftmost nonempty match: from the first start where one may be; if it is given up, from where nothing is
-// pending.
+// Finds the leftmost nonempty match: from the first start where one may be, and if no match starts elsewhere than at
+// the text's start, from no other; if it is given up, from where nothing is pending.
 fn seek_some(d: &[u16], p: &[u16], x: &[u8], at: usize) -> Found
     requires { ⌜ (Ranged (now d)) × (Ranged (now p)) × (at + length (now x) < 2 ^ 63) ⌝ }
     ensures { λ r. ⌜ SoughtBoth (now (d .entry)) (now (p .entry)) (now (x .entry)) at r ⌝ }
@@ -58,9 +60,14 @@ fn seek_some(d: &[u16], p: &[u16], x: &[u8], at: usize) -> Found
     if x.len() <= s {
         return Found::Nowhere;
     }
-    let e = one::longest(d, x, s, at + s == 0, s + FAR);
+    let only = d[LATER] == d[ACCEPTED];
+    let until = states::either(only, x.len(), s + FAR);
+    let e = one::longest(d, x, s, at + s == 0, until);
     if s < e {
         return Found::At(at + s, e - s);
+    }
+    if only {
+        return Found::Nowhere;
     }
     let f = pending::first_start(p, x, s, at + s == 0);
     seek_from(d, x, at, f)
@@ -87,12 +94,15 @@ fn seek_both(d: &[u16], p: &[u16], x: &[u8], at: usize, least: usize) -> Found
     }
 }
 
-// Finds the leftmost longest match of at least so many bytes. `rest` is the whole text from place `at` on.
+// Finds the leftmost longest match of at least so many bytes. `rest` is the whole text from place `at` on. It is passed
+// on as a slice made anew, so that its address and its length are read one by one: read as one, right after a caller has
+// stored them, they are waited for.
 pub fn seek(d: &[u16], rest: &[u8], at: usize, least: usize) -> Found
     requires { ⌜ (SeekRanged (now d)) × (at + length (now rest) < 2 ^ 63) × (least ≤ 1) ⌝ }
     ensures { λ r. ⌜ (Inside at least (length (now (rest .entry))) r)
         × ((t : List ℕ) → Seeks t (now (d .entry)) → Finds t (now (rest .entry)) at least r) ⌝ }
 {
     let n = d[LENGTH] as usize;
-    seek_both(&d[..n], &d[n..], rest, at, least)
+    let m = rest.len();
+    seek_both(&d[..n], &d[n..], &rest[..m], at, least)
 }

@@ -6,6 +6,7 @@ ghost use Rattle.ere_automaton.specs.Automaton.{Ranged};
 ghost use Rattle.ere_seek.specs.Starts.{mayBegin, Passed, Candidate};
 use crate::states;
 use ere_automaton::ACCEPTED;
+use ere_automaton::BLOCK;
 use ere_automaton::FIRST;
 use ere_automaton::LATER;
 use ere_automaton::SKIPS;
@@ -42,7 +43,7 @@ pub fn candidate(d: &[u16], x: &[u8], from: usize, first: bool) -> usize
         return from;
     }
     let mut s = from;
-    if d[SKIPS] != 0 {
+    if (d[SKIPS] != 0) & (from + BLOCK < x.len()) {
         s = ere_automaton::next_block(d, x, s);
     }
     beginning(d, x, s)

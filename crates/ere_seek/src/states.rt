@@ -1,8 +1,9 @@
 // The states of an automaton.
 ghost use mathlib.Core.Path.{_≡_};
-ghost use mathlib.Core.Bool.{cond};
+ghost use mathlib.Core.Bool.{false, cond};
 ghost use Prim.Native.Nat.{_+_, _<_};
-ghost use Rattle.ere_automaton.specs.Layout.{State, nextIn, endWord};
+ghost use lib.Dec.{eqb};
+ghost use Rattle.ere_automaton.specs.Layout.{State, pairsWord, nextIn, pairIn, endWord};
 ghost use Rattle.ere_automaton.specs.Automaton.{Ranged};
 ghost use Rattle.ere_automaton.specs.Scan.{Ready};
 ghost use Rattle.ere_seek.specs.Starts.{entryState};
@@ -28,6 +29,18 @@ pub fn next(d: &[u16], s: usize, b: u8) -> usize
     ensures { λ r. ⌜ r ≡ nextIn (now (d .entry)) s b ⌝ }
 {
     d[s + d[CLASSES + b as usize] as usize] as usize
+}
+
+// Returns the state after two bytes. The index of the word in its row is made in 32 bits, so that the state is added to
+// it last: a chain of states then waits for one sum and one word a step.
+pub fn pair(d: &[u16], k: usize, s: usize, b: u8, c: u8) -> usize
+    requires { ⌜ (Ready (now d) k s) × (eqb (pairsWord (now d)) 0 ≡ false) ⌝ }
+    ensures { λ r. ⌜ r ≡ pairIn (now (d .entry)) s b c ⌝ }
+{
+    let y = d[CLASSES + b as usize] as u32;
+    let z = d[CLASSES + c as usize] as u32;
+    let n = k as u32;
+    d[(y * n + z + n + 1) as usize + s] as usize
 }
 
 // Returns the accept bits of a state.

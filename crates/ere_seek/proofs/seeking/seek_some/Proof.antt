@@ -1,5 +1,6 @@
--- `seek_some` meets its contract: from the first candidate, or from where nothing is pending.
-use Rattle.ere_seek.proofs.Leftmost.{both-none, both-some, both-from}
+-- `seek_some` meets its contract: from the first candidate, and from no other if no match starts elsewhere; or from
+-- where nothing is pending.
+use Rattle.ere_seek.proofs.Leftmost.{both-none, both-some, both-only, both-from}
 use borrow.Author.Needs.{needs}
 use Rattle.ere_seek.proofs.seeking.seek_some.Statement.{statement}
 use Rattle.ere_seek.proofs.seeking.seek_some.Tie as tie
@@ -9,33 +10,48 @@ candidate-requires c κs = search needs
 
 returns : tie.Need-returns
 returns c =
-    let start = c .before .before .before .before .before in
-    let a = start .args in
-    both-none (a .d .now) (a .p .now) (a .x .now) (a .at) (c .before .candidate .result) (c .before .candidate .ensures)
-    (c .if1 .taken)
+    let a = c .before .before .before .before .before .args in
+    both-none (a .d .now) (a .p .now) (a .x .now) (a .at) (c .before .candidate .result) (c .before .candidate .ensures) (c .if1 .taken)
+
+shared-slice-read-only : tie.Need-shared-slice-read-only
+shared-slice-read-only c = search needs
+
+shared-slice-read-only-2 : tie.Need-shared-slice-read-only-2
+shared-slice-read-only-2 c = search needs
+
+add-either : tie.Need-add-either
+add-either c = search needs
+
+either-requires : tie.Need-either-requires
+either-requires c κs = search needs
 
 add-longest : tie.Need-add-longest
 add-longest c = search needs
 
-add-longest-2 : tie.Need-add-longest-2
-add-longest-2 c = search needs
-
 longest-requires : tie.Need-longest-requires
 longest-requires c κs = search needs
 
-add-t11 : tie.Need-add-t11
-add-t11 c = search needs
+add-t17 : tie.Need-add-t17
+add-t17 c = search needs
 
-sub-t12 : tie.Need-sub-t12
-sub-t12 c = search needs
+sub-t18 : tie.Need-sub-t18
+sub-t18 c = search needs
 
 returns-2 : tie.Need-returns-2
 returns-2 c =
-    let start = c .before .before .before .before .before .before .before in
-    let a = start .args in
-    both-some (a .d .now) (a .p .now) (a .x .now) (a .at) (c .before .before .before .candidate .result)
-    (c .before .before .before .candidate .ensures) _ (c .before .longest .result)
-    (c .before .before .before .candidate .ensures .inside) (c .if2 .taken) (c .before .longest .ensures)
+    let a = c .before .before .before .before .before .before .before .before .before .before .args in
+    let first = c .before .before .before .before .before .before .candidate in
+    both-some (a .d .now) (a .p .now) (a .x .now) (a .at) (first .result) (first .ensures) _ (c .before .longest .result)
+    (first .ensures .inside) (c .if2 .taken) (c .before .longest .ensures)
+
+returns-3 : tie.Need-returns-3
+returns-3 c =
+    let a = c .before .before .before .before .before .before .before .before .before .before .before .args in
+    let first = c .before .before .before .before .before .before .before .candidate in
+    both-only (a .d .now) (a .p .now) (a .x .now) (a .at) (first .result) (first .ensures) _ _
+    (c .before .before .longest .result)
+    (c .if3 .taken) (c .before .before .before .either .ensures) (c .before .if2 .left)
+    (c .before .before .longest .ensures)
 
 add-first-start : tie.Need-add-first-start
 add-first-start c = search needs
@@ -46,14 +62,13 @@ first-start-requires c κs = search needs
 seek-from-requires : tie.Need-seek-from-requires
 seek-from-requires c κs = search needs
 
-returns-3 : tie.Need-returns-3
-returns-3 c =
-    let in-candidate = c .before .before .before .before .before in
-    let start = in-candidate .before .before .before .before in
-    let a = start .args in
-    both-from (a .d .now) (a .p .now) (a .x .now) (a .at) (in-candidate .candidate .result)
-    (in-candidate .candidate .ensures)
-    (c .before .first-start .result) (c .seek-from .result) (c .before .first-start .ensures) (c .seek-from .ensures)
+returns-4 : tie.Need-returns-4
+returns-4 c =
+    let a = c .before .before .before .before .before .before .before .before .before .before .before .before .before .args in
+    let first = c .before .before .before .before .before .before .before .before .before .candidate in
+    let clear = c .before .first-start in
+    both-from (a .d .now) (a .p .now) (a .x .now) (a .at) (first .result) (first .ensures) (clear .result)
+    (c .seek-from .result) (clear .ensures) (c .seek-from .ensures)
 
 pub seek-some-spec : {M : Type 1} → statement M
 seek-some-spec =
@@ -61,13 +76,17 @@ seek-some-spec =
     (tie.spec
     candidate-requires
     returns
+    shared-slice-read-only
+    shared-slice-read-only-2
+    add-either
+    either-requires
     add-longest
-    add-longest-2
     longest-requires
-    add-t11
-    sub-t12
+    add-t17
+    sub-t18
     returns-2
+    returns-3
     add-first-start
     first-start-requires
     seek-from-requires
-    returns-3)
+    returns-4)

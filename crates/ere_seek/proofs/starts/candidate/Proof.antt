@@ -4,7 +4,8 @@ use mathlib.Core.Logic.{inl, inr, ⊎-elim}
 use Prim.Native.Nat.{ℕ, _<_}
 use native.Mathlib.Omega.{arith}
 use lib.ListN.{getD}
-use borrow.Author.Tests.{ne-eqb}
+use borrow.Author.Tests.{not-true}
+use Rattle.lists.proofs.Tests.{and-true}
 use Rattle.ere_automaton.specs.Scan.{rangesOf, Skipped}
 use Rattle.ere_automaton.proofs.Ranging.{skipped-inside}
 use Rattle.ere_seek.proofs.Bareness.{candidate-none, candidate-blocks}
@@ -23,6 +24,9 @@ returns c = candidate-none _ _ _ _ (c .before .before .before .before .before .p
 
 shared-slice-read-if2 : tie.Need-shared-slice-read-if2
 shared-slice-read-if2 c = search needs
+
+add-if2 : tie.Need-add-if2
+add-if2 c = search needs
 
 next-block-requires : tie.Need-next-block-requires
 next-block-requires c κs = search needs
@@ -54,7 +58,7 @@ returns-2 c =
     let x = a .x .now in
     let bytes : (n : ℕ) → getD x n 0 < 256 = λ n. known .shared-slice-known2 .given n .fits in
     candidate-blocks d x bytes (a .from) (c .before .if2 .s) (a .first) _
-    (⊎-elim (λ w. inl (ne-eqb _ _ (w .0 .taken), subst (Skipped (rangesOf d) x (a .from)) (sym (w .2)) (w .1 .ensures)))
+    (⊎-elim (λ w. inl (not-true _ (and-true _ _ (w .0 .taken) .0), subst (Skipped (rangesOf d) x (a .from)) (sym (w .2)) (w .1 .ensures)))
     (λ w. inr (w .1)) (c .before .if2 .came))
     (c .before .before .before .if1 .left) (c .beginning .ensures)
 
@@ -66,6 +70,7 @@ candidate-spec =
     shared-slice-read-if1-2
     returns
     shared-slice-read-if2
+    add-if2
     next-block-requires
     beginning-requires
     returns-2)
