@@ -9,8 +9,9 @@ use native.Mathlib.Omega.{arith}
 use lib.ListN.{length, getD, drop, drop-of-length-le}
 use lib.Dec.{eqb}
 use lib.Seq.{drop-cons}
-use Rattle.ere_table.specs.Table.{row}
+use Rattle.ere_table.specs.Table.{row, noPlace}
 use Rattle.ere_table.specs.Wiring.{stopIn}
+use Rattle.ere_table.proofs.Sets.{mem-none}
 use Rattle.ere_exists.specs.Any.{Exists}
 use Rattle.ere_automaton.specs.Sets.{collapsed, after, walk}
 use Rattle.ere_automaton.specs.Layout.{State, firstState, laterState, acceptedState, skipsWord, endWord}
@@ -19,6 +20,7 @@ use Rattle.ere_automaton.specs.Scan.{runs, rangesOf, Skipped}
 use Rattle.ere_automaton.proofs.Absorbing.{absorbing}
 use Rattle.ere_automaton.proofs.Everywhere.{exists-by-walk}
 use Rattle.ere_automaton.proofs.Skips.{skipped}
+use Rattle.ere_automaton.proofs.Spent.{collapsed-none, walk-none}
 use Rattle.ere_automaton.proofs.States.{runs-state}
 
 -- from the state s at i on
@@ -82,3 +84,19 @@ module _ (d x : List ℕ) (bytes : (k : ℕ) → getD x k 0 < 256) where
 
       pub exists-ended : (t : List ℕ) → Drives t d → Exists t x true
       exists-ended t D = subst (Exists t x) (D .fair s S (ended t D)) (told left-ended t D)
+
+    -- no match is left to start
+    module _ (i : ℕ) (L : Left d x s i) (e : s ≡ laterState d) (f : skipsWord d ≡ 2) where
+      none : (t : List ℕ) (D : Drives t d) → D .sets s ≡ noPlace
+      none t D = ap (D .sets) e ∙ D .later ∙ collapsed-none t (D .hull .fixed f)
+
+      none-ends : Ends
+      none-ends t D =
+          none t D
+          ∙ sym (walk-none t (D .hull .fixed f) (drop i x))
+          ∙ ap (λ (u : List ℕ). walk t u (drop i x)) (sym (none t D))
+          ∙ L t D
+
+      pub exists-none : (t : List ℕ) → Drives t d → Exists t x false
+      exists-none t D =
+          subst (Exists t x) (ap (λ (u : List ℕ). stopIn u true) (none t D) ∙ mem-none 129) (told none-ends t D)

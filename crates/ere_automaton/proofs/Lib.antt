@@ -5,6 +5,6 @@ pub mod Everywhere
 pub mod Ranging
 pub mod Skips
 pub mod States
-pub mod Left
 pub mod Spent
+pub mod Left
 pub mod Spelling

@@ -10,8 +10,9 @@ use lib.ListN.{length, getD}
 use lib.Dec.{leb}
 use borrow.Author.Tests.{leb-true, le-leb}
 use Rattle.lists.proofs.Tests.{and-true, and-of, or-false, same-test}
+use Rattle.ere_automaton.specs.Layout.{inRange}
 use Rattle.ere_automaton.specs.Automaton.{within, firstByte, secondByte, Hull}
-use Rattle.ere_automaton.specs.Scan.{Ranges, inRange, rangesOf, begin, starts, Skipped}
+use Rattle.ere_automaton.specs.Scan.{Ranges, rangesOf, begin, starts, Skipped}
 
 pub range-within : (low width b : ℕ) → b < 256 → low + width < 256
     → inRange (low % 256) (width % 256) b ≡ within low width b

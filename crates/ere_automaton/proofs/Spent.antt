@@ -139,6 +139,23 @@ module _ (t : List ℕ) where
           let B = before i (omega arith) in
           B .2 ∙ fade m (suc i) (B .0) R h (B .1) later (spent-more m (B .0) (B .1)) (join-none R)
 
+-- where nothing starts, nothing comes of nothing
+module _ (t : List ℕ) (fixed : row t 1 ≡ noPlace) where
+  after-none : (b : ℕ) → after t noPlace b ≡ noPlace
+  after-none b =
+      after-open t noPlace (bare-stop t noPlace bare-none) b
+      ∙ ap₂ (λ (u v : List ℕ). collapsed (join u v)) (bare-step t noPlace bare-none b) fixed
+      ∙ ap collapsed (join-none noPlace)
+      ∙ collapsed-open noPlace (bare-stop t noPlace bare-none)
+
+  pub collapsed-none : collapsed (row t 1) ≡ noPlace
+  collapsed-none = ap collapsed fixed ∙ collapsed-open noPlace (bare-stop t noPlace bare-none)
+
+  pub walk-none : (l : List ℕ) → walk t noPlace l ≡ noPlace
+  unfolding walk
+  walk-none [] = refl
+  walk-none (b ∷ l) = ap (λ (u : List ℕ). walk t u l) (after-none b) ∙ walk-none l
+
 -- the walk over the last bytes ends where that over the whole text ends
 pub reach-left : (d x : List ℕ) → ((k : ℕ) → getD x k 0 < 256) → (m i : ℕ) → reachWord d ≡ suc m
     → suc i + m ≡ length x → (t : List ℕ) (D : Drives t d)

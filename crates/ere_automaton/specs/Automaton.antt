@@ -9,9 +9,9 @@ use Rattle.ere_table.specs.Table.{row, noPlace}
 use Rattle.ere_table.specs.Wiring.{stopIn}
 use Rattle.ere_search.specs.Walk.{step}
 use Rattle.ere_automaton.specs.Sets.{collapsed, after, spent}
-use Rattle.ere_automaton.specs.Layout.{classCount, firstState, laterState, acceptedState, pairsWord, reachWord}
+use Rattle.ere_automaton.specs.Layout.{classCount, firstState, laterState, acceptedState, pairsWord, skipsWord, reachWord}
 use Rattle.ere_automaton.specs.Words.{Word}
-use Rattle.ere_automaton.specs.Layout.{wordLength, rowsAt, classIn, State, nextIn, pairIn, endWord}
+use Rattle.ere_automaton.specs.Layout.{shapeKind, Testable, rowsAt, classIn, State, nextIn, pairIn, endWord}
 
 -- each word that is a state is one, each class has its words
 pub record Ranged (d : List ℕ) : Type 0 where
@@ -22,6 +22,7 @@ pub record Ranged (d : List ℕ) : Type 0 where
   pub moves : (q b : ℕ) → State d q → b < 256 → State d (nextIn d q b)
   pub pairs : (q b c : ℕ) → State d q → b < 256 → c < 256 → eqb (pairsWord d) 0 ≡ false
       → pairIn d q b c ≡ nextIn d (nextIn d q b) c
+  pub tests : Testable d
 
 -- a byte is in the range whose lowest byte is `low` and that has `width` more
 abbrev pub within : ℕ → ℕ → ℕ → Bool
@@ -42,8 +43,13 @@ pub record Hull (t d : List ℕ) : Type 0 where
   pub none-ends : (b c : ℕ) → b < 256 → c < 256 → secondByte d c ≡ false → stopIn (step t (row t 1) b) false ≡ false
   -- each match ends at the text's end, and has fewer bytes than the word says
   pub reach : (n : ℕ) → reachWord d ≡ suc n → (spent t (suc n) (row t 0)) × (spent t (suc n) (row t 1))
-  -- the ERE is the word whose length and bytes are there
-  pub word : eqb (wordLength d) 0 ≡ false → Word t d
+  -- no match starts but where the text starts
+  pub fixed : skipsWord d ≡ 2 → row t 1 ≡ noPlace
+
+-- what is known of the matches' bytes: the ERE is a word, that may start anywhere, or only where the text starts
+pub record Shape (t d : List ℕ) : Type 0 where
+  pub word : shapeKind d ≡ 1 → (Word t d) × (row t 1 ≡ row t 0)
+  pub first : shapeKind d ≡ 2 → (Word t d) × (row t 1 ≡ noPlace)
 
 -- each state stands for a set, and each entry for the step of that set
 pub record Drives (t d : List ℕ) : Type 0 where
@@ -57,3 +63,4 @@ pub record Drives (t d : List ℕ) : Type 0 where
   -- where a match may end before the text's end, it may at it
   pub fair : (q : ℕ) → State d q → stopIn (sets q) false ≡ true → stopIn (sets q) true ≡ true
   pub hull : Hull t d
+  pub shape : Shape t d

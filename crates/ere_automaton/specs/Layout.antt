@@ -4,9 +4,9 @@
 use mathlib.Core.Path.{_≡_}
 use mathlib.Core.Bool.{Bool, cond}
 use mathlib.Core.List.{List}
-use Prim.Native.Nat.{ℕ, _+_, _-_, _*_, _/_, _≤_, _<_}
+use Prim.Native.Nat.{ℕ, _+_, _-_, _*_, _/_, _%_, _≤_, _<_}
 use lib.ListN.{length, getD}
-use lib.Dec.{eqb}
+use lib.Dec.{eqb, leb}
 
 -- how many classes there are
 abbrev pub classCount : List ℕ → ℕ
@@ -26,7 +26,8 @@ acceptedState d = getD d 3 0
 abbrev pub pairsWord : List ℕ → ℕ
 pairsWord d = getD d 4 0
 
--- 0 if ranges are of no use; else the ranges of a match's first two bytes: lowest byte, how many more
+-- 0 if ranges are of no use; else there are those of a match's first two bytes: lowest byte, how many more; 2 if a match
+-- can start only where the text starts
 abbrev pub skipsWord : List ℕ → ℕ
 skipsWord d = getD d 5 0
 
@@ -34,13 +35,46 @@ skipsWord d = getD d 5 0
 abbrev pub reachWord : List ℕ → ℕ
 reachWord d = getD d 14 0
 
--- the length of the word that the ERE is, of at most 8 bytes; 0 if it is none
-abbrev pub wordLength : List ℕ → ℕ
-wordLength d = getD d 15 0
+-- what is known of the matches' bytes: 0 for nothing; else a kind, by 256, how many tests a word has, by 16, and how far
+-- the word's last byte is from its first
+abbrev pub shapeWord : List ℕ → ℕ
+shapeWord d = getD d 15 0
 
--- its bytes
-abbrev pub wordsAt : ℕ
-wordsAt = 16
+-- 1 for an ERE that is a word; 2 for one that is a word at the text's start
+abbrev pub shapeKind : List ℕ → ℕ
+shapeKind d = shapeWord d / 256
+
+abbrev pub testCount : List ℕ → ℕ
+testCount d = shapeWord d / 16 % 16
+
+abbrev pub lastPlace : List ℕ → ℕ
+lastPlace d = shapeWord d % 16
+
+-- the tests of a word, and the range of its last byte
+abbrev pub testsAt : ℕ
+testsAt = 16
+
+abbrev pub rangeAt : ℕ
+rangeAt = 23
+
+-- test k: a byte, and how far it is from the word's first
+abbrev pub testByte : List ℕ → ℕ → ℕ
+testByte d k = getD d (testsAt + k) 0 % 256
+
+abbrev pub testPlace : List ℕ → ℕ → ℕ
+testPlace d k = getD d (testsAt + k) 0 / 256
+
+-- no test is past the byte that is `last` after the first
+abbrev pub Placed : List ℕ → ℕ → Type 0
+Placed d last = (k : ℕ) → k < 7 → testPlace d k ≤ last
+
+-- the tests of a word are in the word
+abbrev pub Testable : List ℕ → Type 0
+Testable d = 0 < shapeKind d → shapeKind d < 3 → Placed d (lastPlace d)
+
+-- a byte is among those from `low` on, `width` more than one; after 255 comes 0
+abbrev pub inRange : ℕ → ℕ → ℕ → Bool
+inRange low width b = leb ((b + 256 - low) % 256) width
 
 abbrev pub classesAt : ℕ
 classesAt = 24

@@ -5,8 +5,7 @@ use mathlib.Core.Bool.{Bool, false, _&&_, _||_}
 use mathlib.Core.List.{List}
 use Prim.Native.Nat.{ℕ, zero, suc, _+_, _-_, _%_, _^_, _≤_, _<_}
 use lib.ListN.{length, getD}
-use lib.Dec.{leb}
-use Rattle.ere_automaton.specs.Layout.{classCount, State, nextIn}
+use Rattle.ere_automaton.specs.Layout.{classCount, State, nextIn, inRange}
 use Rattle.ere_automaton.specs.Automaton.{Ranged}
 
 -- s is a state, and there are k classes
@@ -19,10 +18,6 @@ pub record Ready (d : List ℕ) (k s : ℕ) : Type 0 where
 unfoldable pub runs : List ℕ → List ℕ → ℕ → ℕ → ℕ → ℕ
 runs d x i s zero = s
 runs d x i s (suc n) = nextIn d (runs d x i s n) (getD x (i + n) 0)
-
--- a byte is among those from `low` on, `width` more than one; after 255 comes 0
-abbrev pub inRange : ℕ → ℕ → ℕ → Bool
-inRange low width b = leb ((b + 256 - low) % 256) width
 
 -- the ranges of a match's first two bytes
 pub record Ranges : Type 0 where

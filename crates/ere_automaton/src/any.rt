@@ -66,6 +66,9 @@ fn search(d: &[u16], text: &[u8]) -> bool
     let mut i: usize = 0;
     while i + BLOCK < text.len() {
         if skips && s == later {
+            if d[layout::SKIPS] == layout::FIXED {
+                return false;
+            }
             i = next_block(d, text, i);
             if text.len() <= i + BLOCK {
                 break;
@@ -105,9 +108,20 @@ pub fn exists(d: &[u16], text: &[u8]) -> bool
     requires { ⌜ Ranged (now d) × (length (now text) < 2 ^ 63) ⌝ }
     ensures { λ r. ⌜ ((t : List ℕ) → Drives t (now (d .entry)) → Exists t (now (text .entry)) r) ⌝ }
 {
-    let n = d[layout::WORD_LENGTH] as usize;
-    if (0 < n) & ((n <= layout::MOST_WORD) & (n + BLOCK <= text.len())) {
-        return words::is_in(d, text, n - 1);
+    let shape = d[layout::SHAPE];
+    let kind = shape / 256;
+    if kind == layout::WORD {
+        let last = (shape % 16) as usize;
+        if last + BLOCK <= text.len() {
+            return words::is_in(d, text, last, (shape / 16 % 16) as usize);
+        }
+    }
+    if kind == layout::FIRST_WORD {
+        let last = (shape % 16) as usize;
+        if text.len() <= last {
+            return false;
+        }
+        return words::is_first(d, text, last, (shape / 16 % 16) as usize);
     }
     let reach = d[layout::REACH] as usize;
     if (0 < reach) & (reach <= text.len()) {

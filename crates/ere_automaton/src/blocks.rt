@@ -4,14 +4,14 @@ ghost use mathlib.Core.Bool.{false, _||_};
 ghost use Prim.Native.Nat.{_+_, _-_, _%_, _≤_, _<_, _^_};
 ghost use lib.ListN.{length};
 ghost use lib.Dec.{eqb};
-ghost use Rattle.ere_automaton.specs.Layout.{State, pairsWord, pairIn};
+ghost use Rattle.ere_automaton.specs.Layout.{State, pairsWord, pairIn, inRange};
 ghost use Rattle.ere_automaton.specs.Automaton.{Ranged};
-ghost use Rattle.ere_automaton.specs.Scan.{Ready, runs, inRange, ranges, begin, starts, Skipped};
+ghost use Rattle.ere_automaton.specs.Scan.{Ready, runs, ranges, begin, starts, Skipped};
 use crate::layout::BLOCK;
 use crate::layout::CLASSES;
 
 // Tells whether a byte is in a range.
-fn inside(b: u8, low: u8, width: u8) -> bool
+pub fn inside(b: u8, low: u8, width: u8) -> bool
     ensures { λ r. ⌜ r ≡ inRange low width b ⌝ }
 {
     std::num::wrapping_sub_u8(b, low) <= width

@@ -12,8 +12,10 @@ pub const LATER: usize = 2;
 pub const ACCEPTED: usize = 3;
 // Not 0 if rows have pairs.
 pub const PAIRS: usize = 4;
-// Not 0 if the ranges of a match's first two bytes are of use.
+// Not 0 if the ranges of a match's first two bytes are of use; FIXED if a match can start only where the text starts.
 pub const SKIPS: usize = 5;
+
+pub const FIXED: u16 = 2;
 // The lowest byte of the range of a match's first byte.
 pub const LOW: usize = 6;
 // How many more that range has.
@@ -29,15 +31,20 @@ pub const LENGTH: usize = 10;
 pub const EMPTY: usize = 11;
 // Not 0 if each match ends at the text's end: one more than the bytes of the longest.
 pub const REACH: usize = 14;
-// The length of the word that the ERE is, of at most 8 bytes; 0 if it is none.
-pub const WORD_LENGTH: usize = 15;
-// Where the bytes of the word start.
-pub const WORD: usize = 16;
+// What is known of the matches' bytes: 0 for nothing; else 256 times a kind, 16 times how many tests a word has, and how
+// far the word's last byte is from its first.
+pub const SHAPE: usize = 15;
+// The kinds: the ERE is a word, or a word at the text's start.
+pub const WORD: u16 = 1;
+
+pub const FIRST_WORD: u16 = 2;
+// The tests of a word: a byte, and 256 times how far it is from the word's first. The last ones repeat the first where
+// there are fewer than seven.
+pub const TESTS: usize = 16;
+// The range of a word's last byte: the lowest byte, and 256 times how many more there are.
+pub const RANGE: usize = 23;
 // Where the classes of the bytes start.
 pub const CLASSES: usize = 24;
 
 // The bytes that a search takes at a time.
 pub const BLOCK: usize = 16;
-
-// The bytes of a word at most.
-pub const MOST_WORD: usize = 8;

@@ -21,8 +21,6 @@ use Rattle.ere_automaton.specs.Automaton.{within, Hull}
 use Rattle.ere_classes.specs.Column.{Classified}
 use Rattle.ere_classes.specs.Frames.{Frame}
 use Rattle.ere_classes.specs.Reach.{Reaches}
-use Rattle.ere_classes.specs.Spelt.{PutWord}
-use Rattle.ere_classes.proofs.Spelling.{word-on}
 use Rattle.ere_classes.specs.Bounds.{Keeps, Led, Follows, SecondsOf, Range, PutHull}
 use Rattle.ere_classes.proofs.Columns.{upTo}
 use Rattle.ere_classes.proofs.Framed.{spelled, three, frame-on, frame-wider, frame-set}
@@ -104,9 +102,9 @@ classified-on {t} {bytes} {k} d' e C = record {
   same = λ s b h. C .same s b h ∙ ap (λ (x : ℕ). step t s (getD bytes x 0)) (sym (e b h));
 }
 
-pub hull-on : {t d : List ℕ} (d' : List ℕ) → ((i : ℕ) → 6 ≤ i → i < 10 → getD d' i 0 ≡ getD d i 0)
-    → reachWord d' ≡ reachWord d → ((i : ℕ) → 15 ≤ i → i < 24 → getD d' i 0 ≡ getD d i 0) → Hull t d → Hull t d'
-hull-on {t} {d} d' e r w H = record {
+pub hull-on : {t d : List ℕ} (d' : List ℕ) → ((i : ℕ) → 5 ≤ i → i < 10 → getD d' i 0 ≡ getD d i 0)
+    → reachWord d' ≡ reachWord d → Hull t d → Hull t d'
+hull-on {t} {d} d' e r H = record {
   bytes = (
     subst (λ (x : ℕ). x + getD d' 7 0 < 256) (sym six) (subst (λ (x : ℕ). getD d 6 0 + x < 256) (sym seven) (H .bytes .0)),
     subst (λ (x : ℕ). x + getD d' 9 0 < 256) (sym eight) (subst (λ (x : ℕ). getD d 8 0 + x < 256) (sym nine) (H .bytes .1)),
@@ -115,7 +113,7 @@ hull-on {t} {d} d' e r w H = record {
   second = λ b c h l f. H .second b c h l (ap₂ (λ (y z : ℕ). within y z c) (sym eight) (sym nine) ∙ f);
   none-ends = λ b c h l f. H .none-ends b c h l (ap₂ (λ (y z : ℕ). within y z c) (sym eight) (sym nine) ∙ f);
   reach = λ n h. H .reach n (sym r ∙ h);
-  word = λ h. word-on d' w (H .word (ap (λ (n : ℕ). eqb n 0) (sym (w 15 (omega arith) (omega arith))) ∙ h));
+  fixed = λ h. H .fixed (sym (e 5 (omega arith) (omega arith)) ∙ h);
 }
   where
     six : getD d' 6 0 ≡ getD d 6 0
@@ -137,73 +135,80 @@ module _ (t bytes : List ℕ) (k : ℕ) (d : List ℕ) (x y n m : ℕ) (d' d'' :
   class-of : (b : ℕ) → b < 256 → classIn d' b ≡ classIn d b
   class-of b h = R .frame .above (24 + b) (omega arith)
 
-  -- both ranges are those of the first two bytes, the reach is right, and the word
-  module _ (v r : ℕ) (room : rowsAt ≤ length d) (W : Reaches t r) where
-    abbrev reached : List ℕ
-    reached = set (set d'' 5 v) 14 r
+  -- both ranges are those of the first two bytes, and the reach is right
+  module _ (v r : ℕ) (room : rowsAt ≤ length d) (W : Reaches t r) (X : v ≡ 2 → row t 1 ≡ noPlace) where
+    abbrev last : List ℕ
+    last = set (set (set d'' 5 v) 14 r) 15 0
 
-    kept : (i : ℕ) → 6 ≤ i → (i ≡ 14 → ⊥) → getD reached i 0 ≡ getD d'' i 0
-    kept i h l = getD-set-other (set d'' 5 v) 14 i r 0 (omega arith) ∙ getD-set-other d'' 5 i v 0 (omega arith)
+    size-is : length last ≡ length d
+    size-is =
+        length-set (set (set d'' 5 v) 14 r) 15 0 ∙ length-set (set d'' 5 v) 14 r ∙ length-set d'' 5 v
+        ∙ S .frame .size ∙ R .frame .size
 
-    size-is : length reached ≡ length d
-    size-is = length-set (set d'' 5 v) 14 r ∙ length-set d'' 5 v ∙ S .frame .size ∙ R .frame .size
+    kept : (i : ℕ) → 6 ≤ i → (i ≡ 14 → ⊥) → (i ≡ 15 → ⊥) → getD last i 0 ≡ getD d'' i 0
+    kept i h l m =
+        getD-set-other (set (set d'' 5 v) 14 r) 15 i 0 0 (omega arith)
+        ∙ getD-set-other (set d'' 5 v) 14 i r 0 (omega arith)
+        ∙ getD-set-other d'' 5 i v 0 (omega arith)
 
-    pub reached-classes : Classified t bytes k reached
-    reached-classes =
-        classified-on reached (λ b h. kept (classesAt + b) (omega arith) (omega arith)
-        ∙ S .frame .above (classesAt + b) (omega arith) ∙ class-of b h) C
+    six : getD last 6 0 ≡ getD d' 6 0
+    six = kept 6 (omega arith) (omega arith) (omega arith) ∙ S .frame .below 6 (omega arith)
 
-    module _ (last : List ℕ) (U : PutWord t reached last) where
-      word-is : (i : ℕ) → 6 ≤ i → i < 10 → getD last i 0 ≡ getD d'' i 0
-      word-is i h l = U .frame .below i (omega arith) ∙ kept i h (omega arith)
+    seven : getD last 7 0 ≡ getD d' 7 0
+    seven = kept 7 (omega arith) (omega arith) (omega arith) ∙ S .frame .below 7 (omega arith)
 
-      six : getD last 6 0 ≡ getD d' 6 0
-      six = word-is 6 (omega arith) (omega arith) ∙ S .frame .below 6 (omega arith)
+    eight : getD last 8 0 ≡ getD d'' 8 0
+    eight = kept 8 (omega arith) (omega arith) (omega arith)
 
-      seven : getD last 7 0 ≡ getD d' 7 0
-      seven = word-is 7 (omega arith) (omega arith) ∙ S .frame .below 7 (omega arith)
+    nine : getD last 9 0 ≡ getD d'' 9 0
+    nine = kept 9 (omega arith) (omega arith) (omega arith)
 
-      eight : getD last 8 0 ≡ getD d'' 8 0
-      eight = word-is 8 (omega arith) (omega arith)
+    long : rowsAt ≤ length d''
+    long = omega (arith, S .frame .size, R .frame .size, room)
 
-      nine : getD last 9 0 ≡ getD d'' 9 0
-      nine = word-is 9 (omega arith) (omega arith)
+    skips-is : getD last 5 0 ≡ v
+    skips-is =
+        getD-set-other (set (set d'' 5 v) 14 r) 15 5 0 0 (omega arith)
+        ∙ getD-set-other (set d'' 5 v) 14 5 r 0 (omega arith)
+        ∙ getD-set-same d'' 5 v 0 (omega (arith, long))
 
-      reach-is : reachWord last ≡ r
-      reach-is =
-          U .frame .below 14 (omega arith)
-          ∙ getD-set-same (set d'' 5 v) 14 r 0
-          (simp length-set (omega (arith, S .frame .size, R .frame .size, room)))
+    reach-is : reachWord last ≡ r
+    reach-is =
+        getD-set-other (set (set d'' 5 v) 14 r) 15 14 0 0 (omega arith)
+        ∙ getD-set-same (set d'' 5 v) 14 r 0 (simp length-set (omega (arith, long)))
 
-      off : (c : ℕ) → c < 256 → within (getD last 8 0) (getD last 9 0) c ≡ false → bit y (classIn d c) ≡ false
-      off c l f =
-          ap (bit y) (sym (class-of c l)) ∙ S .outside c l (ap₂ (λ (u w : ℕ). within u w c) (sym eight) (sym nine) ∙ f)
+    off : (c : ℕ) → c < 256 → within (getD last 8 0) (getD last 9 0) c ≡ false → bit y (classIn d c) ≡ false
+    off c l f =
+        ap (bit y) (sym (class-of c l)) ∙ S .outside c l (ap₂ (λ (u w : ℕ). within u w c) (sym eight) (sym nine) ∙ f)
 
-      hull-is : Hull t last
-      hull-is = record {
-        bytes = (
-          subst (λ (z : ℕ). z + getD last 7 0 < 256) (sym six)
-              (subst (λ (z : ℕ). getD d' 6 0 + z < 256) (sym seven) (R .bytes)),
-          subst (λ (z : ℕ). z + getD last 9 0 < 256) (sym eight)
-              (subst (λ (z : ℕ). getD d'' 8 0 + z < 256) (sym nine) (S .bytes)),
-        );
-        first = λ b h f.
-            C .same (row t 1) b h
-            ∙ L (classIn d b) (C .is b h) (R .outside b h (ap₂ (λ (u w : ℕ). within u w b) (sym six) (sym seven) ∙ f));
-        second = λ b c h l f.
-            ap (λ (s : List ℕ). step t s c) (C .same (row t 1) b h)
-            ∙ C .same (step t (row t 1) (getD bytes (classIn d b) 0)) c l
-            ∙ F (classIn d b) (C .is b h) .none (classIn d c) (C .is c l) (off c l f);
-        none-ends = λ b c h l f.
-            ap (λ (s : List ℕ). stopIn s false) (C .same (row t 1) b h)
-            ∙ F (classIn d b) (C .is b h) .unended (classIn d c) (C .is c l) (off c l f);
-        reach = λ n h. W n (sym reach-is ∙ h);
-        word = U .word;
-      }
+    hull-is : Hull t last
+    hull-is = record {
+      bytes = (
+        subst (λ (z : ℕ). z + getD last 7 0 < 256) (sym six)
+            (subst (λ (z : ℕ). getD d' 6 0 + z < 256) (sym seven) (R .bytes)),
+        subst (λ (z : ℕ). z + getD last 9 0 < 256) (sym eight)
+            (subst (λ (z : ℕ). getD d'' 8 0 + z < 256) (sym nine) (S .bytes)),
+      );
+      first = λ b h f.
+          C .same (row t 1) b h
+          ∙ L (classIn d b) (C .is b h) (R .outside b h (ap₂ (λ (u w : ℕ). within u w b) (sym six) (sym seven) ∙ f));
+      second = λ b c h l f.
+          ap (λ (s : List ℕ). step t s c) (C .same (row t 1) b h)
+          ∙ C .same (step t (row t 1) (getD bytes (classIn d b) 0)) c l
+          ∙ F (classIn d b) (C .is b h) .none (classIn d c) (C .is c l) (off c l f);
+      none-ends = λ b c h l f.
+          ap (λ (s : List ℕ). stopIn s false) (C .same (row t 1) b h)
+          ∙ F (classIn d b) (C .is b h) .unended (classIn d c) (C .is c l) (off c l f);
+      reach = λ n h. W n (sym reach-is ∙ h);
+      fixed = λ h. X (sym skips-is ∙ h);
+    }
 
-      pub hull-put : PutHull t bytes k d last
-      hull-put = record {
-        size = U .frame .size ∙ size-is;
-        classified = classified-on last (λ b h. U .frame .above (classesAt + b) (omega arith)) reached-classes;
-        hull = hull-is;
-      }
+    pub hull-put : PutHull t bytes k d last
+    hull-put = record {
+      size = size-is;
+      classified =
+          classified-on last (λ b h. kept (classesAt + b) (omega arith) (omega arith) (omega arith)
+          ∙ S .frame .above (classesAt + b) (omega arith) ∙ class-of b h) C;
+      hull = hull-is;
+      plain = getD-set-same (set (set d'' 5 v) 14 r) 15 0 0 (simp length-set (omega (arith, long)));
+    }

@@ -1,6 +1,5 @@
 -- The laws of classes and ranges.
 pub mod Columns
 pub mod Framed
-pub mod Spelling
 pub mod Bounded
 pub mod Reaching

@@ -9,7 +9,7 @@ use Rattle.ere_table.specs.Table.{row, noPlace}
 use Rattle.ere_table.specs.Wiring.{stopIn}
 use Rattle.ere_search.specs.Walk.{step}
 use Rattle.ere_automaton.specs.Automaton.{within, Hull}
-use Rattle.ere_automaton.specs.Layout.{classIn}
+use Rattle.ere_automaton.specs.Layout.{classIn, shapeWord}
 use Rattle.ere_classes.specs.Column.{Classified}
 use Rattle.ere_classes.specs.Frames.{Frame}
 
@@ -46,3 +46,4 @@ pub record PutHull (t bytes : List ℕ) (k : ℕ) (d d' : List ℕ) : Type 0 whe
   pub size : length d' ≡ length d
   pub classified : Classified t bytes k d'
   pub hull : Hull t d'
+  pub plain : shapeWord d' ≡ 0

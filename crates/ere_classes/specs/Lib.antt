@@ -4,4 +4,3 @@ pub mod Frames
 pub mod Column
 pub mod Bounds
 pub mod Reach
-pub mod Spelt

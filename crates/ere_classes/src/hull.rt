@@ -14,7 +14,6 @@ use crate::layout;
 use crate::layout::CLASSES;
 use crate::reach;
 use crate::sets;
-use crate::word;
 use ere_table::PLACES;
 
 // A set of classes with all there are.
@@ -74,7 +73,7 @@ fn seconds(t: &[u64], bytes: &[u8], k: usize) -> u64
 }
 
 // Tells whether the class of the byte b is in a set.
-fn has_class(d: &[u16], set: u64, b: usize) -> bool
+pub fn has_class(d: &[u16], set: u64, b: usize) -> bool
     requires { ⌜ (rowsAt ≤ length (now d)) × (b < 256) × (classIn (now d) b < 64) ⌝ }
     ensures { λ r. ⌜ r ≡ bit set (classIn (now (d .entry)) b) ⌝ }
 {
@@ -128,7 +127,19 @@ fn put_range(d: &mut [u16], at: usize, set: u64) -> usize
     high - low
 }
 
-// Stores both ranges, and whether to look at them; how far matches reach; and the word that the ERE is.
+// Returns whether to look at ranges with so many pairs of bytes: 0 if not, FIXED if no match starts but where the text
+// starts, else 1.
+fn skips(t: &[u64], pairs: usize) -> u16
+    requires { ⌜ length (now t) ≡ tableWords ⌝ }
+    ensures { λ r. ⌜ (r ≡ 2 → row (now (t .entry)) 1 ≡ noPlace) ⌝ }
+{
+    if reach::is_empty(sets::set_at(t, 1)) {
+        return layout::FIXED;
+    }
+    if pairs <= 16384 { 1 } else { 0 }
+}
+
+// Stores both ranges, and whether to look at them; how far matches reach; and that nothing is known of their bytes.
 pub fn put_hull(t: &[u64], bytes: &[u8], k: usize, d: &mut [u16])
     requires { ⌜ (length (now t) ≡ tableWords) × (k ≤ length (now bytes)) × (rowsAt ≤ length (now d))
         × (Classified (now t) (now bytes) k (now d)) ⌝ }
@@ -137,7 +148,7 @@ pub fn put_hull(t: &[u64], bytes: &[u8], k: usize, d: &mut [u16])
     let firsts = led(t, bytes, k, sets::set_at(t, 1), 0);
     let n = put_range(d, layout::LOW, firsts);
     let m = put_range(d, layout::NEXT_LOW, seconds(t, bytes, k));
-    d[layout::SKIPS] = if n * m <= 16384 { 1 } else { 0 };
+    d[layout::SKIPS] = skips(t, n * m);
     d[layout::REACH] = reach::reach(t, bytes, k) as u16;
-    word::put_word(t, bytes, k, d);
+    d[layout::SHAPE] = 0;
 }

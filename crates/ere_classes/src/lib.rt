@@ -5,9 +5,13 @@ mod hull;
 mod layout;
 mod reach;
 mod sets;
-mod word;
 
 pub use classes::put_classes;
+pub use hull::has_class;
+pub use hull::highest;
+pub use hull::led;
+pub use hull::lowest;
 pub use hull::put_hull;
 pub use layout::MOST_CLASSES;
+pub use reach::is_empty;
 pub use sets::set_at;

@@ -27,7 +27,7 @@ fn next_of(t: &[u64], bytes: &[u8], k: usize, s: [u64; 3]) -> [u64; 3]
 }
 
 // Tells whether nothing is in a set.
-fn is_empty(s: [u64; 3]) -> bool
+pub fn is_empty(s: [u64; 3]) -> bool
     ensures { λ r. ⌜ (r ≡ true → s ≡ noPlace) ⌝ }
 {
     (s[0] == 0) & ((s[1] == 0) & (s[2] == 0))

@@ -11,18 +11,19 @@ use lib.Seq.{getD-take, length-take-le, length-front, take-append-le, getD-set-s
 use lib.Dec.{eqb}
 use borrow.Author.Tests.{eq-eqb, ne-eqb}
 use Rattle.ere_table.specs.Table.{row}
-use Rattle.ere_automaton.specs.Layout.{State, classIn, nextIn, pairIn, endWord, rowsAt, strideBy, strideOf, stateCount}
-use Rattle.ere_automaton.specs.Automaton.{Ranged, Hull}
+use Rattle.ere_automaton.specs.Layout.{State, classIn, nextIn, pairIn, endWord, rowsAt, strideBy, strideOf, stateCount, Testable}
+use Rattle.ere_automaton.specs.Automaton.{Ranged, Hull, Shape}
 use Rattle.ere_classes.specs.Column.{Classified}
 use Rattle.ere_sets.specs.Modes.{changeBy, firstBy, laterBy, lastBy, FollowsBy}
 use Rattle.ere_sets.specs.Growth.{Fair, Grows, Has, Leads}
 use Rattle.ere_classes.specs.Frames.{Frame}
 use Rattle.ere_derive.specs.Layout.{RowAt, Rows, RowOf, Closed, Paired, PutRows, PutPairs, Begins, Headed}
-use Rattle.ere_derive.specs.Derived.{DerivedBy, Attempted}
+use Rattle.ere_derive.specs.Derived.{Derived, DerivedBy, Attempted}
 use Rattle.ere_sets.proofs.Grown.{grows-none, has-on}
 use Rattle.ere_derive.proofs.Composed.{rows-below, square-below, row-on}
 use Rattle.ere_classes.proofs.Bounded.{classified-on, hull-on}
-use Rattle.ere_derive.proofs.Following.{change-same, fair-marks}
+use Rattle.ere_shapes.proofs.Spelling.{testable-on, shape-on}
+use Rattle.ere_derive.proofs.Following.{change-same, fair-marks, follows-all, follows-drives}
 
 -- ---- words of a row
 
@@ -100,6 +101,7 @@ pub record Built (mode : ℕ) (t bytes : List ℕ) (k : ℕ) (a : List ℕ) (n s
   pub fair : (j : ℕ) → j < n → Fair (row a j)
   pub classes : Classified t bytes k d
   pub hull : Hull t d
+  pub tests : Testable d
 
 module _ (mode : ℕ) (t bytes : List ℕ) (k : ℕ) (a : List ℕ) (n stride pairs : ℕ) (d : List ℕ)
     (B : Built mode t bytes k a n stride pairs d) where
@@ -212,6 +214,7 @@ module _ (mode : ℕ) (t bytes : List ℕ) (k : ℕ) (a : List ℕ) (n stride pa
       later = state-at 2 _ (omega arith) (B .later);
       moves = λ q b s h. state-in _ (led-row q (state-of q s) b h);
       pairs = λ q b c s h l p. two q (state-of q s) b c h l (ap (λ (x : ℕ). eqb x 0) (sym (at 4 (omega arith) ∙ B .paired)) ∙ p);
+      tests = testable-on t d D (λ i l m. at i (omega arith)) (B .tests);
     };
     sets = sets;
     starts = stood 1 0 _ (omega arith) (B .first);
@@ -224,7 +227,7 @@ module _ (mode : ℕ) (t bytes : List ℕ) (k : ℕ) (a : List ℕ) (n stride pa
   }
 
   pub built-hull : Hull t D
-  built-hull = hull-on D (λ i l m. at i (omega arith)) (at 14 (omega arith)) (λ i l m. at i (omega arith)) (B .hull)
+  built-hull = hull-on D (λ i l m. at i (omega arith)) (at 14 (omega arith)) (B .hull)
 
 -- ---- from the pieces
 
@@ -234,7 +237,7 @@ rows-closed R i h c l = let x = R i h .leads c l in record { number = x .number;
 
 module _ (mode : ℕ) (t bytes : List ℕ) (k : ℕ) (a₀ a : List ℕ) (most n₀ n stride accepted later first pairs : ℕ) (d d1 d2 d3 : List ℕ)
     (width : stride ≡ strideBy k pairs) (room : rowsAt + stride * most ≤ length d) (l : n ≤ most) (l₀ : n₀ ≤ most)
-    (C : Classified t bytes k d) (H : Hull t d) (I : List ℕ) (G : Begins mode t I most n₀ accepted later first a₀)
+    (C : Classified t bytes k d) (H : Hull t d) (T : Testable d) (I : List ℕ) (G : Begins mode t I most n₀ accepted later first a₀)
     (R : PutRows mode t bytes k a₀ n₀ most stride d n a d1) (P : PutPairs k n stride (cond (eqb pairs 0) 0 n) d1 d2)
     (E : Headed d2 k (rowsAt + stride * first) (rowsAt + stride * later) (rowsAt + stride * accepted) pairs d3) where
   kept : (i : ℕ) → 5 ≤ i → i < rowsAt → getD d3 i 0 ≡ getD d i 0
@@ -275,8 +278,8 @@ module _ (mode : ℕ) (t bytes : List ℕ) (k : ℕ) (a₀ a : List ℕ) (most n
     composed = composed;
     fair = R .grows l .fair (G .fair l₀);
     classes = classified-on d3 (λ b h. kept (24 + b) (omega arith) (omega arith)) C;
-    hull = hull-on d3 (λ i g h. kept i (omega arith) (omega arith)) (kept 14 (omega arith) (omega arith))
-        (λ i g h. kept i (omega arith) (omega arith)) H;
+    hull = hull-on d3 (λ i g h. kept i (omega arith) (omega arith)) (kept 14 (omega arith) (omega arith)) H;
+    tests = testable-on t d d3 (λ i g h. kept i (omega arith) (omega arith)) T;
   }
 
   pub attempted : Attempted mode t d (rowsAt + stride * n) d3
@@ -302,7 +305,9 @@ module _ (mode : ℕ) (t bytes : List ℕ) (k m : ℕ) (d : List ℕ) (h : rowsA
 
   pub front-hull : Hull t d → Hull t (take m d)
   front-hull = hull-on (take m d) (λ i g o. getD-take m d i 0 (omega arith)) (getD-take m d 14 0 (omega arith))
-      (λ i g o. getD-take m d i 0 (omega arith))
+
+  pub front-tests : Testable d → Testable (take m d)
+  front-tests = testable-on t d (take m d) (λ i g o. getD-take m d i 0 (omega arith))
 
   pub front-attempted : (r : ℕ) (f : List ℕ) → Attempted mode t (take m d) r f → Attempted mode t d r (f ++ drop m d)
   front-attempted r f A = record {
@@ -327,3 +332,25 @@ module _ (mode : ℕ) (t bytes : List ℕ) (k m : ℕ) (d : List ℕ) (h : rowsA
 -- words of the same length
 pub derived-on : {mode : ℕ} {t d d' : List ℕ} {r : ℕ} (e : List ℕ) → length d ≡ length e → DerivedBy mode t d r d' → DerivedBy mode t e r d'
 derived-on {r = m} e l D = record { size = D .size ∙ l; inside = subst (λ (n : ℕ). m ≤ n) l (D .inside); follows = D .follows; hull = D .hull }
+
+-- ---- all starts: whether there is a match
+
+module _ (t d₀ d d' : List ℕ) (r : ℕ) (A : Attempted 0 t d r d') (size : length d ≡ length d₀) (S : Shape t d) where
+  -- an automaton has a head
+  long : 0 < r → rowsAt ≤ r
+  long h =
+      subst (λ (n : ℕ). rowsAt ≤ n) (length-take-le r d' (omega (arith, A .derived .inside, A .derived .size)))
+      (A .derived .follows h .ranged .head)
+
+  pub derived-all : Derived t d₀ r d'
+  derived-all = record {
+    size = A .derived .size ∙ size;
+    inside = omega (arith, A .derived .inside, size);
+    drives = λ h.
+        follows-drives (follows-all t (A .derived .follows h)) (A .derived .hull h)
+        (shape-on t d (take r d')
+        (λ i g l. getD-take r d' i 0 (omega (arith, long h)) ∙ A .kept i (omega arith) (omega arith)) S);
+  }
+
+pub derived-none : (t d d' : List ℕ) → length d' ≡ length d → Derived t d 0 d'
+derived-none t d d' e = record { size = e; inside = omega arith; drives = λ h. absurd (omega arith) }

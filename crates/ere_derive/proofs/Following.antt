@@ -14,11 +14,10 @@ use Rattle.ere_table.specs.Wiring.{stopIn}
 use Rattle.ere_search.specs.Walk.{step}
 use Rattle.ere_automaton.specs.Sets.{collapsed, after}
 use Rattle.ere_automaton.specs.Layout.{State, skipsWord, endWord}
-use Rattle.ere_automaton.specs.Automaton.{Hull, Drives}
+use Rattle.ere_automaton.specs.Automaton.{Hull, Shape, Drives}
 use Rattle.ere_automaton.specs.Follows.{Follows, FollowsAll, FollowsOne, FollowsPending, pendingAfter}
 use Rattle.ere_sets.specs.Modes.{changeBy, firstBy, laterBy, lastBy, FollowsBy}
 use Rattle.ere_sets.specs.Growth.{Fair}
-use Rattle.ere_derive.specs.Derived.{Derived, DerivedBy}
 
 after-same : (t s : List ℕ) (b c : ℕ) → step t s b ≡ step t s c → after t s b ≡ after t s c
 unfolding after
@@ -88,8 +87,8 @@ unfolding changeBy firstBy laterBy lastBy
 follows-pending t F = F
 
 -- all starts: whether there is a match
-pub follows-drives : {t d : List ℕ} → FollowsAll t d → Hull t d → Drives t d
-follows-drives F H = record {
+pub follows-drives : {t d : List ℕ} → FollowsAll t d → Hull t d → Shape t d → Drives t d
+follows-drives F H S = record {
   ranged = F .ranged;
   sets = F .sets;
   first = F .starts;
@@ -99,11 +98,5 @@ follows-drives F H = record {
   ends = λ q s. marks-end (F .sets q) _ (F .marks q s) (F .fair q s);
   fair = λ q s. marks-fair (F .sets q) _ (F .marks q s) (F .fair q s);
   hull = H;
-}
-
-pub derived-all : {t d d' : List ℕ} {r : ℕ} → DerivedBy 0 t d r d' → Derived t d r d'
-derived-all {t} D = record {
-  size = D .size;
-  inside = D .inside;
-  drives = λ h. follows-drives (follows-all t (D .follows h)) (D .hull h);
+  shape = S;
 }

@@ -15,10 +15,9 @@ use borrow.Author.Tests.{eqb-true, eq-eqb, leb-true}
 use Rattle.lists.proofs.Tests.{and-true}
 use Rattle.ere_table.specs.Table.{row, join}
 use Rattle.ere_table.specs.Wiring.{stopIn}
-use Rattle.ere_automaton.specs.Layout.{classCount, firstState, laterState, acceptedState, rowsAt}
-use Rattle.ere_automaton.specs.Layout.{strideBy, strideOf, stateCount, State, classIn, nextIn, pairIn, endWord}
-use Rattle.ere_automaton.specs.Automaton.{Ranged, Hull}
-use Rattle.ere_automaton.specs.Follows.{Follows, FollowsOne, FollowsPending, Seeks, oneLength, oneIn, pendingIn}
+use Rattle.ere_automaton.specs.Layout.{rowsAt, Testable}
+use Rattle.ere_automaton.specs.Automaton.{Hull}
+use Rattle.ere_automaton.specs.Follows.{FollowsOne, FollowsPending, Seeks, oneLength, oneIn, pendingIn}
 use Rattle.ere_sets.specs.Modes.{FollowsBy}
 use Rattle.ere_classes.specs.Frames.{Frame}
 use Rattle.ere_derive.specs.Both.{Nested, HeadedBoth}
@@ -27,7 +26,9 @@ use Rattle.ere_classes.proofs.Columns.{ordered}
 use Rattle.ere_classes.proofs.Framed.{three}
 use Rattle.ere_classes.proofs.Framed.{frame-on, frame-wider, frame-set}
 use Rattle.ere_classes.proofs.Bounded.{hull-on}
+use Rattle.ere_shapes.proofs.Spelling.{testable-on}
 use Rattle.ere_derive.proofs.Following.{follows-one, follows-pending}
+use Rattle.ere_derive.proofs.Heads.{follows-on}
 
 -- ---- what a table has
 
@@ -80,81 +81,6 @@ headed-both t n d room = record {
 
     wide : (e : List ℕ) (i v : ℕ) → 10 ≤ i → i < 13 → Frame 10 13 e (set e i v)
     wide e i v l h = frame-wider (omega arith) (omega arith) (frame-set e i v)
-
--- ---- these words are no part of an automaton
-
-module _ (d d' : List ℕ) (f : Frame 10 13 d d') where
-  class-is : (b : ℕ) → classIn d' b ≡ classIn d b
-  class-is b = f .above (24 + b) (omega arith)
-
-  count-is : classCount d' ≡ classCount d
-  count-is = f .below 0 (omega arith)
-
-  stride-is : strideOf d' ≡ strideOf d
-  stride-is = ap₂ strideBy count-is (f .below 4 (omega arith))
-
-  states-is : stateCount d' ≡ stateCount d
-  states-is = ap₂ (λ (x y : ℕ). (x - rowsAt) / y) (f .size) stride-is
-
-  state-of : (q : ℕ) → State d' q → State d q
-  state-of q s = record {
-    number = s .number;
-    low = subst (λ (x : ℕ). s .number < x) states-is (s .low);
-    is = s .is ∙ ap (λ (x : ℕ). rowsAt + x * s .number) stride-is;
-  }
-
-  state-in : (q q' : ℕ) → q' ≡ q → State d q → State d' q'
-  state-in q q' e s = record {
-    number = s .number;
-    low = subst (λ (x : ℕ). s .number < x) (sym states-is) (s .low);
-    is = e ∙ s .is ∙ ap (λ (x : ℕ). rowsAt + x * s .number) (sym stride-is);
-  }
-
-  word-is : (q : ℕ) → State d q → (c : ℕ) → getD d' (q + c) 0 ≡ getD d (q + c) 0
-  word-is q s c = let e = s .is in f .above (q + c) (omega arith)
-
-  next-is : (q : ℕ) → State d q → (b : ℕ) → nextIn d' q b ≡ nextIn d q b
-  next-is q s b = ap (λ (x : ℕ). getD d' (q + x) 0) (class-is b) ∙ word-is q s (classIn d b)
-
-  end-is : (q : ℕ) → State d q → endWord d' q ≡ endWord d q
-  end-is q s = ap (λ (x : ℕ). getD d' (q + x) 0) count-is ∙ word-is q s (classCount d)
-
-  pair-is : (q : ℕ) → State d q → (b c : ℕ) → pairIn d' q b c ≡ pairIn d q b c
-  pair-is q s b c =
-      ap₂ (λ (x y : ℕ). getD d' (q + (x + 1 + (y * x + classIn d' c))) 0) count-is (class-is b)
-      ∙ ap (λ (x : ℕ). getD d' (q + (classCount d + 1 + (classIn d b * classCount d + x))) 0) (class-is c)
-      ∙ word-is q s (classCount d + 1 + (classIn d b * classCount d + classIn d c))
-
-  ranged-on : Ranged d → Ranged d'
-  ranged-on R = record {
-    head = subst (λ (x : ℕ). rowsAt ≤ x) (sym (f .size)) (R .head);
-    classes = λ b h.
-        subst (λ (x : ℕ). x < classCount d') (sym (class-is b))
-        (subst (λ (x : ℕ). classIn d b < x) (sym count-is) (R .classes b h));
-    first = state-in (firstState d) (firstState d') (f .below 1 (omega arith)) (R .first);
-    later = state-in (laterState d) (laterState d') (f .below 2 (omega arith)) (R .later);
-    moves = λ q b s h.
-        let z = state-of q s in
-        state-in (nextIn d q b) (nextIn d' q b) (next-is q z b) (R .moves q b z h);
-    pairs = λ q b c s h l p.
-        let z = state-of q s in
-        pair-is q z b c ∙ R .pairs q b c z h l (ap (λ (x : ℕ). eqb x 0) (sym (f .below 4 (omega arith))) ∙ p)
-        ∙ sym (ap (λ (x : ℕ). nextIn d' x c) (next-is q z b) ∙ next-is (nextIn d q b) (R .moves q b z h) c);
-  }
-
-  pub follows-on : {change : List ℕ → ℕ → List ℕ} {first later last : List ℕ}
-      → Follows change first later last d → Follows change first later last d'
-  follows-on F = record {
-    ranged = ranged-on (F .ranged);
-    sets = F .sets;
-    starts = ap (F .sets) (f .below 1 (omega arith)) ∙ F .starts;
-    elsewhere = ap (F .sets) (f .below 2 (omega arith)) ∙ F .elsewhere;
-    lasts = state-in (acceptedState d) (acceptedState d') (f .below 3 (omega arith)) (F .lasts);
-    stays = ap (F .sets) (f .below 3 (omega arith)) ∙ F .stays;
-    steps = λ q b s h. let z = state-of q s in ap (F .sets) (next-is q z b) ∙ F .steps q b z h;
-    marks = λ q s. let z = state-of q s in end-is q z ∙ F .marks q z;
-    fair = λ q s e. let z = state-of q s in F .fair q z (sym (end-is q z) ∙ e);
-  }
 
 -- ---- both
 
@@ -237,6 +163,11 @@ module _ (t d : List ℕ) (n : ℕ) (d1 : List ℕ) (D : DerivedBy 1 t d n d1) (
           (ordered i n);
     }
 
+    front-tests : Testable (take n d2)
+    front-tests =
+        testable-on t (take n d1) (take n d2) (λ i g h. front-frame .above i (omega arith))
+        (D .follows some .ranged .tests)
+
     pub rest-inside : n ≤ length d2
     rest-inside = let x = D .size in let y = D .inside in let z = H .frame .size in omega arith
 
@@ -270,10 +201,10 @@ module _ (t d : List ℕ) (n : ℕ) (d1 : List ℕ) (D : DerivedBy 1 t d n d1) (
         both =
             let z = one-long in
             seeks-both t (take n d2) (take m f) n front2 one-long (word2 10 (omega arith) ∙ H .size)
-            (follows-one t (follows-on (take n d1) (take n d2) front-frame (D .follows some)))
+            (follows-one t
+            (follows-on (take n d1) (take n d2) (frame-wider (omega arith) (omega arith) front-frame) front-tests (D .follows some)))
             (follows-pending t (E .follows more))
             (hull-on (take n d2) (λ i g h. front-frame .below i (omega arith)) (front-frame .above 14 (omega arith))
-            (λ i g h. front-frame .above i (omega arith))
             (D .hull some))
             (E .hull more) N
             (word2 11 (omega arith) ∙ H .empty-first) (word2 12 (omega arith) ∙ H .empty-later)

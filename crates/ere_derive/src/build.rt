@@ -3,11 +3,11 @@ ghost use mathlib.Core.Path.{_≡_};
 ghost use Prim.Native.Nat.{ℕ, _+_, _*_, _≤_, _<_};
 ghost use lib.ListN.{length};
 ghost use Rattle.ere_table.specs.Table.{tableWords};
-ghost use Rattle.ere_automaton.specs.Layout.{rowsAt, strideBy};
+ghost use Rattle.ere_automaton.specs.Layout.{rowsAt, strideBy, Testable};
 ghost use Rattle.ere_automaton.specs.Automaton.{Hull};
 ghost use Rattle.ere_classes.specs.Column.{Classified};
 ghost use Rattle.ere_derive.specs.Layout.{Headed};
-ghost use Rattle.ere_derive.specs.Derived.{Derived, DerivedBy, Attempted};
+ghost use Rattle.ere_derive.specs.Derived.{Derived, DerivedBy, Attempted, Prepared};
 use crate::layout;
 use crate::layout::ROWS;
 use crate::pairs;
@@ -53,7 +53,8 @@ fn stride_of(k: usize, paired: u16) -> usize
 // 0 if there is no room.
 fn attempt(t: &[u64], mode: u64, bytes: &[u8], k: usize, d: &mut [u16], paired: u16) -> usize
     requires { ⌜ (length (now t) ≡ tableWords) × (k ≤ length (now bytes)) × (rowsAt ≤ length (now d))
-        × (length (now d) < 65536) × (Classified (now t) (now bytes) k (now d)) × (Hull (now t) (now d)) ⌝ }
+        × (length (now d) < 65536) × (Classified (now t) (now bytes) k (now d)) × (Hull (now t) (now d))
+        × (Testable (now d)) ⌝ }
     ensures { λ r. ⌜ Attempted mode (now (t .entry)) (now (d .entry)) r (now (d .exit)) ⌝ }
 {
     let stride = stride_of(k, paired);
@@ -83,7 +84,8 @@ fn attempt(t: &[u64], mode: u64, bytes: &[u8], k: usize, d: &mut [u16], paired: 
 // room.
 fn with_pairs(t: &[u64], mode: u64, bytes: &[u8], k: usize, d: &mut [u16], pairs: usize) -> usize
     requires { ⌜ (length (now t) ≡ tableWords) × (k ≤ length (now bytes)) × (rowsAt ≤ length (now d))
-        × (length (now d) < 65536) × (Classified (now t) (now bytes) k (now d)) × (Hull (now t) (now d)) ⌝ }
+        × (length (now d) < 65536) × (Classified (now t) (now bytes) k (now d)) × (Hull (now t) (now d))
+        × (Testable (now d)) ⌝ }
     ensures { λ r. ⌜ Attempted mode (now (t .entry)) (now (d .entry)) r (now (d .exit)) ⌝ }
 {
     if pairs < ROWS {
@@ -95,26 +97,50 @@ fn with_pairs(t: &[u64], mode: u64, bytes: &[u8], k: usize, d: &mut [u16], pairs
     attempt(t, mode, bytes, k, &mut d[..pairs], 1)
 }
 
+// Makes rows with pairs, or where they don't fit without, and gives how many words the automaton has; 0 if there is no
+// room.
+fn finish(t: &[u64], mode: u64, bytes: &[u8], k: usize, d: &mut [u16], pairs: usize) -> usize
+    requires { ⌜ (length (now t) ≡ tableWords) × (k ≤ length (now bytes)) × (rowsAt ≤ length (now d))
+        × (length (now d) < 65536) × (Classified (now t) (now bytes) k (now d)) × (Hull (now t) (now d))
+        × (Testable (now d)) ⌝ }
+    ensures { λ r. ⌜ Attempted mode (now (t .entry)) (now (d .entry)) r (now (d .exit)) ⌝ }
+{
+    let r = with_pairs(t, mode, bytes, k, d, pairs);
+    if 0 < r {
+        return r;
+    }
+    attempt(t, mode, bytes, k, d, 0)
+}
+
+// Stores the class of each byte, with a byte of each, and the ranges of a match's first two bytes; gives how many
+// classes there are, 0 if there is no room.
+fn prepare(t: &[u64], bytes: &mut [u8], d: &mut [u16]) -> usize
+    requires { ⌜ (length (now t) ≡ tableWords) × (length (now bytes) ≡ 64) ⌝ }
+    ensures { λ r. ⌜ Prepared (now (t .entry)) (now (bytes .entry)) (now (d .entry)) r (now (bytes .exit))
+        (now (d .exit)) ⌝ }
+{
+    if d.len() < ROWS {
+        return 0;
+    }
+    let k = ere_classes::put_classes(t, bytes, d);
+    if 0 < k {
+        ere_classes::put_hull(t, bytes, k, d);
+    }
+    k
+}
+
 // Makes the automaton of a table by a mode, with pairs if they fit below `pairs` words, and gives how many words it
 // has; 0 if there is no room.
 pub fn derive_by(t: &[u64], mode: u64, d: &mut [u16], pairs: usize) -> usize
     requires { ⌜ (length (now t) ≡ tableWords) × (length (now d) < 65536) ⌝ }
     ensures { λ r. ⌜ DerivedBy mode (now (t .entry)) (now (d .entry)) r (now (d .exit)) ⌝ }
 {
-    if d.len() < ROWS {
-        return 0;
-    }
     let mut bytes = [0u8; ere_classes::MOST_CLASSES];
-    let k = ere_classes::put_classes(t, &mut bytes, d);
+    let k = prepare(t, &mut bytes, d);
     if k == 0 {
         return 0;
     }
-    ere_classes::put_hull(t, &bytes, k, d);
-    let r = with_pairs(t, mode, &bytes, k, d, pairs);
-    if 0 < r {
-        return r;
-    }
-    attempt(t, mode, &bytes, k, d, 0)
+    finish(t, mode, &bytes, k, d, pairs)
 }
 
 // Makes the automaton for the existence of a match, with pairs if they fit below `pairs` words, and gives how many
@@ -123,5 +149,11 @@ pub fn derive(t: &[u64], d: &mut [u16], pairs: usize) -> usize
     requires { ⌜ (length (now t) ≡ tableWords) × (length (now d) < 65536) ⌝ }
     ensures { λ r. ⌜ Derived (now (t .entry)) (now (d .entry)) r (now (d .exit)) ⌝ }
 {
-    derive_by(t, ere_sets::ALL, d, pairs)
+    let mut bytes = [0u8; ere_classes::MOST_CLASSES];
+    let k = prepare(t, &mut bytes, d);
+    if k == 0 {
+        return 0;
+    }
+    ere_shapes::put_word(t, &bytes, k, d);
+    finish(t, ere_sets::ALL, &bytes, k, d, pairs)
 }

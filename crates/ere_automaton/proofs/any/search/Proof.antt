@@ -14,7 +14,7 @@ use Rattle.ere_automaton.specs.Scan.{runs, rangesOf, Skipped}
 use Rattle.ere_automaton.proofs.Ranging.{skipped-inside}
 use Rattle.ere_automaton.proofs.States.{end-fits, runs-state}
 use Rattle.ere_automaton.proofs.Left.{Left, left-runs, left-skipped, left-none, left-ended}
-use Rattle.ere_automaton.proofs.Left.{exists-end, exists-ended}
+use Rattle.ere_automaton.proofs.Left.{exists-end, exists-ended, exists-none}
 use Rattle.ere_automaton.proofs.any.block.Reads as block-reads
 use Rattle.ere_automaton.proofs.any.near_end.Reads as near-end-reads
 use Rattle.ere_automaton.proofs.any.next_block.Reads as next-block-reads
@@ -149,15 +149,29 @@ skip-left l i r j S e later skips L =
     subst (LeftAt l) (sym e)
     (left-skipped (words l) (textOf l) (bytes l) i (l .loop .s) r (eqb-true _ _ later) (not-true _ skips) S L)
 
+-- no match can start any more
+shared-slice-read-if4 : tie.Need-shared-slice-read-if4 Inv-loop μ-loop
+shared-slice-read-if4 c =
+    let l = c .before .before .before .before in
+    let p = l .before .before .before .before .before .before .before .before .before .before .pre in
+    omega (arith, p .0 .head)
+
+returns-2 : tie.Need-returns-2 Inv-loop μ-loop
+returns-2 c =
+    let l = c .before .before .before .before .before in
+    let v = l .loop .inv in
+    exists-none (words l) (textOf l) (bytes l) (l .loop .s) (v .0) (l .loop .i) (v .2)
+    (eqb-true _ _ (c .before .before .if3 .taken)) (c .if4 .taken)
+
 next-block-requires : tie.Need-next-block-requires Inv-loop μ-loop
 next-block-requires c κs =
-    let l = c .before .before .before in
+    let l = c .before .before .before .before .before in
     let p = l .before .before .before .before .before .before .before .before .before .before .pre in
     (p .0 .head, p .1, l .loop .inv .1)
 
-add-if4 : tie.Need-add-if4 Inv-loop μ-loop
-add-if4 c =
-    let l = c .before .before .before .before in
+add-if5 : tie.Need-add-if5 Inv-loop μ-loop
+add-if5 c =
+    let l = c .before .before .before .before .before .before in
     let r = c .next-block in
     let g = rangesOf (words l) in
     omega (arith, skipped-inside g (textOf l) (l .loop .i) (r .result) (r .ensures) (l .loop .inv .1))
@@ -182,9 +196,9 @@ at-block c =
     let l = c .before .before in
     ⊎-elim
     (λ w. (
-      omega (arith, w .4, w .2 .ensures .on),
-      omega (arith, w .3 .left, w .4),
-      skip-left l (l .loop .i) (w .2 .result) (c .if2 .i) (w .2 .ensures) (w .4) (w .1 .taken) (w .0 .taken)
+      omega (arith, w .6, w .4 .ensures .on),
+      omega (arith, w .5 .left, w .6),
+      skip-left l (l .loop .i) (w .4 .result) (c .if2 .i) (w .4 .ensures) (w .6) (w .1 .taken) (w .0 .taken)
           (l .loop .inv .2),
     ))
     (λ w. (
@@ -223,12 +237,12 @@ block-left c =
     let i = c .before .if2 .i in
     (run-state l i 16 (r .result) (r .ensures), run-left l i 16 (r .result) (omega arith) (r .ensures) (w .2))
 
-returns-2 : tie.Need-returns-2 Inv-loop μ-loop
-returns-2 c =
+returns-3 : tie.Need-returns-3 Inv-loop μ-loop
+returns-3 c =
     let b = block-left (c .before) in
     let l = c .before .before .before .before in
     let i = c .before .before .if2 .i in
-    exists-ended (words l) (textOf l) (bytes l) (c .before .block .result) (b .0) (i + 16) (b .1) (c .if5 .taken)
+    exists-ended (words l) (textOf l) (bytes l) (c .before .block .result) (b .0) (i + 16) (b .1) (c .if6 .taken)
 
 add-i : tie.Need-add-i Inv-loop μ-loop
 add-i c = let w = at-block (c .before .before .before) in omega arith
@@ -271,9 +285,9 @@ at-exit c =
       subst (LeftAt l) (sym (w .1)) (l .loop .inv .2),
     ))
     (λ w. (
-      omega (arith, w .5, skipped-inside g (textOf l) i (w .3 .result) (w .3 .ensures) (l .loop .inv .1)),
-      omega (arith, w .5, w .4 .taken),
-      skip-left l i (w .3 .result) (c .loop-test .i) (w .3 .ensures) (w .5) (w .2 .taken) (w .1 .taken)
+      omega (arith, w .7, skipped-inside g (textOf l) i (w .5 .result) (w .5 .ensures) (l .loop .inv .1)),
+      omega (arith, w .7, w .6 .taken),
+      skip-left l i (w .5 .result) (c .loop-test .i) (w .5 .ensures) (w .7) (w .2 .taken) (w .1 .taken)
           (l .loop .inv .2),
     ))
     (c .loop-test .came)
@@ -285,13 +299,13 @@ near-end-requires c κs =
     let p = l .before .before .before .before .before .before .before .before .before .before .pre in
     let asked = not (eqb (skipsWord (words l)) 0) && eqb (l .loop .s) (laterState (words l)) in
     let n = length (textOf l) in
-    let more = ltb-true 16 n (and-true asked (ltb 16 n) (c .if6 .taken) .1) in
+    let more = ltb-true 16 n (and-true asked (ltb 16 n) (c .if7 .taken) .1) in
     (p .0 .head, record { small = p .1; long = omega arith; near = omega arith; inside = o .0 })
 
 -- before the rest of the text
 abbrev AtRest : Type 0
 AtRest =
-    lts.Joined6 (
+    lts.Joined7 (
       next-block-reads.Asked,
       next-block-reads.Learnt,
       block-reads.Asked,
@@ -302,7 +316,7 @@ AtRest =
       by-bytes-reads.Learnt,
     ) reads.Pre reads.Post Inv-loop μ-loop
 
-at-rest : (c : AtRest) → let l = c .before .before in (c .if6 .i ≤ length (textOf l)) × (LeftAt l (c .if6 .i))
+at-rest : (c : AtRest) → let l = c .before .before in (c .if7 .i ≤ length (textOf l)) × (LeftAt l (c .if7 .i))
 at-rest c =
     let l = c .before .before in
     let o = at-exit (c .before) in
@@ -312,10 +326,10 @@ at-rest c =
     let m = and-true _ _ (and-true _ _ (w .0 .taken) .0) in
     let r = w .1 in (
       omega (arith, w .2, skipped-inside (rangesOf (words l)) (textOf l) i (r .result) (r .ensures) (o .0)),
-      skip-left l i (r .result) (c .if6 .i) (r .ensures) (w .2) (m .1) (m .0) (o .2),
+      skip-left l i (r .result) (c .if7 .i) (r .ensures) (w .2) (m .1) (m .0) (o .2),
     ))
     (λ w. (omega (arith, w .1, o .0), subst (LeftAt l) (sym (w .1)) (o .2)))
-    (c .if6 .came)
+    (c .if7 .came)
 
 by-bytes-requires : tie.Need-by-bytes-requires Inv-loop μ-loop
 by-bytes-requires c κs =
@@ -340,7 +354,7 @@ Last =
 last-state : (c : Last) → State (words (c .before .before .before)) (c .by-bytes .result)
 last-state c =
     let l = c .before .before .before in
-    let i = c .before .if6 .i in
+    let i = c .before .if7 .i in
     run-state l i (length (textOf l) - i) (c .by-bytes .result) (c .by-bytes .ensures)
 
 last-fits : (c : Last) → let d = words (c .before .before .before) in c .by-bytes .result + classCount d < length d
@@ -355,12 +369,12 @@ mul-result-2 c = omega (arith, last-fits c)
 shared-slice-read-result-2 : tie.Need-shared-slice-read-result-2 Inv-loop μ-loop
 shared-slice-read-result-2 c = omega (arith, last-fits (c .before))
 
-returns-3 : tie.Need-returns-3 Inv-loop μ-loop
-returns-3 c =
+returns-4 : tie.Need-returns-4 Inv-loop μ-loop
+returns-4 c =
     let e = c .before in
     let l = e .before .before .before in
     let w = at-rest (e .before) in
-    let i = e .before .if6 .i in
+    let i = e .before .if7 .i in
     let n = length (textOf l) in
     let z : i + (n - i) ≡ n = omega (arith, w .0) in
     let q = e .by-bytes .result in
@@ -391,10 +405,12 @@ search-spec =
     returns
     loop-holds
     add-loop
-    next-block-requires
-    add-if4
-    block-requires
+    shared-slice-read-if4
     returns-2
+    next-block-requires
+    add-if5
+    block-requires
+    returns-3
     add-i
     loop-less
     loop-again
@@ -403,4 +419,4 @@ search-spec =
     add-result-2
     mul-result-2
     shared-slice-read-result-2
-    returns-3)
+    returns-4)

@@ -1,7 +1,7 @@
 use mathlib.Core.Path.{refl, sym}
 use native.Mathlib.Omega.{arith}
 use lib.Seq.{length-take-le}
-use Rattle.ere_derive.proofs.Driving.{unattempted, front-size, front-classified, front-hull, front-attempted}
+use Rattle.ere_derive.proofs.Driving.{unattempted, front-size, front-classified, front-hull, front-tests, front-attempted}
 use borrow.Author.Needs.{needs}
 use Rattle.ere_derive.proofs.build.with_pairs.Statement.{statement}
 use Rattle.ere_derive.proofs.build.with_pairs.Tie as tie
@@ -23,7 +23,7 @@ attempt-requires c κs =
     let p = c .before .before .before .before .before .before .pre in
     let a = c .before .before .before .before .before .before .args in
     let z = front-size (a .mode) (a .t .now) (a .bytes .now) (a .k) (a .pairs) (a .d .now) (c .before .before .if1 .left) (c .before .if2 .left) in
-    (p .0, p .1, omega arith, omega arith, front-classified (a .mode) (a .t .now) (a .bytes .now) (a .k) (a .pairs) (a .d .now) (c .before .before .if1 .left) (c .before .if2 .left) (p .4), front-hull (a .mode) (a .t .now) (a .bytes .now) (a .k) (a .pairs) (a .d .now) (c .before .before .if1 .left) (c .before .if2 .left) (p .5))
+    (p .0, p .1, omega arith, omega arith, front-classified (a .mode) (a .t .now) (a .bytes .now) (a .k) (a .pairs) (a .d .now) (c .before .before .if1 .left) (c .before .if2 .left) (p .4), front-hull (a .mode) (a .t .now) (a .bytes .now) (a .k) (a .pairs) (a .d .now) (c .before .before .if1 .left) (c .before .if2 .left) (p .5), front-tests (a .mode) (a .t .now) (a .bytes .now) (a .k) (a .pairs) (a .d .now) (c .before .before .if1 .left) (c .before .if2 .left) (p .6))
 
 same-length : tie.Need-same-length
 same-length c = search needs

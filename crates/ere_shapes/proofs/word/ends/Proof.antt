@@ -1,10 +1,10 @@
 -- `ends` meets its contract: both accept bits.
 use mathlib.Core.Path.{sym, _∙_}
 use Rattle.lists.proofs.Tests.{and-true}
-use Rattle.ere_classes.proofs.Spelling.{both-bits}
+use Rattle.ere_shapes.proofs.Ranges.{both-bits}
 use borrow.Author.Needs.{needs}
-use Rattle.ere_classes.proofs.word.ends.Statement.{statement}
-use Rattle.ere_classes.proofs.word.ends.Tie as tie
+use Rattle.ere_shapes.proofs.word.ends.Statement.{statement}
+use Rattle.ere_shapes.proofs.word.ends.Tie as tie
 
 has-requires : tie.Need-has-requires
 has-requires c κs = search needs

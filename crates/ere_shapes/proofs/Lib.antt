@@ -1,0 +1,3 @@
+-- The laws of words as they are found and stored.
+pub mod Ranges
+pub mod Spelling
