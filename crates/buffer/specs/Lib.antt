@@ -1,5 +1,4 @@
 -- What the contracts on bytes cite.
 pub mod Parts
-pub mod Words
 pub mod Order
 pub mod First

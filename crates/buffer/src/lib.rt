@@ -1,7 +1,6 @@
-// Bytes in slices: copies, comparison, search, and numbers in bytes.
+// Bytes in slices: copies, comparison, search.
 mod copies;
 mod search;
-mod words;
 
 pub use copies::copy;
 pub use copies::copy_within;
@@ -11,7 +10,3 @@ pub use search::Order;
 pub use search::compare;
 pub use search::equal;
 pub use search::first_byte;
-pub use words::get_short;
-pub use words::get_word;
-pub use words::put_short;
-pub use words::put_word;

@@ -1,6 +1,6 @@
 // Copies by blocks.
-use buffer::get_word;
-use buffer::put_word;
+use little_endian::get_word;
+use little_endian::put_word;
 ghost use mathlib.Core.Path.{_≡_};
 ghost use Prim.Native.Nat.{_+_, _≤_, _<_};
 ghost use lib.ListN.{length};

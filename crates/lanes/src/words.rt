@@ -1,10 +1,10 @@
 // Eight bytes at a time, as the lanes of a word. No sum of two lanes carries into the next.
-use buffer::get_word;
+use little_endian::get_word;
 ghost use mathlib.Core.Path.{_≡_};
 ghost use Prim.Native.Nat.{_+_, _≤_};
 ghost use lib.ListN.{length};
 ghost use Rattle.buffer.specs.Parts.{part};
-ghost use Rattle.buffer.specs.Words.{leBytes};
+ghost use Rattle.little_endian.specs.Words.{leBytes};
 ghost use Rattle.buffer.specs.First.{firstByte};
 ghost use Rattle.lanes.specs.Marks.{marks};
 

@@ -17,7 +17,7 @@ fn entry_bound(work: &[u8], i: usize) -> usize
     requires { ⌜ (baseEnd ≤ length (now work)) × (i < fieldCount) ⌝ }
     ensures { λ r. ⌜ (r < 65536) × ((line : List ℕ) → length (textOf (entryAt line (now (work .entry)) i)) ≤ r) ⌝ }
 {
-    let h = buffer::get_word(work, run_room::ENTRIES + i * run_room::ENTRY);
+    let h = little_endian::get_word(work, run_room::ENTRIES + i * run_room::ENTRY);
     if h / 4294967296 % 256 == 1 {
         return numeral::DECIMAL_BYTES;
     }

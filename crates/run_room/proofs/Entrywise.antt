@@ -7,9 +7,9 @@ use native.Mathlib.Decide.{decLt}
 use lib.ListN.{length, take, drop, getD, length-append, length-take, length-drop, List·getD-append, drop-of-length-le}
 use lib.Seq.{getD-at, take-all, take-nil}
 use Rattle.buffer.specs.Parts.{part, put}
-use Rattle.buffer.specs.Words.{leBytes, leValue}
+use Rattle.little_endian.specs.Words.{leBytes, leValue}
 use Rattle.buffer.proofs.Parts.{length-part, length-put, part-part, part-put-same, part-put-below, part-put-above}
-use Rattle.buffer.proofs.Numbers.{le-put, length-leBytes}
+use Rattle.little_endian.proofs.Numbers.{le-put, length-leBytes}
 use Rattle.values.specs.Value.{Value, unset, field-text}
 use Rattle.run_room.specs.Layout.{entryBytes, entriesStart, recordStart, baseEnd}
 use Rattle.run_room.specs.Room.{wordAt, valueBy, lineOf, entryAt, entriesTo, Placed, Outside}

@@ -7,9 +7,9 @@ use native.Mathlib.Decide.{ℕ-discrete, decLe}
 use lib.ListN.{length, take, drop, getD, set, length-set, length-append}
 use lib.Seq.{take-take, ext-getD, getD-set-same, getD-set-other, take-at, drop-at}
 use Rattle.buffer.specs.Parts.{part, put}
-use Rattle.buffer.specs.Words.{leBytes, leValue}
+use Rattle.little_endian.specs.Words.{leBytes, leValue}
 use Rattle.buffer.proofs.Parts.{length-part, length-put, put-append, part-part, part-put-same, part-put-above, part-put-below}
-use Rattle.buffer.proofs.Numbers.{le-round, length-leBytes}
+use Rattle.little_endian.proofs.Numbers.{le-round, length-leBytes}
 use mathlib.Core.Bool.{true, false, true≢false, false≢true}
 use Rattle.values.specs.Value.{Value, unset, number, text, field-text, textOf}
 use Rattle.numeral.specs.Decimal.{decimalText}

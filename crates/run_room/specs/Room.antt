@@ -7,7 +7,7 @@ use Prim.Native.Nat.{ℕ, zero, suc, _+_, _-_, _*_, _/_, _%_, _≤_, _<_, min}
 use lib.ListN.{length, take, drop, set}
 use Rattle.edition.specs.Limits.{textBytes, recordBytes, fieldCount}
 use Rattle.buffer.specs.Parts.{part}
-use Rattle.buffer.specs.Words.{leBytes, leValue}
+use Rattle.little_endian.specs.Words.{leBytes, leValue}
 use Rattle.number.specs.Range.{unbias, top}
 use Rattle.splitting.specs.Separator.{Separator}
 use Rattle.splitting.specs.Field.{Span, fieldsFrom}

@@ -11,10 +11,10 @@ fn move_16(s: &mut [u8], from: usize, to: usize)
     requires { ⌜ (from + 16 ≤ length (now s)) × (to + 16 ≤ length (now s)) ⌝ }
     ensures { λ _. ⌜ now (s .exit) ≡ put (now (s .entry)) to (part from 16 (now (s .entry))) ⌝ }
 {
-    let a = buffer::get_word(s, from);
-    let b = buffer::get_word(s, from + 8);
-    buffer::put_word(s, to, a);
-    buffer::put_word(s, to + 8, b);
+    let a = little_endian::get_word(s, from);
+    let b = little_endian::get_word(s, from + 8);
+    little_endian::put_word(s, to, a);
+    little_endian::put_word(s, to + 8, b);
 }
 
 // Copies `n` bytes, and those after them up to a multiple of 16, one block after the other.

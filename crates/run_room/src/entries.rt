@@ -31,12 +31,12 @@ pub fn put_entry(work: &mut [u8], k: usize, e: Entry)
     ensures { λ _. ⌜ Entered (now (work .entry)) (now (work .exit)) k e ⌝ }
 {
     let at = ENTRIES + k * ENTRY;
-    buffer::put_word(
+    little_endian::put_word(
         work,
         at,
         e.start as u64 + 65536 * e.size as u64 + 4294967296 * e.kind as u64,
     );
-    buffer::put_word(work, at + 8, e.number);
+    little_endian::put_word(work, at + 8, e.number);
 }
 
 // Reads entry k, whose span is clipped to the record.
@@ -45,8 +45,8 @@ pub fn read_entry(work: &[u8], line: Line, k: usize) -> Entry
     ensures { λ r. ⌜ Reads (now (work .entry)) line k r ⌝ }
 {
     let at = ENTRIES + k * ENTRY;
-    let h = buffer::get_word(work, at);
-    let w = buffer::get_word(work, at + 8);
+    let h = little_endian::get_word(work, at);
+    let w = little_endian::get_word(work, at + 8);
     let start = least((h % 65536) as usize, line.size);
     let size = least((h / 65536 % 65536) as usize, line.size - start);
     Entry {

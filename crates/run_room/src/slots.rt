@@ -6,7 +6,7 @@ ghost use Rattle.edition.specs.Limits.{textBytes};
 ghost use Rattle.number.specs.Range.{unbias, top};
 ghost use Rattle.values.specs.Value.{unset, number};
 ghost use Rattle.buffer.specs.Parts.{part, put};
-ghost use Rattle.buffer.specs.Words.{leBytes};
+ghost use Rattle.little_endian.specs.Words.{leBytes};
 ghost use Rattle.run_room.specs.Layout.{headSize, slotBytes, slotsEnd, slotCount};
 ghost use Rattle.run_room.specs.Room.{headOf, sizeIn, wordAt, valueBy, slotAt, kindOf, Numbered};
 ghost use Rattle.run_room.specs.Held.{SlotHeld, Slotted};
@@ -22,7 +22,7 @@ pub fn put_kind(work: &mut [u8], at: usize, kind: u8, n: usize)
     requires { ⌜ (at + headSize ≤ length (now work)) × (n ≤ textBytes) ⌝ }
     ensures { λ _. ⌜ now (work .exit) ≡ put (now (work .entry)) at (leBytes 8 (kind + 65536 * n)) ⌝ }
 {
-    buffer::put_word(work, at, kind as u64 + 65536 * n as u64);
+    little_endian::put_word(work, at, kind as u64 + 65536 * n as u64);
 }
 
 // Writes the two words at the front of a slot.
@@ -31,7 +31,7 @@ fn put_head(work: &mut [u8], at: usize, kind: u8, n: usize, w: u64)
     ensures { λ _. ⌜ now (work .exit) ≡ put (now (work .entry)) at (headOf kind n w) ⌝ }
 {
     put_kind(work, at, kind, n);
-    buffer::put_word(work, at + 8, w);
+    little_endian::put_word(work, at + 8, w);
 }
 
 // Returns the text length that a head's first word has.
@@ -47,7 +47,7 @@ pub fn slot_kind(work: &[u8], i: usize) -> u8
     requires { ⌜ (slotsEnd ≤ length (now work)) × (i < slotCount) ⌝ }
     ensures { λ r. ⌜ min r 3 ≡ kindOf (slotAt (now (work .entry)) i) ⌝ }
 {
-    (buffer::get_word(work, i * SLOT) % 256) as u8
+    (little_endian::get_word(work, i * SLOT) % 256) as u8
 }
 
 // Returns the number of a slot whose value is one. Whatever the room has, it is in range. A test by `<` would be one of
@@ -56,7 +56,7 @@ pub fn slot_number(work: &[u8], i: usize) -> u64
     requires { ⌜ (slotsEnd ≤ length (now work)) × (i < slotCount) ⌝ }
     ensures { λ r. ⌜ Numbered (now (work .entry)) i r ⌝ }
 {
-    let w = buffer::get_word(work, i * SLOT + 8);
+    let w = little_endian::get_word(work, i * SLOT + 8);
     if w <= 2 * Edition::NUMBER {
         w
     } else {
@@ -95,6 +95,6 @@ pub fn copy_slot(work: &mut [u8], from: usize, to: usize)
     ensures { λ _. ⌜ Slotted (now (work .entry)) (now (work .exit)) to (slotAt (now (work .entry)) from)
         (SlotHeld (now (work .entry)) from) ⌝ }
 {
-    let n = size_in(buffer::get_word(work, from * SLOT));
+    let n = size_in(little_endian::get_word(work, from * SLOT));
     blocks::copy_headed(work, from * SLOT, to * SLOT, n);
 }

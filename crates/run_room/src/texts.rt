@@ -22,7 +22,7 @@ pub fn text_size(work: &[u8], i: usize) -> usize
     requires { ⌜ (slotsEnd ≤ length (now work)) × (i < slotCount) ⌝ }
     ensures { λ r. ⌜ Texted (now (work .entry)) i r ⌝ }
 {
-    let h = buffer::get_word(work, i * SLOT);
+    let h = little_endian::get_word(work, i * SLOT);
     if h % 256 < 2 {
         return 0;
     }

@@ -10,8 +10,8 @@ use lib.Dec.{leb}
 use lib.ListN.{length, take, getD, set}
 use lib.Seq.{take-all}
 use Rattle.buffer.specs.Parts.{part, put}
-use Rattle.buffer.specs.Words.{leValue}
-use Rattle.buffer.proofs.Numbers.{le-at}
+use Rattle.little_endian.specs.Words.{leValue}
+use Rattle.little_endian.proofs.Numbers.{le-at}
 use Rattle.buffer.proofs.Parts.{copied-more}
 use Rattle.vectors_frames.specs.Payload.{numberAt, loaded}
 

@@ -5,7 +5,7 @@ use mathlib.Core.List.{List}
 use lib.Dec.{leb}
 use lib.ListN.{length, take}
 use Rattle.buffer.specs.Parts.{part, put}
-use Rattle.buffer.specs.Words.{leValue}
+use Rattle.little_endian.specs.Words.{leValue}
 
 -- the number in the k bytes from index a on, the low byte first; 0 where there are no such bytes
 unfoldable pub numberAt : ℕ → ℕ → List ℕ → ℕ

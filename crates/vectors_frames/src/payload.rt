@@ -3,7 +3,7 @@ ghost use mathlib.Core.Path.{_≡_};
 ghost use Prim.Native.Nat.{_+_, _*_, _≤_, _<_, _^_};
 ghost use lib.ListN.{length, getD};
 ghost use Rattle.buffer.specs.Parts.{part};
-ghost use Rattle.buffer.specs.Words.{leValue};
+ghost use Rattle.little_endian.specs.Words.{leValue};
 ghost use Rattle.vectors_frames.specs.Payload.{numberAt, loaded};
 
 // The most bytes that the room of a case has: as many as `io::buffer` gives.

@@ -13,8 +13,8 @@ fn word(room: &mut [u8], at: usize, w: u64) -> bool {
     if room.len() - 8 < at {
         return false;
     }
-    buffer::put_word(room, at, w);
-    buffer::get_word(room, at) == w
+    little_endian::put_word(room, at, w);
+    little_endian::get_word(room, at) == w
 }
 
 // Puts a number in two bytes, if they fit, and gets it back.
@@ -28,8 +28,8 @@ fn short(room: &mut [u8], at: usize, w: u64) -> bool {
     if room.len() - 2 < at {
         return false;
     }
-    buffer::put_short(room, at, w as u16);
-    buffer::get_short(room, at) as u64 == w
+    little_endian::put_short(room, at, w as u16);
+    little_endian::get_short(room, at) as u64 == w
 }
 
 // Runs the payload's case on a room that is as before.

@@ -2,7 +2,7 @@
 use Prim.Native.Nat.{ℕ}
 use mathlib.Core.Path.{ap, _∙_}
 use borrow.Author.Needs.{needs}
-use Rattle.buffer.specs.Words.{leBytes}
+use Rattle.little_endian.specs.Words.{leBytes}
 use Rattle.lanes.specs.Marks.{marks}
 use Rattle.lanes.proofs.Copied.{word-read}
 use Rattle.lanes.proofs.words.marks_at.Statement.{statement}

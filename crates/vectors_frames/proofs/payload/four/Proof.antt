@@ -1,6 +1,6 @@
 -- `four` meets its contract, by its bytes.
 use native.Mathlib.Omega.{arith}
-use Rattle.buffer.proofs.Numbers.{le-at}
+use Rattle.little_endian.proofs.Numbers.{le-at}
 use borrow.Author.Needs.{needs}
 use Rattle.vectors_frames.proofs.payload.four.Statement.{statement}
 use Rattle.vectors_frames.proofs.payload.four.Tie as tie

@@ -7,9 +7,9 @@ use native.Mathlib.Numerals.{add-one}
 use native.Mathlib.Omega.{arith}
 use lib.ListN.{length, getD}
 use lib.Seq.{drop-cons}
 use Rattle.buffer.specs.Parts.{part, put}
-use Rattle.buffer.specs.Words.{leBytes, leValue}
+use Rattle.little_endian.specs.Words.{leBytes, leValue}
 use Rattle.buffer.proofs.Parts.{part-put-same}
 
 pub length-leBytes : (k x : ℕ) → length (leBytes k x) ≡ k
 length-leBytes zero x = refl

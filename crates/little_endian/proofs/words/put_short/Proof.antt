@@ -2,11 +2,11 @@
 use Prim.Native.Nat.{_/_, _%_}
 use native.Mathlib.Omega.{arith}
 use lib.ListN.{length-set}
-use Rattle.buffer.specs.Words.{leBytes}
+use Rattle.little_endian.specs.Words.{leBytes}
 use Rattle.buffer.proofs.Parts.{put-stores}
 use borrow.Author.Needs.{needs}
-use Rattle.buffer.proofs.words.put_short.Statement.{statement}
-use Rattle.buffer.proofs.words.put_short.Tie as tie
+use Rattle.little_endian.proofs.words.put_short.Statement.{statement}
+use Rattle.little_endian.proofs.words.put_short.Tie as tie
 
 cast-s : tie.Need-cast-s
 cast-s c = search needs

@@ -2,8 +2,8 @@
 ghost use mathlib.Core.Path.{_≡_};
 ghost use Prim.Native.Nat.{_+_, _*_, _≤_, _<_, _^_};
 ghost use lib.ListN.{length};
 ghost use Rattle.buffer.specs.Parts.{part, put};
-ghost use Rattle.buffer.specs.Words.{leBytes, leValue};
+ghost use Rattle.little_endian.specs.Words.{leBytes, leValue};
 
 // Returns the number of a low byte and the bytes above it.
 fn low(b: u8, above: u64) -> u64

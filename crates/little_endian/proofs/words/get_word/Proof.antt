@@ -1,9 +1,9 @@
 -- `get_word` meets its contract, by its bytes.
 use native.Mathlib.Omega.{arith}
-use Rattle.buffer.proofs.Numbers.{le-at}
+use Rattle.little_endian.proofs.Numbers.{le-at}
 use borrow.Author.Needs.{needs}
-use Rattle.buffer.proofs.words.get_word.Statement.{statement}
-use Rattle.buffer.proofs.words.get_word.Tie as tie
+use Rattle.little_endian.proofs.words.get_word.Statement.{statement}
+use Rattle.little_endian.proofs.words.get_word.Tie as tie
 
 add-low : tie.Need-add-low
 add-low c = search needs

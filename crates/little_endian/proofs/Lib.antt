@@ -1,0 +1,2 @@
+-- The laws on numbers in bytes.
+pub mod Numbers

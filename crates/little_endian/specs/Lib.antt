@@ -1,0 +1,2 @@
+-- What the contracts on numbers in bytes cite.
+pub mod Words
