@@ -1,6 +1,6 @@
 -- Internal: cited by private contracts only. Whether a byte is among some of a list, and indexes that come nearer to
 -- its first place.
-use Prim.Native.Nat.{ℕ, zero, suc, _+_, _*_, _/_, _≤_, _<_}
+use Prim.Native.Nat.{ℕ, zero, suc, _+_, _≤_, _<_}
 use mathlib.Core.Bool.{Bool, true, false, cond}
 use mathlib.Core.List.{List}
 use lib.ListN.{getD}
@@ -18,7 +18,3 @@ pub record Nearer (b : ℕ) (s : List ℕ) (a n r : ℕ) : Type 0 where
   pub within : r ≤ a + n
   pub before : r ≤ firstByte b s
   pub near : firstByte b s < a + n + n → firstByte b s < r + n
-
--- n, up to a multiple of 16
-abbrev pub blocks : ℕ → ℕ
-blocks n = (n + 15) / 16 * 16

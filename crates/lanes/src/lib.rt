@@ -1,16 +1,11 @@
-// Bytes in slices, many at a time: the first place of a byte, of one of two, or of a part, and copies.
+// Bytes in slices, many at a time: the first place of a byte, of one of two, or of a part.
 mod blocks;
-mod copies;
 mod pairs;
 mod parts;
 mod search;
 mod words;
 
 pub use blocks::any_in_32;
-pub use copies::copy;
-pub use copies::copy_few;
-pub use copies::copy_over;
-pub use copies::copy_short;
 pub use pairs::first_byte_from;
 pub use pairs::first_of_two;
 pub use pairs::past_two;

@@ -50,7 +50,7 @@ fn write_text(work: &[u8], i: usize, n: usize, out: &mut [u8], at: usize) -> usi
 {
     let s = i * run_room::SLOT + run_room::HEAD;
     let e = s + n;
-    lanes::copy(out, at, &work[s..e]);
+    block_copy::copy(out, at, &work[s..e]);
     at + n
 }
 

@@ -12,7 +12,7 @@ use borrow.Author.Tests.{eq-eqb, ne-eqb, lt-ltb, le-ltb}
 use Rattle.edition.specs.Limits.{textBytes, fieldCount}
 use Rattle.buffer.specs.Parts.{part, put}
 use Rattle.buffer.proofs.Parts.{length-part, part-more, part-part}
-use Rattle.lanes.specs.Block.{blocks}
+use Rattle.block_copy.specs.Rounded.{blocks}
 use Rattle.numeral.specs.Decimal.{decimalText}
 use Rattle.number.specs.Range.{unbias, top}
 use Rattle.values.specs.Value.{Value, unset, number, text, field-text, textOf}

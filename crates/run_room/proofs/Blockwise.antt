@@ -7,7 +7,7 @@ use native.Mathlib.Omega.{arith}
 use lib.ListN.{length}
 use Rattle.buffer.specs.Parts.{part, put}
 use Rattle.buffer.proofs.Parts.{length-part, part-put-above, part-put-below}
-use Rattle.lanes.proofs.Copied.{over-more}
+use Rattle.block_copy.proofs.Copied.{over-more}
 
 -- m elements more, where k are copied, of n at the most
 pub block-more : (l : List ℕ) (from to n k m : ℕ) {x y : List ℕ} → from + n ≤ length l → to + n ≤ length l

@@ -14,7 +14,7 @@ use mathlib.Core.Bool.{true, false, true≢false, false≢true}
 use Rattle.values.specs.Value.{Value, unset, number, text, field-text, textOf}
 use Rattle.numeral.specs.Decimal.{decimalText}
 use Rattle.edition.specs.Limits.{textBytes}
-use Rattle.lanes.specs.Block.{blocks}
+use Rattle.block_copy.specs.Rounded.{blocks}
 use Rattle.run_room.specs.Layout.{blockSize, headSize, slotBytes}
 use Rattle.run_room.specs.Room.{wordAt, valueBy, headOf, sizeIn, slotAt, slotsFrom, kindOf, isNumber, Outside, Numbered, Texted}
 use Rattle.run_room.specs.Held.{SlotHeld, Slotted, Shown}

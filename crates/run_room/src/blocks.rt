@@ -4,7 +4,7 @@ ghost use mathlib.Core.Logic.{_⊎_};
 ghost use Prim.Native.Nat.{_+_, _≤_};
 ghost use lib.ListN.{length};
 ghost use Rattle.buffer.specs.Parts.{part, put};
-ghost use Rattle.lanes.specs.Block.{blocks};
+ghost use Rattle.block_copy.specs.Rounded.{blocks};
 
 // Copies 16 bytes: all are read before one is written.
 fn move_16(s: &mut [u8], from: usize, to: usize)

@@ -49,18 +49,18 @@ pub fn set_text(work: &mut [u8], i: usize, bytes: &[u8])
 {
     slots::put_kind(work, i * SLOT, TEXT, bytes.len());
     if bytes.len() < 4 {
-        lanes::copy_few(work, i * SLOT + HEAD, bytes);
+        block_copy::copy_few(work, i * SLOT + HEAD, bytes);
         return;
     }
     if bytes.len() <= 8 {
-        lanes::copy_short(work, i * SLOT + HEAD, bytes);
+        block_copy::copy_short(work, i * SLOT + HEAD, bytes);
         return;
     }
     if bytes.len() <= BLOCK {
-        lanes::copy_short(work, i * SLOT + HEAD, bytes);
+        block_copy::copy_short(work, i * SLOT + HEAD, bytes);
         return;
     }
-    lanes::copy(work, i * SLOT + HEAD, bytes);
+    block_copy::copy(work, i * SLOT + HEAD, bytes);
 }
 
 // Sets a slot to a text constant of an image, by whole blocks where the image goes on after it.
@@ -71,10 +71,10 @@ pub fn set_constant(work: &mut [u8], i: usize, image: &[u8], from: usize, n: usi
     slots::put_kind(work, i * SLOT, TEXT, n);
     let end = from + n;
     if BLOCK <= image.len() - end {
-        lanes::copy_over(work, i * SLOT + HEAD, image, from, n);
+        block_copy::copy_over(work, i * SLOT + HEAD, image, from, n);
         return;
     }
-    lanes::copy(work, i * SLOT + HEAD, &image[from..end]);
+    block_copy::copy(work, i * SLOT + HEAD, &image[from..end]);
 }
 
 // Sets a slot to the first n of its text bytes, as a text.

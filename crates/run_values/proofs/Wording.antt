@@ -12,7 +12,7 @@ use borrow.Author.Tests.{eq-eqb, ne-eqb}
 use borrow.Rule.Slice.PartMut.{midOf}
 use Rattle.edition.specs.Limits.{textBytes, numberBound}
 use Rattle.edition.specs.Outcomes.{textTooLong}
-use Rattle.lanes.specs.Block.{blocks}
+use Rattle.block_copy.specs.Rounded.{blocks}
 use Rattle.buffer.specs.Parts.{part, put}
 use Rattle.buffer.specs.First.{firstPart, foundOf}
 use Rattle.buffer.specs.declared.search.Found.{Found}

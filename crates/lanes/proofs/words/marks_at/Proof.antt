@@ -4,7 +4,7 @@ use mathlib.Core.Path.{ap, _∙_}
 use borrow.Author.Needs.{needs}
 use Rattle.little_endian.specs.Words.{leBytes}
 use Rattle.lanes.specs.Marks.{marks}
-use Rattle.lanes.proofs.Copied.{word-read}
+use Rattle.block_copy.proofs.Copied.{word-read}
 use Rattle.lanes.proofs.words.marks_at.Statement.{statement}
 use Rattle.lanes.proofs.words.marks_at.Tie as tie
 

@@ -4,7 +4,7 @@ use mathlib.Core.Path.{ap, _∙_}
 use mathlib.Core.Logic.{inl, inr, ⊎-elim}
 use Prim.Native.Nat.{ℕ, _+_}
 use Rattle.buffer.specs.Parts.{part, put}
-use Rattle.lanes.specs.Block.{blocks}
+use Rattle.block_copy.specs.Rounded.{blocks}
 use Rattle.run_parts.proofs.Grown.{grown-part}
 use borrow.Author.Needs.{needs}
 use Rattle.run_parts.proofs.joining.grow_text.Statement.{statement}

@@ -1,6 +1,6 @@
 -- `copy_blocks` meets its contract: one block, none, or one after the other.
 use native.Mathlib.Omega.{arith}
-use Rattle.lanes.proofs.Copied.{over-none, over-end}
+use Rattle.block_copy.proofs.Copied.{over-none, over-end}
 use borrow.Author.Needs.{needs}
 use Rattle.run_room.proofs.blocks.copy_blocks.Statement.{statement}
 use Rattle.run_room.proofs.blocks.copy_blocks.Tie as tie

@@ -2,7 +2,7 @@
 use mathlib.Core.Logic.{⊎-elim, inl, inr}
 use Prim.Native.Nat.{_+_}
 use native.Mathlib.Omega.{arith}
-use Rattle.lanes.specs.Block.{blocks}
+use Rattle.block_copy.specs.Rounded.{blocks}
 use Rattle.run_room.proofs.Blockwise.{block-more}
 use borrow.Author.Needs.{needs}
 use Rattle.run_room.proofs.blocks.copy_headed.Statement.{statement}

@@ -5,7 +5,7 @@ use mathlib.Core.Path.{_≡_, refl}
 use mathlib.Core.Logic.{⊎-elim, inl, inr}
 use lib.ListN.{length}
 use Rattle.buffer.specs.Parts.{part, put}
-use Rattle.lanes.proofs.Copied.{over-none, over-end}
+use Rattle.block_copy.proofs.Copied.{over-none, over-end}
 use Rattle.run_room.proofs.Blockwise.{block-more}
 use borrow.Author.Needs.{needs}
 use Rattle.run_room.proofs.blocks.copy_long.Statement.{statement}

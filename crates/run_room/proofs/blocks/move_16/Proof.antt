@@ -1,6 +1,6 @@
 -- `move_16` meets its contract: the bytes of two words are copied.
 use native.Mathlib.Omega.{arith}
-use Rattle.lanes.proofs.Copied.{words-moved}
+use Rattle.block_copy.proofs.Copied.{words-moved}
 use borrow.Author.Needs.{needs}
 use Rattle.run_room.proofs.blocks.move_16.Statement.{statement}
 use Rattle.run_room.proofs.blocks.move_16.Tie as tie

@@ -7,7 +7,7 @@ use lib.Seq.{take-all}
 use Rattle.buffer.specs.Parts.{part, put}
 use Rattle.buffer.proofs.Parts.{length-part}
 use Rattle.buffer.proofs.Lent.{part-lent}
-use Rattle.lanes.specs.Block.{blocks}
+use Rattle.block_copy.specs.Rounded.{blocks}
 use Rattle.run_room.specs.Layout.{headSize, slotBytes}
 use Rattle.run_room.proofs.Slotwise.{slotted-copied, part-less}
 use borrow.Author.Needs.{needs}

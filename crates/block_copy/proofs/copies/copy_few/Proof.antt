@@ -1,10 +1,10 @@
 -- `copy_few` meets its contract: the first, the middle and the last element are read, and then written.
 use native.Mathlib.Omega.{arith}
 use lib.ListN.{length-set}
-use Rattle.lanes.proofs.Copied.{none-copied, few-copied}
+use Rattle.block_copy.proofs.Copied.{none-copied, few-copied}
 use borrow.Author.Needs.{needs}
-use Rattle.lanes.proofs.copies.copy_few.Statement.{statement}
-use Rattle.lanes.proofs.copies.copy_few.Tie as tie
+use Rattle.block_copy.proofs.copies.copy_few.Statement.{statement}
+use Rattle.block_copy.proofs.copies.copy_few.Tie as tie
 
 returns : tie.Need-returns
 returns c = let a = c .before .args in none-copied (a .dst .now) (a .at) (a .src .now) (omega arith)

@@ -1,9 +1,9 @@
 -- `copy_over` meets its contract: one block, none, or one after the other.
 use native.Mathlib.Omega.{arith}
-use Rattle.lanes.proofs.Copied.{over-none, over-end}
+use Rattle.block_copy.proofs.Copied.{over-none, over-end}
 use borrow.Author.Needs.{needs}
-use Rattle.lanes.proofs.copies.copy_over.Statement.{statement}
-use Rattle.lanes.proofs.copies.copy_over.Tie as tie
+use Rattle.block_copy.proofs.copies.copy_over.Statement.{statement}
+use Rattle.block_copy.proofs.copies.copy_over.Tie as tie
 
 copy-over-long-requires : tie.Need-copy-over-long-requires
 copy-over-long-requires c κs = search needs

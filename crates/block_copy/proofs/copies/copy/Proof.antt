@@ -7,9 +7,9 @@ use lib.ListN.{length, take}
 use borrow.Author.Needs.{needs}
 use Rattle.buffer.specs.Parts.{put}
 use Rattle.buffer.proofs.Parts.{put-none}
-use Rattle.lanes.proofs.Copied.{block-more, block-last}
-use Rattle.lanes.proofs.copies.copy.Statement.{statement}
-use Rattle.lanes.proofs.copies.copy.Tie as tie
+use Rattle.block_copy.proofs.Copied.{block-more, block-last}
+use Rattle.block_copy.proofs.copies.copy.Statement.{statement}
+use Rattle.block_copy.proofs.copies.copy.Tie as tie
 
 abbrev Inv-loop : tie.InvT-loop
 Inv-loop dst₀ at src last k₀ dst k = (k ≤ last + 15) × (dst ≡ put dst₀ at (take k src)) × (length dst ≡ length dst₀)

@@ -5,7 +5,7 @@ ghost use mathlib.Core.Path.{_≡_};
 ghost use Prim.Native.Nat.{_+_, _≤_, _<_};
 ghost use lib.ListN.{length};
 ghost use Rattle.buffer.specs.Parts.{part, put};
-ghost use Rattle.lanes.specs.Block.{blocks};
+ghost use Rattle.block_copy.specs.Rounded.{blocks};
 
 // Copies the 16 bytes of `src` from index `from` on into `dst` from index `to` on. All are read before one is written.
 fn copy_16(dst: &mut [u8], to: usize, src: &[u8], from: usize)

@@ -4,10 +4,10 @@ use native.Mathlib.Omega.{arith}
 use mathlib.Core.Path.{_≡_, refl, _∙_}
 use lib.ListN.{length}
 use Rattle.buffer.specs.Parts.{part, put}
-use Rattle.lanes.proofs.Copied.{over-none, over-more, over-end}
+use Rattle.block_copy.proofs.Copied.{over-none, over-more, over-end}
 use borrow.Author.Needs.{needs}
-use Rattle.lanes.proofs.copies.copy_over_long.Statement.{statement}
-use Rattle.lanes.proofs.copies.copy_over_long.Tie as tie
+use Rattle.block_copy.proofs.copies.copy_over_long.Statement.{statement}
+use Rattle.block_copy.proofs.copies.copy_over_long.Tie as tie
 
 abbrev Inv-loop : tie.InvT-loop
 Inv-loop dst₀ at src from n k₀ dst k = (k % 16 ≡ 0) × (k < n + 16) × (length dst ≡ length dst₀) × (dst ≡ put dst₀ at (part from k src))

@@ -1,10 +1,10 @@
 -- `copy_4` meets its contract: four elements are read, and then written.
 use native.Mathlib.Omega.{arith}
 use lib.ListN.{length-set}
-use Rattle.lanes.proofs.Copied.{elements-copied}
+use Rattle.block_copy.proofs.Copied.{elements-copied}
 use borrow.Author.Needs.{needs}
-use Rattle.lanes.proofs.copies.copy_4.Statement.{statement}
-use Rattle.lanes.proofs.copies.copy_4.Tie as tie
+use Rattle.block_copy.proofs.copies.copy_4.Statement.{statement}
+use Rattle.block_copy.proofs.copies.copy_4.Tie as tie
 
 shared-slice-read-a : tie.Need-shared-slice-read-a
 shared-slice-read-a c = search needs

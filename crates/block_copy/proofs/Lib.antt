@@ -1,0 +1,2 @@
+-- The laws on copies by blocks.
+pub mod Copied

@@ -1,0 +1,2 @@
+-- What the contracts on copies cite.
+pub mod Rounded
