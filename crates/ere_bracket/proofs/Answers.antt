@@ -11,11 +11,11 @@ use Rattle.lists.specs.Parsing.{Parsed, parsed}
 use Rattle.ere_meaning.specs.Tree.{Range, inSome, accepts, only, anyByte}
 use Rattle.ere_grammar.specs.Grammar.{range}
 use Rattle.ere_grammar.specs.Read.{begins, tail, Items, bracketOf, readBracket}
-use Rattle.ere_bracket.specs.Words.{inClass, noByte, everyByte, withByte, withSpans, otherBytes}
+use Rattle.ere_byte_set.specs.Words.{inClass, noByte, everyByte, withByte, withSpans, otherBytes}
 use Rattle.ere_bracket.specs.Items.{itemsOf, worded, leadsTo, Ended}
 use Rattle.ere_bracket.specs.Answer.{BracketReads}
 use Rattle.ere_bracket.specs.declared.brackets.Step.{Step}
-use Rattle.ere_bracket.proofs.Laws.{bytes-one, four-none, four-spans, in-ranges, in-other, class-bit}
+use Rattle.ere_byte_set.proofs.Laws.{bytes-one, four-none, four-spans, in-ranges, in-other, class-bit}
 use Rattle.ere_bracket.proofs.Steps.{tail-drop}
 
 -- ---- a byte, and any byte

@@ -13,10 +13,10 @@ use Rattle.buffer.proofs.Parts.{drop-next}
 use Rattle.ere_meaning.specs.Tree.{Range}
 use Rattle.ere_grammar.specs.Grammar.{range}
 use Rattle.ere_grammar.specs.Read.{begins, tail, readMember, joins, Items, withRange, lastHyphen, rangeTo, afterByte}
-use Rattle.ere_bracket.specs.Words.{withByte, withBytes, withSpan, withSpans}
+use Rattle.ere_byte_set.specs.Words.{withByte, withBytes, withSpan, withSpans}
 use Rattle.ere_bracket.specs.Items.{itemsOf, worded, goesOn, closedAt, refusedAt, leadsTo, Leads}
 use Rattle.ere_bracket.specs.declared.brackets.Step.{Step}
-use Rattle.ere_bracket.proofs.Laws.{bytes-one}
+use Rattle.ere_byte_set.proofs.Laws.{bytes-one}
 use Rattle.ere_bracket.proofs.Turns.{items-end, items-first, items-later}
 
 -- ---- steps

@@ -8,7 +8,7 @@ use lib.ListN.{length, drop}
 use Rattle.lists.specs.Parsing.{parsed}
 use Rattle.ere_meaning.specs.Tree.{Class, accepts}
 use Rattle.ere_grammar.specs.Read.{readBracket}
-use Rattle.ere_bracket.specs.Words.{inClass}
+use Rattle.ere_byte_set.specs.Words.{inClass}
 use Rattle.ere_bracket.specs.declared.brackets.Bracket.{Bracket}
 
 -- A class is read from index `at` of l on, the index after it lies further on, in the list or at its end, and the words

@@ -7,7 +7,7 @@ use Prim.Native.Nat.{ℕ, suc, _≤_, _<_}
 use lib.ListN.{length, drop}
 use Rattle.lists.specs.Parsing.{Parsed, parsed}
 use Rattle.ere_grammar.specs.Read.{Items, readItems}
-use Rattle.ere_bracket.specs.Words.{withSpans}
+use Rattle.ere_byte_set.specs.Words.{withSpans}
 use Rattle.ere_bracket.specs.declared.brackets.Step.{Step}
 
 -- the items that are read from t, with turns enough for any

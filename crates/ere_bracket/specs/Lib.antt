@@ -1,5 +1,4 @@
 -- Brackets of EREs: classes as words, and what the reading functions answer.
-pub mod Words
 pub mod Members
 pub mod Items
 pub mod Answer

@@ -8,12 +8,12 @@ ghost use mathlib.Core.Bool.{true, false};
 ghost use Prim.Native.Nat.{_<_};
 ghost use lib.ListN.{length, drop};
 ghost use Rattle.ere_grammar.specs.Read.{readMember, rangeTo, afterByte, lastHyphen};
-ghost use Rattle.ere_bracket.specs.Words.{noByte};
+ghost use Rattle.ere_byte_set.specs.Words.{noByte};
 ghost use Rattle.ere_bracket.specs.Items.{itemsOf, worded, goesOn, closedAt, refusedAt, Leads, Ended};
 ghost use Rattle.ere_bracket.specs.Answer.{BracketReads};
-use crate::classes;
 use crate::members;
 use crate::members::Member;
+use ere_byte_set::classes;
 
 // How far the items are read: whether more follow; if none do, whether the bracket ended well; the index after what was
 // read; and the bytes of the items so far.

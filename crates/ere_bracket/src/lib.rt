@@ -1,4 +1,3 @@
 // Brackets of EREs: read from bytes, as four words of bits.
 pub mod brackets;
-pub mod classes;
 pub mod members;

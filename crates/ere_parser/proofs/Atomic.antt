@@ -11,7 +11,7 @@ use Rattle.lists.specs.Parsing.{Parsed, parsed}
 use Rattle.ere_meaning.specs.Tree.{Class, accepts, only, anyByte}
 use Rattle.ere_grammar.specs.Bytes.{isPlain}
 use Rattle.ere_grammar.specs.Read.{readEscape, onlyByte, readBracket, readAtom}
-use Rattle.ere_bracket.specs.Words.{inClass}
+use Rattle.ere_byte_set.specs.Words.{inClass}
 use Rattle.ere_bracket.specs.declared.brackets.Bracket.{Bracket}
 use Rattle.ere_parser.specs.Atom.{AtomReads}
 

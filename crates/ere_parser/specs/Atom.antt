@@ -7,7 +7,7 @@ use Prim.Native.Nat.{ℕ, _≤_, _<_}
 use lib.ListN.{length, drop}
 use Rattle.lists.specs.Parsing.{Parsed, parsed}
 use Rattle.ere_meaning.specs.Tree.{Class, accepts}
-use Rattle.ere_bracket.specs.Words.{inClass}
+use Rattle.ere_byte_set.specs.Words.{inClass}
 use Rattle.ere_bracket.specs.declared.brackets.Bracket.{Bracket}
 
 -- a class is read, the index after it lies further on, and the words have its bytes

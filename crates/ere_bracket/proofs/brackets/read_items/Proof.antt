@@ -6,7 +6,7 @@ use Prim.Native.Nat.{ℕ, _-_, _≤_}
 use native.Mathlib.Omega.{arith}
 use lib.ListN.{length, drop}
 use borrow.Author.Tests.{not-true, not-false}
-use Rattle.ere_bracket.specs.Words.{noByte}
+use Rattle.ere_byte_set.specs.Words.{noByte}
 use Rattle.ere_bracket.specs.Items.{itemsOf, worded}
 use Rattle.ere_bracket.specs.declared.brackets.Step.{Step}
 use Rattle.ere_bracket.proofs.Steps.{refuses, leads-from, turn-none, more-read, more-further}

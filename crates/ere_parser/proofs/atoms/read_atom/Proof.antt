@@ -5,7 +5,7 @@ use Prim.Native.Nat.{ℕ}
 use native.Mathlib.Omega.{arith}
 use lib.ListN.{getD}
 use Rattle.ere_meaning.specs.Tree.{only, anyByte}
-use Rattle.ere_bracket.specs.Words.{inClass}
+use Rattle.ere_byte_set.specs.Words.{inClass}
 use Rattle.ere_bracket.proofs.Answers.{in-only, in-any}
 use Rattle.ere_parser.proofs.Atomic.{reads-none, reads-got, reads-from, atom-escape, atom-dot, atom-bracket, atom-plain, atom-none}
 use borrow.Author.Needs.{needs}

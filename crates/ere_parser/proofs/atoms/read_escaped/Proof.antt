@@ -4,7 +4,7 @@ use mathlib.Core.List.{List}
 use Prim.Native.Nat.{ℕ}
 use Rattle.ere_meaning.specs.Tree.{only}
 use Rattle.ere_grammar.specs.Read.{onlyByte}
-use Rattle.ere_bracket.specs.Words.{inClass}
+use Rattle.ere_byte_set.specs.Words.{inClass}
 use Rattle.ere_bracket.proofs.Answers.{in-only}
 use Rattle.ere_bracket.proofs.Reading.{bad-read, byte-read, byte-further}
 use Rattle.ere_parser.proofs.Atomic.{reads-none, reads-got}

@@ -2,10 +2,10 @@
 use mathlib.Core.Path.{_≡_}
 use Prim.Native.Nat.{_-_, _≤_}
 use native.Mathlib.Omega.{arith}
-use Rattle.ere_bracket.specs.Words.{withBytes}
-use Rattle.ere_bracket.proofs.Laws.{bytes-none, bytes-more, bytes-last}
-use Rattle.ere_bracket.proofs.classes.with_range.Statement.{statement}
-use Rattle.ere_bracket.proofs.classes.with_range.Tie as tie
+use Rattle.ere_byte_set.specs.Words.{withBytes}
+use Rattle.ere_byte_set.proofs.Laws.{bytes-none, bytes-more, bytes-last}
+use Rattle.ere_byte_set.proofs.classes.with_range.Statement.{statement}
+use Rattle.ere_byte_set.proofs.classes.with_range.Tie as tie
 
 abbrev Inv-loop : tie.InvT-loop
 Inv-loop lo hi d₀ n₀ d n = (n ≤ hi - lo) × (d ≡ withBytes d₀ lo n)

@@ -1,7 +1,7 @@
 // Classes of bytes as four words of 64 bits: the byte b is bit b % 64 of word b / 64.
 ghost use mathlib.Core.Path.{_≡_};
 ghost use Prim.Native.Nat.{_+_, _-_, _≤_};
-ghost use Rattle.ere_bracket.specs.Words.{inClass, noByte, everyByte, withByte, withBytes, otherWord, otherBytes};
+ghost use Rattle.ere_byte_set.specs.Words.{inClass, noByte, everyByte, withByte, withBytes, otherWord, otherBytes};
 
 // Returns the class of no byte.
 pub fn empty() -> [u64; 4]

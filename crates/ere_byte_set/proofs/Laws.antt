@@ -16,7 +16,7 @@ use borrow.Author.Tests.{eq-eqb, ne-eqb, eqb-true, le-leb, leb-true, lt-ltb, ltb
 use Rattle.lists.proofs.Tests.{same-test, or-none, or-swap, or-group, or-turned, or-cases, or-left, or-right, and-true, and-of}
 use Rattle.ere_meaning.specs.Tree.{Range, inRange, inSome}
 use Rattle.lists.specs.Digit.{bit}
-use Rattle.ere_bracket.specs.Words.{inClass, noByte, everyByte, withByte, withBytes, withSpan, withSpans, otherWord, otherBytes, FourWords, ClassBit}
+use Rattle.ere_byte_set.specs.Words.{inClass, noByte, everyByte, withByte, withBytes, withSpan, withSpans, otherWord, otherBytes, FourWords, ClassBit}
 use Rattle.lists.proofs.Digits.{bit-or, bit-zero, bit-shifted, word-pow, bit-turned}
 
 bit-other : (w k : ℕ) → w < 2 ^ 64 → k < 64 → bit (otherWord w) k ≡ not (bit w k)

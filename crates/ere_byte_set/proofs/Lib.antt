@@ -1,0 +1,2 @@
+-- The laws on sets of bytes.
+pub mod Laws

@@ -1,0 +1,2 @@
+-- What the contracts on sets of bytes cite.
+pub mod Words
