@@ -1,4 +1,3 @@
 -- Brackets of EREs: classes as words, and what the reading functions answer.
-pub mod Members
 pub mod Items
 pub mod Answer

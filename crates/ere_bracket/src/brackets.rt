@@ -11,9 +11,9 @@ ghost use Rattle.ere_grammar.specs.Read.{readMember, rangeTo, afterByte, lastHy
 ghost use Rattle.ere_byte_set.specs.Words.{noByte};
 ghost use Rattle.ere_bracket.specs.Items.{itemsOf, worded, goesOn, closedAt, refusedAt, Leads, Ended};
 ghost use Rattle.ere_bracket.specs.Answer.{BracketReads};
-use crate::members;
-use crate::members::Member;
 use ere_byte_set::classes;
+use ere_member::members;
+use ere_member::members::Member;
 
 // How far the items are read: whether more follow; if none do, whether the bracket ended well; the index after what was
 // read; and the bytes of the items so far.

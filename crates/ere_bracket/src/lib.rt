@@ -1,3 +1,2 @@
 // Brackets of EREs: read from bytes, as four words of bits.
 pub mod brackets;
-pub mod members;

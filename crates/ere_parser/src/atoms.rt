@@ -5,9 +5,9 @@ ghost use Rattle.ere_grammar.specs.Read.{readAtom, readEscape, onlyByte};
 ghost use Rattle.ere_parser.specs.Atom.{AtomReads};
 use ere_bracket::brackets;
 use ere_bracket::brackets::Bracket;
-use ere_bracket::members;
-use ere_bracket::members::Member;
 use ere_byte_set::classes;
+use ere_member::members;
+use ere_member::members::Member;
 
 // Reads the byte that is escaped by a backslash before an index.
 fn read_escaped(ere: &[u8], at: usize) -> Bracket

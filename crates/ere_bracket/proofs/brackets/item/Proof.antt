@@ -2,7 +2,7 @@
 use borrow.Author.Needs.{needs}
 use mathlib.Core.Path.{sym, _∙_}
 use native.Mathlib.Omega.{arith}
-use Rattle.ere_bracket.proofs.Reading.{bad-read, byte-read, byte-further, joins-inside}
+use Rattle.ere_member.proofs.Reading.{bad-read, byte-read, byte-further, joins-inside}
 use Rattle.ere_bracket.proofs.Steps.{refuses, goes-on, leads-from, after-bad, after-joins, after-byte}
 use Rattle.ere_bracket.proofs.brackets.item.Statement.{statement}
 use Rattle.ere_bracket.proofs.brackets.item.Tie as tie

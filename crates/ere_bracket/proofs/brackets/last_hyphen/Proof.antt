@@ -2,7 +2,7 @@
 use borrow.Author.Needs.{needs}
 use mathlib.Core.Path.{sym, _∙_}
 use native.Mathlib.Omega.{arith}
-use Rattle.ere_bracket.proofs.Reading.{begins-inside}
+use Rattle.ere_member.proofs.Reading.{begins-inside}
 use Rattle.ere_bracket.proofs.Steps.{refuses, closes, hyphen-last, hyphen-bad}
 use Rattle.ere_bracket.proofs.brackets.last_hyphen.Statement.{statement}
 use Rattle.ere_bracket.proofs.brackets.last_hyphen.Tie as tie

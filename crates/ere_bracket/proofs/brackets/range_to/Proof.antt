@@ -1,6 +1,6 @@
 -- `up_to` meets its contract.
 use borrow.Author.Needs.{needs}
-use Rattle.ere_bracket.proofs.Reading.{bad-read, byte-read, byte-further}
+use Rattle.ere_member.proofs.Reading.{bad-read, byte-read, byte-further}
 use Rattle.ere_bracket.proofs.Steps.{refuses, goes-on, up-to-bad, up-to-back, up-to-span}
 use Rattle.ere_bracket.proofs.brackets.range_to.Statement.{statement}
 use Rattle.ere_bracket.proofs.brackets.range_to.Tie as tie

@@ -2,7 +2,7 @@
 use borrow.Author.Needs.{needs}
 use mathlib.Core.Path.{sym, _∙_}
 use native.Mathlib.Omega.{arith}
-use Rattle.ere_bracket.proofs.Reading.{begins-inside}
+use Rattle.ere_member.proofs.Reading.{begins-inside}
 use Rattle.ere_bracket.proofs.Answers.{answer-plain, answer-other}
 use Rattle.ere_bracket.proofs.brackets.read_bracket.Statement.{statement}
 use Rattle.ere_bracket.proofs.brackets.read_bracket.Tie as tie

@@ -6,7 +6,7 @@ use Rattle.ere_meaning.specs.Tree.{only}
 use Rattle.ere_grammar.specs.Read.{onlyByte}
 use Rattle.ere_byte_set.specs.Words.{inClass}
 use Rattle.ere_bracket.proofs.Answers.{in-only}
-use Rattle.ere_bracket.proofs.Reading.{bad-read, byte-read, byte-further}
+use Rattle.ere_member.proofs.Reading.{bad-read, byte-read, byte-further}
 use Rattle.ere_parser.proofs.Atomic.{reads-none, reads-got}
 use borrow.Author.Needs.{needs}
 use Rattle.ere_parser.proofs.atoms.read_escaped.Statement.{statement}

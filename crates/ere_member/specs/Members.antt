@@ -4,8 +4,8 @@ use mathlib.Core.List.{List, [], _∷_}
 use mathlib.Core.Option.{Option, none}
 use Prim.Native.Nat.{ℕ, _≤_, _<_}
 use lib.ListN.{length, drop}
-use Rattle.ere_bracket.specs.declared.members.Member.{Member}
-use Rattle.ere_bracket.specs.declared.members.Member.the-variants as members
+use Rattle.ere_member.specs.declared.members.Member.{Member}
+use Rattle.ere_member.specs.declared.members.Member.the-variants as members
 use Rattle.lists.specs.Parsing.{Parsed, parsed}
 
 -- `:`, `=` and `.`

@@ -1,8 +1,8 @@
 -- `names_class` meets its contract.
 use borrow.Author.Needs.{needs}
-use Rattle.ere_bracket.proofs.Reading.{begins-past, begins-class}
-use Rattle.ere_bracket.proofs.members.names_class.Statement.{statement}
-use Rattle.ere_bracket.proofs.members.names_class.Tie as tie
+use Rattle.ere_member.proofs.Reading.{begins-past, begins-class}
+use Rattle.ere_member.proofs.members.names_class.Statement.{statement}
+use Rattle.ere_member.proofs.members.names_class.Tie as tie
 
 returns : tie.Need-returns
 returns c = begins-past _ _ _ (c .if1 .taken)

@@ -3,7 +3,7 @@ ghost use mathlib.Core.Path.{_≡_};
 ghost use mathlib.Core.List.{[], _∷_};
 ghost use lib.ListN.{drop};
 ghost use Rattle.ere_grammar.specs.Read.{begins, readEscape, readMember, joins as joinsOf};
-ghost use Rattle.ere_bracket.specs.Members.{Reads, classMarks};
+ghost use Rattle.ere_member.specs.Members.{Reads, classMarks};
 use ere_grammar::Escaped;
 
 // A byte that was read, and the index after it.

@@ -2,9 +2,9 @@
 use borrow.Author.Needs.{needs}
 use mathlib.Core.Path.{sym, ap, _∙_}
 use Rattle.ere_grammar.specs.Escapes.{escapedOf}
-use Rattle.ere_bracket.proofs.Reading.{escape-past, escape-byte, escape-bad}
-use Rattle.ere_bracket.proofs.members.read_escape.Statement.{statement}
-use Rattle.ere_bracket.proofs.members.read_escape.Tie as tie
+use Rattle.ere_member.proofs.Reading.{escape-past, escape-byte, escape-bad}
+use Rattle.ere_member.proofs.members.read_escape.Statement.{statement}
+use Rattle.ere_member.proofs.members.read_escape.Tie as tie
 
 returns : tie.Need-returns
 returns c = escape-past _ _ (c .if1 .taken)

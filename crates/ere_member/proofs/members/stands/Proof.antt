@@ -1,8 +1,8 @@
 -- `stands` meets its contract.
 use borrow.Author.Needs.{needs}
-use Rattle.ere_bracket.proofs.Reading.{begins-past, begins-here}
-use Rattle.ere_bracket.proofs.members.stands.Statement.{statement}
-use Rattle.ere_bracket.proofs.members.stands.Tie as tie
+use Rattle.ere_member.proofs.Reading.{begins-past, begins-here}
+use Rattle.ere_member.proofs.members.stands.Statement.{statement}
+use Rattle.ere_member.proofs.members.stands.Tie as tie
 
 returns : tie.Need-returns
 returns c = begins-past _ _ _ (c .if1 .taken)

@@ -15,9 +15,9 @@ use Rattle.lists.specs.Parsing.{Parsed, parsed}
 use Rattle.buffer.proofs.Parts.{drop-next}
 use Rattle.ere_grammar.specs.Bytes.{escapeOf}
 use Rattle.ere_grammar.specs.Read.{begins, readEscape, escapedByte, readMember, joins}
-use Rattle.ere_bracket.specs.Members.{classMarks, memberOf, Further, Reads}
-use Rattle.ere_bracket.specs.declared.members.Member.{Member}
-use Rattle.ere_bracket.specs.declared.members.Member.the-variants.{Byte, Bad}
+use Rattle.ere_member.specs.Members.{classMarks, memberOf, Further, Reads}
+use Rattle.ere_member.specs.declared.members.Member.{Member}
+use Rattle.ere_member.specs.declared.members.Member.the-variants.{Byte, Bad}
 
 further-on : (r : Member) (l : List ℕ) (at : ℕ) → Further r l (at + 1) → Further r l at
 further-on (Byte b next) l at h = (omega arith, omega arith)

@@ -1,9 +1,9 @@
 -- `read_member` meets its contract.
 use borrow.Author.Needs.{needs}
 use mathlib.Core.Path.{sym, _∙_}
-use Rattle.ere_bracket.proofs.Reading.{member-past, member-escape, member-plain, member-class, member-open}
-use Rattle.ere_bracket.proofs.members.read_member.Statement.{statement}
-use Rattle.ere_bracket.proofs.members.read_member.Tie as tie
+use Rattle.ere_member.proofs.Reading.{member-past, member-escape, member-plain, member-class, member-open}
+use Rattle.ere_member.proofs.members.read_member.Statement.{statement}
+use Rattle.ere_member.proofs.members.read_member.Tie as tie
 
 returns : tie.Need-returns
 returns c = member-past _ _ (c .if1 .taken)

@@ -1,8 +1,8 @@
 -- `joins` meets its contract.
 use borrow.Author.Needs.{needs}
-use Rattle.ere_bracket.proofs.Reading.{joins-past, joins-other, joins-last, joins-on}
-use Rattle.ere_bracket.proofs.members.joins.Statement.{statement}
-use Rattle.ere_bracket.proofs.members.joins.Tie as tie
+use Rattle.ere_member.proofs.Reading.{joins-past, joins-other, joins-last, joins-on}
+use Rattle.ere_member.proofs.members.joins.Statement.{statement}
+use Rattle.ere_member.proofs.members.joins.Tie as tie
 
 returns : tie.Need-returns
 returns c = joins-past _ _ (c .if1 .taken)

@@ -1,0 +1,2 @@
+-- The laws on members of brackets.
+pub mod Reading

@@ -1,0 +1,2 @@
+-- What the contracts on members of brackets cite.
+pub mod Members
