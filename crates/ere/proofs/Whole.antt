@@ -16,7 +16,7 @@ use Rattle.ere_table.proofs.Tables.{finished, finished-class, tabled}
 use Rattle.ere_parser.specs.Reading.{restFrom}
 use Rattle.ere_parser.specs.Standing.{Refuses, unread, many, baseOf, GroupReads}
 use Rattle.ere.specs.Answer.{Serves, Compiles}
-use Rattle.ere_parser.specs.declared.rows.Piece.{Piece}
+use Rattle.ere_pieces.specs.declared.rows.Piece.{Piece}
 use Rattle.ere_parser.proofs.Built.{agrees-move}
 use Rattle.ere_parser.proofs.Moving.{opened}
 use Rattle.ere_parser.proofs.Items.{drop-all}

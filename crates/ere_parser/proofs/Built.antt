@@ -12,8 +12,8 @@ use Rattle.ere_table.specs.Wiring.{afterPlace}
 use Rattle.ere_table.specs.Build.{linkRows, withClass, accept, orStop}
 use Rattle.ere_table.proofs.Writes.{class-bit, length-class, row-class, linked-class}
 use Rattle.ere_table.proofs.Parts.{Kept, part-kept}
-use Rattle.ere_parser.specs.State.{joinEntry, linkEntry, stopEntry, noAlts, noSeq, placeEntry, bolEntry, eolEntry, leafTable}
-use Rattle.ere_parser.specs.declared.rows.Entry.{Entry}
+use Rattle.ere_pieces.specs.State.{joinEntry, linkEntry, stopEntry, noAlts, noSeq, placeEntry, bolEntry, eolEntry, leafTable}
+use Rattle.ere_pieces.specs.declared.rows.Entry.{Entry}
 use Rattle.ere_parser.specs.Built.{Agrees, at-place, at-bol, at-eol, in-cat, in-alt, in-star, in-plus, in-opt, SameClasses, Built}
 use Rattle.ere_byte_set.specs.Words.{inClass}
 use Rattle.ere_table.proofs.RowParts.{rows-cat, rows-star, rows-alt, rows-place, rows-alone, rows-seq, rows-bol, rows-eol, rows-plus, rows-opt}

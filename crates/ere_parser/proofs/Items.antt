@@ -10,9 +10,9 @@ use lib.ListN.{length, getD, drop}
 use Rattle.edition.specs.Limits.{erePlaces}
 use Rattle.ere_grammar.specs.Read.{readGroup, afterGroup}
 use Rattle.ere_parser.specs.Reading.{restFrom}
-use Rattle.ere_parser.specs.State.{barOf, refusedOf, choiceOf, startOf}
+use Rattle.ere_pieces.specs.State.{barOf, refusedOf, choiceOf, startOf}
 use Rattle.ere_parser.specs.Standing.{unread, Closed, at-end, at-paren, Safe, Moves, baseOf, Under}
-use Rattle.ere_parser.specs.declared.rows.State.{State}
+use Rattle.ere_pieces.specs.declared.rows.State.{State}
 use Rattle.ere_parser.proofs.Steps.{rest-group}
 use Rattle.ere_parser.proofs.Turning.{below-refl, below-trans, below-less}
 use Rattle.ere_parser.proofs.Moving.{opened, moves-refused, moves-bar, moves-no-bar, started}

@@ -1,6 +1,5 @@
 -- Laws on atoms, and on a group's end.
 pub mod Atomic
-pub mod Grouping
 pub mod Leaving
 pub mod Steps
 pub mod Grows

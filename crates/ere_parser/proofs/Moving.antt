@@ -21,18 +21,18 @@ use Rattle.ere_bracket.specs.declared.brackets.Bracket.{Bracket}
 use Rattle.ere_table.proofs.Rows.{length-row}
 use Rattle.ere_table.proofs.Writes.{length-class}
 use Rattle.ere_parser.specs.Reading.{restFrom}
-use Rattle.ere_parser.specs.State.{refusedOf, endedOf, barOf, pushedOf, pushedTable, pieceOf, repeatedOf, repeatedTable, bolEntry, eolEntry, anchorPiece, anchorOf, anchorTable, closedPiece, groupedOf, groupedTable, leafTable, leafPiece, atomTable, joinEntry, startOf, finishOf, refusedPiece}
+use Rattle.ere_pieces.specs.State.{refusedOf, endedOf, barOf, pushedOf, pushedTable, pieceOf, repeatedOf, repeatedTable, bolEntry, eolEntry, anchorPiece, anchorOf, anchorTable, closedPiece, groupedOf, groupedTable, leafTable, leafPiece, atomTable, joinEntry, startOf, finishOf, refusedPiece}
 use Rattle.ere_parser.specs.Built.{Built}
 use Rattle.ere_parser.specs.Standing.{sizeOf, AltsOk, SeqOk, Base, Refuses, unread, many, Standing, Closed, at-end, at-paren, Outcome, Safe, SameBelow, Moves, baseOf, Under, GroupReads, Begins}
 use Rattle.ere_parser.specs.Atom.{AtomRead}
-use Rattle.ere_parser.specs.declared.rows.Entry.{Entry}
-use Rattle.ere_parser.specs.declared.rows.Piece.{Piece}
-use Rattle.ere_parser.specs.declared.rows.State.{State}
+use Rattle.ere_pieces.specs.declared.rows.Entry.{Entry}
+use Rattle.ere_pieces.specs.declared.rows.Piece.{Piece}
+use Rattle.ere_pieces.specs.declared.rows.State.{State}
 use Rattle.ere_parser.proofs.Steps.{rest-bol, rest-eol, rest-group, rest-atom, rest-end, rest-close}
 use Rattle.ere_parser.proofs.Grows.{size-or, Grows, from-grows, more-grows, repeated-grows, atom-grows}
 use Rattle.ere_parser.proofs.Built.{built-bol, built-eol, built-leaf}
 use Rattle.ere_parser.proofs.Turning.{alts-more, below-leaf, below-refl, below-trans, below-less, below-linked, standing-below, outcome-ended, outcome-refused, outcome-going, bar-refused, bar-standing, push-standing, begins-at, tail-at, repeatTree, repeat-rest, repeat-places, repeat-built, repeat-hi, repeat-count, repeat-ends, below-repeated, length-repeated}
-use Rattle.ere_parser.proofs.Grouping.{inside}
+use Rattle.ere_pieces.proofs.Grouping.{inside}
 
 -- a goal that reads nothing, or more places than there may be
 pub refused-by : {b : Base} (x : Tree) (N : ℕ) → b .goal ≡ x → Grows N x → erePlaces < b .count + N → Refuses b

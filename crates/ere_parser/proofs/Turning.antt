@@ -22,13 +22,13 @@ use Rattle.ere_table.specs.Build.{linkRows, withClass, accept, orStop}
 use Rattle.ere_table.proofs.Rows.{linked-out, row-other, length-linked}
 use Rattle.ere_table.proofs.Parts.{Kept}
 use Rattle.ere_parser.specs.Reading.{restFrom}
-use Rattle.ere_parser.proofs.Grouping.{inside}
-use Rattle.ere_parser.specs.State.{entry, joinEntry, linkEntry, stopEntry, noAlts, noSeq, refusedOf, endedOf, barOf, pushedOf, pushedTable, pieceOf, repeatedOf, loopTable, repeatedTable, leafTable}
+use Rattle.ere_pieces.proofs.Grouping.{inside}
+use Rattle.ere_pieces.specs.State.{entry, joinEntry, linkEntry, stopEntry, noAlts, noSeq, refusedOf, endedOf, barOf, pushedOf, pushedTable, pieceOf, repeatedOf, loopTable, repeatedTable, leafTable}
 use Rattle.ere_parser.specs.Built.{Built}
 use Rattle.ere_parser.specs.Standing.{sizeOf, Base, Refuses, unread, AltsOk, SeqOk, Standing, Closed, Outcome, SameBelow}
-use Rattle.ere_parser.specs.declared.rows.Entry.{Entry}
-use Rattle.ere_parser.specs.declared.rows.Piece.{Piece}
-use Rattle.ere_parser.specs.declared.rows.State.{State}
+use Rattle.ere_pieces.specs.declared.rows.Entry.{Entry}
+use Rattle.ere_pieces.specs.declared.rows.Piece.{Piece}
+use Rattle.ere_pieces.specs.declared.rows.State.{State}
 use Rattle.ere_table.proofs.Writes.{class-other, class-row, row-class, linked-class}
 use Rattle.ere_parser.proofs.Steps.{rest-bar}
 use Rattle.ere_parser.proofs.Grows.{size-then, size-or}

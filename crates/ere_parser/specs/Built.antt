@@ -6,7 +6,7 @@ use Prim.Native.Nat.{ℕ, _≤_, _<_}
 use Rattle.ere_meaning.specs.Tree.{Class, accepts, Ere, place, bol, eol, cat, alt, star, plus, opt}
 use Rattle.ere_table.specs.Table.{acceptsAt}
 use Rattle.ere_table.proofs.RowParts.{RowPart}
-use Rattle.ere_parser.specs.declared.rows.Entry.{Entry}
+use Rattle.ere_pieces.specs.declared.rows.Entry.{Entry}
 
 -- the numbered tree is the tree of classes: at each place, whose number is from lo up to hi, the table has the class
 pub data Agrees (t : List ℕ) (lo hi : ℕ) : Ere ℕ → Ere Class → Type 0 where

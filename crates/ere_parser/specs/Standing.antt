@@ -13,11 +13,11 @@ use Rattle.ere_meaning.specs.Tree.{Class, Ere, places}
 use Rattle.ere_grammar.specs.Read.{Tree}
 use Rattle.ere_table.specs.Table.{row, acceptsAt}
 use Rattle.ere_parser.specs.Reading.{restFrom}
-use Rattle.ere_parser.specs.State.{noAlts, noSeq}
+use Rattle.ere_pieces.specs.State.{noAlts, noSeq}
 use Rattle.ere_parser.specs.Built.{Built}
-use Rattle.ere_parser.specs.declared.rows.Entry.{Entry}
-use Rattle.ere_parser.specs.declared.rows.Piece.{Piece}
-use Rattle.ere_parser.specs.declared.rows.State.{State}
+use Rattle.ere_pieces.specs.declared.rows.Entry.{Entry}
+use Rattle.ere_pieces.specs.declared.rows.Piece.{Piece}
+use Rattle.ere_pieces.specs.declared.rows.State.{State}
 
 -- the places of what may be there
 unfoldable pub sizeOf : Option (Ere Class) → ℕ

@@ -4,9 +4,5 @@
 // where the first may end, which their accept bits mark.
 mod atoms;
 mod reader;
-mod rows;
-mod turns;
 
 pub use reader::read_group;
-pub use rows::Entry;
-pub use rows::Piece;

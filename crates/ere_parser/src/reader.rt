@@ -13,11 +13,10 @@ ghost use Rattle.edition.specs.Limits.{erePlaces, ereBytes};
 ghost use Rattle.ere_table.specs.Table.{tableWords};
 ghost use Rattle.ere_parser.specs.Standing.{Safe, Begins, Moves, GroupReads};
 use crate::atoms;
-use crate::rows::Entry;
-use crate::rows::Piece;
-use crate::rows::State;
-use crate::turns;
 use edition::Edition;
+use ere_pieces::Entry;
+use ere_pieces::Piece;
+use ere_pieces::State;
 use ere_table::ACCEPT;
 use ere_table::ACCEPT_AT_END;
 use ere_table::NOTHING;
@@ -32,18 +31,18 @@ fn atom(ere: &[u8], s: State, t: &mut [u64]) -> State
     let p = s.hi;
     let count = s.count;
     if count >= Edition::ERE_PLACES {
-        return turns::refused(s);
+        return ere_pieces::refused(s);
     }
     let a = atoms::read_atom(ere, at);
     if !a.ok {
-        return turns::refused(s);
+        return ere_pieces::refused(s);
     }
     let words = a.words;
     let next = a.next;
-    let g = turns::leaf(words, next, p, count, t);
-    let b = turns::byte_at(ere, next);
-    let r = turns::repeated(b, g, p, t);
-    turns::pushed(s, r, t)
+    let g = ere_pieces::leaf(words, next, p, count, t);
+    let b = ere_pieces::byte_at(ere, next);
+    let r = ere_pieces::repeated(b, g, p, t);
+    ere_pieces::pushed(s, r, t)
 }
 
 // Takes one turn: the end of the group, a `|`, an anchor, a group inside, or another atom.
@@ -53,37 +52,37 @@ fn item(ere: &[u8], levels: usize, s: State, t: &mut [u64]) -> State
 {
     let at = s.at;
     if at >= ere.len() {
-        return turns::ended(s);
+        return ere_pieces::ended(s);
     }
     let b = ere[at];
     if b == b')' {
-        return turns::ended(s);
+        return ere_pieces::ended(s);
     }
     if b == b'|' {
-        return turns::choice(s);
+        return ere_pieces::choice(s);
     }
     if b == b'^' {
         let bol = Entry {
             first: ACCEPT,
             later: NOTHING,
         };
-        return turns::anchor(s, bol, t);
+        return ere_pieces::anchor(s, bol, t);
     }
     if b == b'$' {
         let eol = Entry {
             first: ACCEPT_AT_END,
             later: ACCEPT_AT_END,
         };
-        return turns::anchor(s, eol, t);
+        return ere_pieces::anchor(s, eol, t);
     }
     if b != b'(' {
         return atom(ere, s, t);
     }
     if levels == 0 {
-        return turns::refused(s);
+        return ere_pieces::refused(s);
     }
     let g = read_group(ere, levels - 1, at + 1, s.hi, s.count, t);
-    turns::grouped(ere, s, g, t)
+    ere_pieces::grouped(ere, s, g, t)
 }
 
 // Reads a group, from an index up to its `)` or the end; its first place is lo.
@@ -99,9 +98,9 @@ pub fn read_group(
         × (count ≤ erePlaces) ⌝ }
     ensures { λ r. ⌜ GroupReads (now (ere .entry)) levels at lo count (now (t .entry)) (now (t .exit)) r ⌝ }
 {
-    let mut s = turns::start(at, lo, count);
+    let mut s = ere_pieces::start(at, lo, count);
     while !s.over {
         s = item(ere, levels, s, t);
     }
-    turns::finish(s)
+    ere_pieces::finish(s)
 }

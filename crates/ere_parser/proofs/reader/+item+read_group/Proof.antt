@@ -18,14 +18,14 @@ use Rattle.ere_parser.proofs.reader.+item+read_group.Lts-item as item-l
 use Rattle.ere_parser.proofs.reader.read_group.Reads as read-group
 use Rattle.ere_parser.proofs.reader.read_group.Kinds as read-group-kinds
 use Rattle.ere_parser.proofs.reader.+item+read_group.Lts-read_group as read-group-lts
-use Rattle.ere_parser.proofs.turns.anchor.Reads as anchor-reads
+use Rattle.ere_pieces.proofs.anchor.Reads as anchor-reads
 use Rattle.ere_parser.proofs.reader.atom.Reads as atom-reads
-use Rattle.ere_parser.proofs.turns.choice.Reads as choice-reads
-use Rattle.ere_parser.proofs.turns.ended.Reads as ended-reads
-use Rattle.ere_parser.proofs.turns.finish.Reads as finish-reads
-use Rattle.ere_parser.proofs.turns.grouped.Reads as grouped-reads
-use Rattle.ere_parser.proofs.turns.refused.Reads as refused-reads
-use Rattle.ere_parser.proofs.turns.start.Reads as start-reads
+use Rattle.ere_pieces.proofs.choice.Reads as choice-reads
+use Rattle.ere_pieces.proofs.ended.Reads as ended-reads
+use Rattle.ere_pieces.proofs.finish.Reads as finish-reads
+use Rattle.ere_pieces.proofs.grouped.Reads as grouped-reads
+use Rattle.ere_pieces.proofs.refused.Reads as refused-reads
+use Rattle.ere_pieces.proofs.start.Reads as start-reads
 use Rattle.ere_parser.proofs.reader.+item+read_group.{statement}
 use Rattle.ere_parser.proofs.reader.+item+read_group.Tie.{close}
 

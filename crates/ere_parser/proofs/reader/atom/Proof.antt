@@ -4,10 +4,10 @@ use Prim.Native.Nat.{ℕ}
 use native.Mathlib.Omega.{arith}
 use lib.ListN.{getD}
 use borrow.Author.Tests.{not-true, not-false}
-use Rattle.ere_parser.specs.State.{pushedOf, pushedTable, repeatedOf, repeatedTable, leafPiece, atomTable}
+use Rattle.ere_pieces.specs.State.{pushedOf, pushedTable, repeatedOf, repeatedTable, leafPiece, atomTable}
 use Rattle.ere_parser.specs.Standing.{Moves}
-use Rattle.ere_parser.specs.declared.rows.Piece.{Piece}
-use Rattle.ere_parser.specs.declared.rows.State.{State}
+use Rattle.ere_pieces.specs.declared.rows.Piece.{Piece}
+use Rattle.ere_pieces.specs.declared.rows.State.{State}
 use Rattle.ere_parser.proofs.Moving.{moves-full, moves-bad, moves-atom}
 use borrow.Author.Needs.{needs}
 use Rattle.ere_parser.proofs.reader.atom.Statement.{statement}

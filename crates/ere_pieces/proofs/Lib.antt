@@ -1,0 +1,2 @@
+-- The laws on pieces.
+pub mod Grouping

@@ -1,0 +1,2 @@
+-- What the contracts on pieces cite.
+pub mod State
