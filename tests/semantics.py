@@ -150,7 +150,7 @@ def unfoldables(*crates):
     return '\n'.join(uses), ' '.join(names)
 
 
-RUN_USES, RUN_NAMES = unfoldables('lists', 'buffer', 'number', 'numeral', 'ere_meaning', 'ere_grammar', 'splitting', 'image_format', 'values', 'semantics')
+RUN_USES, RUN_NAMES = unfoldables('lists', 'buffer', 'number', 'decimals', 'numeral', 'ere_meaning', 'ere_grammar', 'splitting', 'image_format', 'values', 'semantics')
 RUN_USES = '''use mathlib.Core.Path.{_≡_, refl}
 use mathlib.Core.Bool.{true, false}
 use mathlib.Core.List.{List, [], _∷_}

@@ -6,8 +6,8 @@ use native.Mathlib.Omega.{arith}
 use native.Mathlib.Numerals.{add-one}
 use lib.ListN.{length, take, drop, getD, length-append, length-take, drop-of-length-le}
 use Rattle.buffer.proofs.Parts.{drop-next}
-use Rattle.numeral.specs.Decimal.{decimalDigits}
-use Rattle.numeral.proofs.Decimals.{digits-small, digits-step, length-within}
+use Rattle.decimals.specs.Decimal.{decimalDigits}
+use Rattle.decimals.proofs.Decimals.{digits-small, digits-step, length-within}
 use Rattle.varint.specs.Room.{withOne, withAll}
 use Rattle.varint.proofs.Words.{all-append}
 use Rattle.front_places.specs.Shown.{spelled}

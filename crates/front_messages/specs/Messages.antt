@@ -3,7 +3,7 @@ use mathlib.Core.List.{List, [], _∷_, _++_}
 use Prim.Native.Nat.{ℕ}
 use Prim.Native.Char.{code}
 use Prim.Native.String.{String, [] as end-of-text, _∷_ as _before_}
-use Rattle.numeral.specs.Decimal.{decimalDigits}
+use Rattle.decimals.specs.Decimal.{decimalDigits}
 use Rattle.front_words.specs.Words.{wordIn}
 use Rattle.front_places.specs.Places.{lineAt, columnAt}
 use Rattle.front_places.specs.Shown.{shown, blanks, shownBefore, shownBehind}

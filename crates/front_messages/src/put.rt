@@ -1,7 +1,7 @@
 // Texts and numbers, written to a room as far as the room goes.
 ghost use Prim.Native.Nat.{_+_, _≤_, _<_, _^_};
 ghost use lib.ListN.{length};
-ghost use Rattle.numeral.specs.Decimal.{decimalDigits};
+ghost use Rattle.decimals.specs.Decimal.{decimalDigits};
 ghost use Rattle.front_messages.specs.Puts.{Puts};
 
 // Writes a text from byte k on; returns the index after it.

@@ -3,7 +3,6 @@ pub mod Runs
 pub mod Values
 pub mod Prefixes
 pub mod Judging
-pub mod Decimals
 pub mod Numerals
 pub mod Look
 pub mod RoundTrip

@@ -12,11 +12,11 @@ use Rattle.edition.specs.Limits.{numberBound}
 use Rattle.number.specs.Range.{InRange, number}
 use Rattle.numeral.specs.Form.{Maybe, absent, present, Numeral, Looks, isBlank, isDigit, isSign, wholeDigits, afterBlanks, looksNumeric, isNegative}
 use Rattle.numeral.specs.Judgement.{digitsValue, valueAfter, nonzeroDigit, withSign, judged, prefixNumber, numberOf}
-use Rattle.numeral.specs.Decimal.{decimalDigits, decimalText, Spells, digit, longer}
+use Rattle.decimals.specs.Decimal.{decimalDigits, decimalText, Spells, digit, longer}
 use Rattle.numeral.proofs.Runs.{digit-range}
 use Rattle.numeral.proofs.Values.{value-append}
 use Rattle.numeral.proofs.Prefixes.{fraction-none}
-use Rattle.numeral.proofs.Decimals.{digits-spelled, digits-small, length-bound}
+use Rattle.decimals.proofs.Decimals.{digits-spelled, digits-small, length-bound}
 use Rattle.numeral.proofs.Judging.{number-judged}
 use Rattle.numeral.proofs.Numerals.{whole-alone, point-past, numeral-alone, numeral-some}
 use Rattle.numeral.proofs.Look.{all-append, all-at, run-none, no-blank-at, true-looks}

@@ -1,12 +1,8 @@
-// Texts as numbers and numbers as texts.
-mod decimal;
+// Texts as numbers.
 mod digits;
 mod prefix;
 mod reading;
 
-pub use decimal::DECIMAL_BYTES;
-pub use decimal::decimal_length;
-pub use decimal::write_decimal;
 pub use digits::Digits;
 pub use digits::is_blank;
 pub use digits::is_digit;

@@ -13,7 +13,7 @@ use Rattle.edition.specs.Limits.{textBytes, fieldCount}
 use Rattle.buffer.specs.Parts.{part, put}
 use Rattle.buffer.proofs.Parts.{length-part, part-more, part-part}
 use Rattle.block_copy.specs.Rounded.{blocks}
-use Rattle.numeral.specs.Decimal.{decimalText}
+use Rattle.decimals.specs.Decimal.{decimalText}
 use Rattle.number.specs.Range.{unbias, top}
 use Rattle.values.specs.Value.{Value, unset, number, text, field-text, textOf}
 use Rattle.run_room.specs.Layout.{headSize, slotBytes, slotCount, slotsEnd, recordStart, entriesStart, entryBytes, baseEnd}

@@ -19,7 +19,7 @@ fn entry_bound(work: &[u8], i: usize) -> usize
 {
     let h = little_endian::get_word(work, run_room::ENTRIES + i * run_room::ENTRY);
     if h / 4294967296 % 256 == 1 {
-        return numeral::DECIMAL_BYTES;
+        return decimals::DECIMAL_BYTES;
     }
     (h / 65536 % 65536) as usize
 }
@@ -46,7 +46,7 @@ pub fn surely_fits(work: &[u8], line: Line, v: usize, count: usize, n: usize) ->
     ensures { λ r. ⌜ (r ≡ true → (k : ℕ) (b : List ℕ) → length b ≡ n
         → length (joinedText b (newFields (now (work .entry)) line k v count)) ≤ textBytes) ⌝ }
 {
-    let size = run_room::text_size(work, v) + numeral::DECIMAL_BYTES;
+    let size = run_room::text_size(work, v) + decimals::DECIMAL_BYTES;
     let rest = entries_bound(work, line.known);
     rest + size + count * n <= Edition::TEXT
 }

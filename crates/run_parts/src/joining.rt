@@ -49,7 +49,7 @@ fn put_text(work: &mut [u8], side: usize, at: usize, p: Part) -> usize
     let k = p.kind;
     if k == run_room::NUMBER {
         let w = parts::least_word(p.word, number::TOP);
-        return numeral::write_decimal(work, run_room::record_start(side) + at, w);
+        return decimals::write_decimal(work, run_room::record_start(side) + at, w);
     }
     if k < run_room::TEXT {
         return 0;

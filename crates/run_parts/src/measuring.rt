@@ -23,7 +23,7 @@ fn text_length(p: Part) -> usize
     let k = p.kind;
     if k == run_room::NUMBER {
         let w = parts::least_word(p.word, number::TOP);
-        return numeral::decimal_length(w);
+        return decimals::decimal_length(w);
     }
     if k < run_room::TEXT {
         return 0;

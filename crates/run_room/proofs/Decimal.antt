@@ -7,8 +7,8 @@ use native.Mathlib.Omega.{arith}
 use lib.ListN.{length}
 use Rattle.edition.specs.Limits.{numberBound}
 use Rattle.number.specs.Range.{unbias, top}
-use Rattle.numeral.specs.Decimal.{decimalDigits, decimalText}
-use Rattle.numeral.proofs.Decimals.{digits-small, length-step, text-below, text-above}
+use Rattle.decimals.specs.Decimal.{decimalDigits, decimalText}
+use Rattle.decimals.proofs.Decimals.{digits-small, length-step, text-below, text-above}
 
 -- a number below 10 ^ (k + 1) has at most k + 1 digits
 digits-most : (k n : ℕ) → n < 10 ^ suc k → length (decimalDigits n) ≤ suc k

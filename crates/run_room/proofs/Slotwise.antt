@@ -12,7 +12,7 @@ use Rattle.buffer.proofs.Parts.{length-part, length-put, put-append, part-part,
 use Rattle.little_endian.proofs.Numbers.{le-round, length-leBytes}
 use mathlib.Core.Bool.{true, false, true≢false, false≢true}
 use Rattle.values.specs.Value.{Value, unset, number, text, field-text, textOf}
-use Rattle.numeral.specs.Decimal.{decimalText}
+use Rattle.decimals.specs.Decimal.{decimalText}
 use Rattle.edition.specs.Limits.{textBytes}
 use Rattle.block_copy.specs.Rounded.{blocks}
 use Rattle.run_room.specs.Layout.{blockSize, headSize, slotBytes}

@@ -93,7 +93,7 @@ pub fn show(work: &mut [u8], i: usize) -> usize
 {
     if slots::slot_kind(work, i) == NUMBER {
         let w = slots::slot_number(work, i);
-        return numeral::write_decimal(work, i * SLOT + HEAD, w);
+        return decimals::write_decimal(work, i * SLOT + HEAD, w);
     }
     text_size(work, i)
 }

@@ -10,8 +10,8 @@ use Rattle.number.specs.Arithmetic.{sumOf as number-sumOf, differenceOf as numb
 use Rattle.number.specs.Arithmetic.{productOf as number-productOf, quotientOf as number-quotientOf}
 use Rattle.number.specs.Arithmetic.{remainderOf as number-remainderOf, negationOf as number-negationOf}
 use Rattle.number.specs.Range.{ranged as number-ranged}
-use Rattle.numeral.specs.Decimal.{digitsWithin as numeral-digitsWithin, decimalDigits as numeral-decimalDigits}
-use Rattle.numeral.specs.Decimal.{decimalText as numeral-decimalText}
+use Rattle.decimals.specs.Decimal.{digitsWithin as numeral-digitsWithin, decimalDigits as numeral-decimalDigits}
+use Rattle.decimals.specs.Decimal.{decimalText as numeral-decimalText}
 use Rattle.numeral.specs.Form.{digitsFrom as numeral-digitsFrom, signLength as numeral-signLength}
 use Rattle.numeral.specs.Form.{wholeDigits as numeral-wholeDigits, pointAt as numeral-pointAt}
 use Rattle.numeral.specs.Form.{hasPoint as numeral-hasPoint, fractionDigits as numeral-fractionDigits}

@@ -12,7 +12,7 @@ use Rattle.number.proofs.Bias.{ranged-in, ranged-out}
 use Rattle.number.proofs.Division.{divide-exact, divide-inexact, remainder-is, divide-by-zero, remainder-by-zero}
 use Rattle.number.proofs.Division.{negation-is}
 use Rattle.numeral.specs.Judgement.{numberOf as textNumber}
-use Rattle.numeral.specs.Decimal.{decimalText}
+use Rattle.decimals.specs.Decimal.{decimalText}
 use Rattle.image_format.specs.Codes.{Arithmetic, add, subtract, multiply, divide, remainder}
 use Rattle.values.specs.Value.{Value, unset, number, text, field-text, Stop, gives, stops, result, textOf}
 use Rattle.values.specs.Value.{numberOf}

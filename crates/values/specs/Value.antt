@@ -9,7 +9,7 @@ use Rattle.number.specs.Range.{Answer, number as answered, stop as refused}
 use Rattle.number.specs.Arithmetic.{isZero}
 use Rattle.numeral.specs.Form.{looksNumeric}
 use Rattle.numeral.specs.Judgement.{numberOf as textNumber}
-use Rattle.numeral.specs.Decimal.{decimalText}
+use Rattle.decimals.specs.Decimal.{decimalText}
 
 -- "Kinds: unset, number, text, field text."
 pub data Value : Type 0 where

@@ -9,14 +9,14 @@ fn writes(room: &mut [u8], at: usize, w: u64, length: usize) -> bool {
     if number::TOP < w {
         return false;
     }
-    let n = numeral::decimal_length(w);
+    let n = decimals::decimal_length(w);
     if room.len() < n {
         return false;
     }
     if room.len() - n < at {
         return false;
     }
-    n == length && numeral::write_decimal(room, at, w) == length
+    n == length && decimals::write_decimal(room, at, w) == length
 }
 
 // Runs the payload's case on a room that is as before.

@@ -42,7 +42,7 @@ fn made(which: u8) -> u64 {
     match which {
         0 => number::ZERO,
         1 => number::TOP,
-        2 => numeral::DECIMAL_BYTES as u64,
+        2 => decimals::DECIMAL_BYTES as u64,
         _ => NONE,
     }
 }

@@ -7,14 +7,14 @@ use mathlib.Core.Path.{sym, ap, _∙_}
 use Prim.Native.Nat.{ℕ, _+_}
 use Rattle.buffer.specs.Parts.{put}
 use Rattle.number.specs.Range.{unbias}
-use Rattle.numeral.specs.Decimal.{decimalText}
+use Rattle.decimals.specs.Decimal.{decimalText}
 use Rattle.run_parts.proofs.Grown.{number-text, text-low, text-words, grown-is, grown-none, grown-whole}
 use borrow.Author.Needs.{needs}
 use Rattle.run_parts.proofs.joining.put_text.Statement.{statement}
 use Rattle.run_parts.proofs.joining.put_text.Tie as tie
 use Rattle.run_parts.proofs.joining.put_text.Reads as reads
 use Rattle.run_parts.proofs.joining.put_text.Lts as lts
-use Rattle.numeral.proofs.write_decimal.Reads as write-decimal-reads
+use Rattle.decimals.proofs.write_decimal.Reads as write-decimal-reads
 use Rattle.run_parts.proofs.joining.grow_text.Reads as grow-text-reads
 use Rattle.run_parts.proofs.parts.least_word.Reads as least-word-reads
 use Rattle.run_room.proofs.record_start.Reads as record-start-reads

@@ -10,7 +10,7 @@ use Rattle.run_parts.proofs.measuring.text_length.Statement.{statement}
 use Rattle.run_parts.proofs.measuring.text_length.Tie as tie
 use Rattle.run_parts.proofs.measuring.text_length.Reads as reads
 use Rattle.run_parts.proofs.measuring.text_length.Lts as lts
-use Rattle.numeral.proofs.decimal_length.Reads as decimal-length-reads
+use Rattle.decimals.proofs.decimal_length.Reads as decimal-length-reads
 use Rattle.run_parts.proofs.parts.least_word.Reads as least-word-reads
 
 least-word-requires : tie.Need-least-word-requires

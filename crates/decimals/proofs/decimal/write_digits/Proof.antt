@@ -7,10 +7,10 @@ use lib.ListN.{length, take, drop, set, length-set, drop-of-length-le}
 use lib.Seq.{take-all}
 use Rattle.buffer.specs.Parts.{put}
 use Rattle.buffer.proofs.Parts.{put-none, put-down}
-use Rattle.numeral.specs.Decimal.{decimalDigits}
-use Rattle.numeral.proofs.Decimals.{last-digit, front-digits}
-use Rattle.numeral.proofs.decimal.write_digits.Statement.{statement}
-use Rattle.numeral.proofs.decimal.write_digits.Tie as tie
+use Rattle.decimals.specs.Decimal.{decimalDigits}
+use Rattle.decimals.proofs.Decimals.{last-digit, front-digits}
+use Rattle.decimals.proofs.decimal.write_digits.Statement.{statement}
+use Rattle.decimals.proofs.decimal.write_digits.Tie as tie
 
 abbrev Inv-loop : tie.InvT-loop
 Inv-loop out₀ at n count i₀ rest₀ out i rest =

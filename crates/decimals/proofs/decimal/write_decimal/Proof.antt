@@ -7,11 +7,11 @@ use lib.ListN.{length, set, length-set}
 use Rattle.edition.specs.Limits.{numberBound}
 use Rattle.buffer.specs.Parts.{put}
 use Rattle.buffer.proofs.Parts.{put-one, put-append}
-use Rattle.numeral.specs.Decimal.{decimalDigits}
-use Rattle.numeral.proofs.Decimals.{text-below, text-above, length-bound}
+use Rattle.decimals.specs.Decimal.{decimalDigits}
+use Rattle.decimals.proofs.Decimals.{text-below, text-above, length-bound}
 use borrow.Author.Needs.{needs}
-use Rattle.numeral.proofs.decimal.write_decimal.Statement.{statement}
-use Rattle.numeral.proofs.decimal.write_decimal.Tie as tie
+use Rattle.decimals.proofs.decimal.write_decimal.Statement.{statement}
+use Rattle.decimals.proofs.decimal.write_decimal.Tie as tie
 
 -- a minus, and digits right after it
 minus-put : (l : List ℕ) (a : ℕ) (d : List ℕ) → a + length d + 1 ≤ length l → put (set l a 45) (a + 1) d ≡ put l a (45 ∷ d)

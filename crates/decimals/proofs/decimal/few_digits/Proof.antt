@@ -2,9 +2,9 @@
 use mathlib.Core.Path.{sym, ap}
 use native.Mathlib.Omega.{arith}
 use lib.ListN.{length}
-use Rattle.numeral.proofs.Decimals.{digits-small, length-between}
-use Rattle.numeral.proofs.decimal.few_digits.Statement.{statement}
-use Rattle.numeral.proofs.decimal.few_digits.Tie as tie
+use Rattle.decimals.proofs.Decimals.{digits-small, length-between}
+use Rattle.decimals.proofs.decimal.few_digits.Statement.{statement}
+use Rattle.decimals.proofs.decimal.few_digits.Tie as tie
 
 returns : tie.Need-returns
 returns c = sym (ap length (digits-small (c .before .before .before .args .n) (omega arith)))

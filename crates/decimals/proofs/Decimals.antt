@@ -11,7 +11,7 @@ use borrow.Author.Tests.{lt-ltb, le-ltb}
 use Rattle.edition.specs.Limits.{numberBound}
 use Rattle.number.specs.Range.{unbias}
 use Rattle.number.proofs.Bias.{unbias-above, unbias-below}
-use Rattle.numeral.specs.Decimal.{digitsWithin, decimalDigits, decimalText, Spells, digit, longer}
+use Rattle.decimals.specs.Decimal.{digitsWithin, decimalDigits, decimalText, Spells, digit, longer}
 
 within-small : (k n : ℕ) → n < 10 → digitsWithin k n ≡ (48 + n) ∷ []
 unfolding digitsWithin

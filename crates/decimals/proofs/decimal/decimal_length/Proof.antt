@@ -4,10 +4,10 @@ use native.Mathlib.Omega.{arith}
 use lib.ListN.{length}
 use Rattle.edition.specs.Limits.{numberBound}
 use Prim.Native.Nat.{_-_}
-use Rattle.numeral.proofs.Decimals.{text-below, text-above, length-bound}
+use Rattle.decimals.proofs.Decimals.{text-below, text-above, length-bound}
 use borrow.Author.Needs.{needs}
-use Rattle.numeral.proofs.decimal.decimal_length.Statement.{statement}
-use Rattle.numeral.proofs.decimal.decimal_length.Tie as tie
+use Rattle.decimals.proofs.decimal.decimal_length.Statement.{statement}
+use Rattle.decimals.proofs.decimal.decimal_length.Tie as tie
 
 sub-digit-count : tie.Need-sub-digit-count
 sub-digit-count c = search needs

@@ -5,7 +5,7 @@ ghost use lib.ListN.{length};
 ghost use Rattle.edition.specs.Limits.{numberBound};
 ghost use Rattle.buffer.specs.Parts.{put};
 ghost use Rattle.number.specs.Range.{unbias, top};
-ghost use Rattle.numeral.specs.Decimal.{decimalDigits, decimalText};
+ghost use Rattle.decimals.specs.Decimal.{decimalDigits, decimalText};
 use edition::Edition;
 
 // The most bytes that a number's text has.

@@ -1,10 +1,10 @@
 -- `digit_count` meets its contract: the last eight digits, and those before them.
 use native.Mathlib.Omega.{arith}
 use Prim.Native.Nat.{_/_}
-use Rattle.numeral.proofs.Decimals.{length-split, length-within}
+use Rattle.decimals.proofs.Decimals.{length-split, length-within}
 use borrow.Author.Needs.{needs}
-use Rattle.numeral.proofs.decimal.digit_count.Statement.{statement}
-use Rattle.numeral.proofs.decimal.digit_count.Tie as tie
+use Rattle.decimals.proofs.decimal.digit_count.Statement.{statement}
+use Rattle.decimals.proofs.decimal.digit_count.Tie as tie
 
 few-digits-requires : tie.Need-few-digits-requires
 few-digits-requires c κs = search needs

@@ -1,0 +1,2 @@
+-- The laws on decimal texts.
+pub mod Decimals

@@ -1,0 +1,2 @@
+-- What the contract on decimal texts cites.
+pub mod Decimal
