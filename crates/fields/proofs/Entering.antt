@@ -15,13 +15,13 @@ use Rattle.splitting.specs.Field.{Span, span, fieldsOf}
 use Rattle.splitting.specs.Splitting.{Split, fields, long-record, bad-separator, many-fields, counted, separated}
 use Rattle.splitting.specs.Splitting.{splitOf, Counting, counting, countOf, spanOf}
 use Rattle.fields.specs.Answer.{countingOf}
-use Rattle.fields.specs.Spread.{withSpans, upToMany, spansOf, roomOf}
+use Rattle.field_spans.specs.Spread.{withSpans, upToMany, spansOf, roomOf}
 use Rattle.fields.specs.declared.entries.Splitting.{Splitting}
 use Rattle.fields.specs.declared.entries.Splitting.the-variants.{Fields, LongRecord, BadSeparator, ManyFields}
 use types.Run.{OneOf, miss}
 use denote.Enum.Declared.{tagOf}
 use Rattle.fields.proofs.entries.Splitting.{the-type}
-use Rattle.fields.proofs.Spreading.{Spreads}
+use Rattle.field_spans.proofs.Spreading.{Spreads}
 
 -- what is answered, with the room for spans
 abbrev pub Filled : List ℕ → Option Separator → List ℕ → ℕ → Splitting → List ℕ → Type 0

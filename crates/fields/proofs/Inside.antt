@@ -18,9 +18,9 @@ use Rattle.splitting.specs.Splitting.{Split, fields, long-record, many-fields, 
 use Rattle.splitting.specs.Splitting.{splitOf, countOf, spanOf, textOf}
 use Rattle.splitting.proofs.Turns.{ordered}
 use Rattle.fields.specs.Answer.{countingOf, placeOf}
-use Rattle.fields.specs.Spread.{withSpans, roomOf}
+use Rattle.field_spans.specs.Spread.{withSpans, roomOf}
 use Rattle.fields.specs.declared.entries.Splitting.the-variants.{Fields}
-use Rattle.fields.proofs.Located.{field-whole, field-past, field-inside}
+use Rattle.field_spans.proofs.Located.{field-whole, field-past, field-inside}
 use Rattle.fields.proofs.Entering.{Has, has-split}
 
 -- ---- read off the room

@@ -1,3 +1,2 @@
 -- What the code's own values stand for.
 pub mod Answer
-pub mod Spread

@@ -8,8 +8,7 @@ ghost use Rattle.splitting.specs.Separator.{separatorOf};
 ghost use Rattle.splitting.specs.Field.{span};
 ghost use Rattle.splitting.specs.Splitting.{separated, splitOf, countOf, fieldOf, textOf};
 ghost use Rattle.fields.specs.Answer.{countingOf, placeOf};
-ghost use Rattle.fields.specs.Spread.{spansOf, roomOf};
-use crate::spans as spreading;
+ghost use Rattle.field_spans.specs.Spread.{spansOf, roomOf};
 use edition::Edition;
 use separators::Kind;
 
@@ -49,7 +48,7 @@ fn split_with(
     if let Kind::Refused = kind {
         return Splitting::BadSeparator;
     }
-    let n = spreading::split_into(record, kind, edition, t, first, spans);
+    let n = field_spans::split_into(record, kind, edition, t, first, spans);
     if Edition::FIELDS < n {
         return Splitting::ManyFields;
     }

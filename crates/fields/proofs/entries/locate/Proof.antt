@@ -2,7 +2,7 @@
 use Rattle.fields.proofs.Inside.{located-whole, located-past, located-field}
 use Rattle.fields.proofs.Entering.{no-span, refused}
 use Rattle.fields.specs.Answer.{countingOf}
-use Rattle.fields.specs.Spread.{roomOf}
+use Rattle.field_spans.specs.Spread.{roomOf}
 use Rattle.edition.specs.Limits.{firstEdition}
 use Rattle.splitting.specs.Splitting.{splitOf}
 use lib.ListN.{length}

@@ -14,7 +14,7 @@ use Rattle.splitting.specs.Separator.{Separator}
 use Rattle.splitting.specs.Field.{Span, span, Next, field, none, nextField, fieldsFrom, fieldsOf}
 use Rattle.splitting.proofs.Turns.{fields-more, fields-none, fields-of, fields-empty}
 use Rattle.separators.specs.Kinds.{nextOf}
-use Rattle.fields.specs.Spread.{withSpan, withSpans, upToMany}
+use Rattle.field_spans.specs.Spread.{withSpan, withSpans, upToMany}
 use Rattle.separators.specs.declared.steps.Step.{Step}
 
 pub step-found : (r : Step) → r .found ≡ true → nextOf r ≡ field (span (r .start) (r .size)) (r .after)

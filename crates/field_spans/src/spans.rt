@@ -6,7 +6,7 @@ ghost use Rattle.edition.specs.Limits.{fieldCount};
 ghost use Rattle.splitting.specs.Separator.{Separator};
 ghost use Rattle.splitting.specs.Field.{span, fieldsOf};
 ghost use Rattle.separators.specs.Kinds.{Sized, Means};
-ghost use Rattle.fields.specs.Spread.{withSpan, withSpans, upToMany};
+ghost use Rattle.field_spans.specs.Spread.{withSpan, withSpans, upToMany};
 use edition::Edition;
 use separators::Kind;
 

@@ -1,14 +1,14 @@
 -- `put_span` meets its contract, by its tests.
 use mathlib.Core.Path.{sym}
-use Rattle.fields.proofs.Located.{no-room}
+use Rattle.field_spans.proofs.Located.{no-room}
 use Rattle.edition.specs.Limits.{fieldCount}
 use Rattle.splitting.specs.Field.{span}
 use Prim.Native.Nat.{_+_, _-_, _*_}
 use lib.ListN.{length}
 use borrow.Author.Tests.{lt-ltb, le-ltb, le-leb, lt-leb}
 use borrow.Author.Needs.{needs}
-use Rattle.fields.proofs.spans.put_span.Statement.{statement}
-use Rattle.fields.proofs.spans.put_span.Tie as tie
+use Rattle.field_spans.proofs.spans.put_span.Statement.{statement}
+use Rattle.field_spans.proofs.spans.put_span.Tie as tie
 
 returns : tie.Need-returns
 returns c = sym (no-room (c .before .args .first) (c .before .args .spans .now) (c .before .args .k) (span (c .before .args .start) (c .before .args .size)) (c .if1 .taken))

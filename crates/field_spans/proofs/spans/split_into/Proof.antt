@@ -2,7 +2,7 @@
 use mathlib.Core.List.{List}
 use borrow.Author.Needs.{needs}
 use Prim.Native.Nat.{ℕ, suc, _+_, _-_, _≤_}
-use Rattle.fields.proofs.Spreading.{step-found, step-none, Held, held-start, held-more, spread-end, spread-many, spread-empty}
+use Rattle.field_spans.proofs.Spreading.{step-found, step-none, Held, held-start, held-more, spread-end, spread-many, spread-empty}
 use Rattle.separators.specs.Kinds.{Means}
 use Rattle.edition.specs.Limits.{fieldCount}
 use Rattle.splitting.specs.Field.{span}
@@ -12,8 +12,8 @@ use borrow.Author.Tests.{not-true, not-false}
 use native.Mathlib.Omega.{arith}
 use mathlib.Core.Path.{_≡_, refl, sym, subst, _∙_}
 use Prim.Native.Nat.{_+_, _-_, _≤_}
-use Rattle.fields.proofs.spans.split_into.Statement.{statement}
-use Rattle.fields.proofs.spans.split_into.Tie as tie
+use Rattle.field_spans.proofs.spans.split_into.Statement.{statement}
+use Rattle.field_spans.proofs.spans.split_into.Tie as tie
 
 abbrev Inv-loop : tie.InvT-loop
 Inv-loop text kind edition t first spans₀ at₀ n₀ spans at n =

@@ -11,7 +11,7 @@ use borrow.Author.Tests.{lt-ltb, le-ltb, le-leb}
 use Rattle.edition.specs.Limits.{fieldCount}
 use Rattle.splitting.specs.Field.{Span, span}
 use Rattle.splitting.specs.Splitting.{fieldAt}
-use Rattle.fields.specs.Spread.{withSpan, withSpans}
+use Rattle.field_spans.specs.Spread.{withSpan, withSpans}
 
 -- a span's words
 abbrev pub wordOf : ℕ → Span → ℕ

@@ -1,0 +1,3 @@
+-- The laws on spans.
+pub mod Spreading
+pub mod Located

@@ -1,0 +1,2 @@
+-- What the contracts on spans cite.
+pub mod Spread
