@@ -32,7 +32,7 @@ ENTRIES = [
     ('ere', 'matching', ['search']),
     ('fields', 'entries', ['split', 'field']),
     ('image', 'reading', ['read']),
-    ('image', 'writing', ['write']),
+    ('image_writer', 'writing', ['write']),
     ('image_check', 'checking', ['check']),
     ('translator', 'translating', ['translate']),
     ('runner', 'running', ['run']),

@@ -20,7 +20,7 @@ pub extern "C" fn flowawk_write(content: &[u64], image: &mut [u8], written: &mut
     ensures { λ r. ⌜ copying r (now (written .exit)) (now (image .exit))
         ≡ writtenOf (now (content .entry)) (now (image .entry)) ⌝ }
 {
-    let c = image::write(content, image);
+    let c = image_writer::write(content, image);
     *written = capi_numbers::copied_length(c);
     capi_numbers::copied_outcome(c)
 }

@@ -1,10 +1,9 @@
-// Images: reading one to its content words, and writing one from them.
+// Images: reading one to its content words, and what reader and writer answer.
 mod copied;
 mod passed;
 mod reading;
-mod writing;
 
 pub use copied::Copied;
+pub use passed::Passed;
 pub use reading::is_image;
 pub use reading::read;
-pub use writing::write;

@@ -51,7 +51,7 @@ fn runs(p: &[u8], image: &[u8], bytes: &[u8]) -> bool {
     load(content, bytes);
     let mut space = [BEFORE; ROOM];
     let room = &mut space[0..n];
-    reading::answers(p, image::write(content, room)) && is_after(room, image)
+    reading::answers(p, image_writer::write(content, room)) && is_after(room, image)
 }
 
 // Tells whether the case in a payload passes.

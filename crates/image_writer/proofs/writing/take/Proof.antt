@@ -3,10 +3,10 @@ use mathlib.Core.Path.{_∙_}
 use native.Mathlib.Omega.{arith}
 use lib.ListN.{drop}
 use Rattle.image_stages.specs.Stages.{mostAt}
 use Rattle.image.proofs.Stage.{up-taken, up-over, up-out, words-at}
 use borrow.Author.Needs.{needs}
-use Rattle.image.proofs.writing.take.Statement.{statement}
-use Rattle.image.proofs.writing.take.Tie as tie
+use Rattle.image_writer.proofs.writing.take.Statement.{statement}
+use Rattle.image_writer.proofs.writing.take.Tie as tie
 
 returns : tie.Need-returns
 returns c =

@@ -6,10 +6,10 @@ use native.Mathlib.Omega.{arith}
 use Rattle.edition.specs.Outcomes.{imageMalformed, roomTooSmall}
 use Rattle.image_format.specs.Writing.{bytesOf}
 use borrow.Author.Needs.{needs}
 use Rattle.image.specs.Copy.{copying, writtenOf}
 use Rattle.image.proofs.Copies.{copied-malformed, copied-no-room, copied-written, nothing-lent}
-use Rattle.image.proofs.writing.write.Statement.{statement}
-use Rattle.image.proofs.writing.write.Tie as tie
+use Rattle.image_writer.proofs.writing.write.Statement.{statement}
+use Rattle.image_writer.proofs.writing.write.Tie as tie
 
 sub-pass : tie.Need-sub-pass
 sub-pass c = search needs

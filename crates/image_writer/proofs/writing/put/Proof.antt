@@ -4,8 +4,8 @@ use native.Mathlib.Omega.{arith}
 use borrow.Author.Tests.{eq-eqb, ne-eqb}
 use Rattle.varint.specs.Room.{withAll}
 use borrow.Author.Needs.{needs}
-use Rattle.image.proofs.writing.put.Statement.{statement}
-use Rattle.image.proofs.writing.put.Tie as tie
+use Rattle.image_writer.proofs.writing.put.Statement.{statement}
+use Rattle.image_writer.proofs.writing.put.Tie as tie
 
 cast-put-byte : tie.Need-cast-put-byte
 cast-put-byte c = omega (arith, rw (eq-eqb _ 4 (c .before .if1 .taken)) at (c .before .before .before .pre .0))

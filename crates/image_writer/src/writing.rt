@@ -9,11 +9,11 @@ ghost use Rattle.image_format.specs.Reading.{readImage, fromWords};
 ghost use Rattle.image_format.specs.Writing.{bytesOf};
 ghost use Rattle.varint.specs.Room.{withAll};
 ghost use Rattle.image_stages.specs.Stages.{mostAt, writtenAt};
 ghost use Rattle.image.specs.Pass.{TakesStage, passedOf, passOf};
 ghost use Rattle.image.specs.Copy.{copyingOf, writtenOf};
-use crate::copied::Copied;
-use crate::passed::Passed;
 use edition::Edition;
+use image::Copied;
+use image::Passed;
 use image_stages::Next;
 use varint::Taken;
 

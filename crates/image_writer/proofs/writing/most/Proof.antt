@@ -1,7 +1,7 @@
 -- `most` meets its contract, by its test.
 use borrow.Author.Tests.{eq-eqb, ne-eqb}
-use Rattle.image.proofs.writing.most.Statement.{statement}
-use Rattle.image.proofs.writing.most.Tie as tie
+use Rattle.image_writer.proofs.writing.most.Statement.{statement}
+use Rattle.image_writer.proofs.writing.most.Tie as tie
 
 returns : tie.Need-returns
 returns c = rw (eq-eqb (c .before .args .stage) 4 (c .if1 .taken))

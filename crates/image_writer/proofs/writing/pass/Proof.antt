@@ -6,12 +6,12 @@ use lib.ListN.{length}
 use borrow.Author.Needs.{needs}
 use Rattle.image_format.specs.Numbers.{coded}
 use Rattle.image_format.specs.Reading.{fromWords}
 use Rattle.image.specs.Pass.{TakesStage}
 use Rattle.image.proofs.Stage.{words-most, bytes-written}
 use Rattle.image.proofs.Passing.{Going, Took, pass-starts, pass-cut, pass-unknown, pass-goes}
 use Rattle.image.proofs.Passing.{pass-followed, pass-whole}
-use Rattle.image.proofs.writing.pass.Statement.{statement}
-use Rattle.image.proofs.writing.pass.Tie as tie
+use Rattle.image_writer.proofs.writing.pass.Statement.{statement}
+use Rattle.image_writer.proofs.writing.pass.Tie as tie
 
 abbrev Inv-loop : tie.InvT-loop
 Inv-loop content bytes₀ s₀ at₀ k₀ bytes s at k =
