@@ -3,5 +3,4 @@ pub mod Steps
 pub mod Computing
 pub mod Judging
 pub mod Orders
-pub mod Between
 pub mod Wording

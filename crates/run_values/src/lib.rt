@@ -3,7 +3,6 @@
 mod arithmetic;
 mod comparing;
 mod numbers;
-mod texts;
 
 pub use arithmetic::calculate;
 pub use arithmetic::negate;
@@ -15,7 +14,3 @@ pub use numbers::is_true;
 pub use numbers::judge;
 pub use numbers::negation;
 pub use numbers::set_truth;
-pub use texts::index;
-pub use texts::join;
-pub use texts::length_of;
-pub use texts::substr;

@@ -1,10 +1,10 @@
 -- `length_of` meets its contract.
 use Rattle.run_room.specs.Room.{slotAt}
 use Rattle.run_values.proofs.Wording.{shown-size, length-is}
 use Rattle.run_values.proofs.Steps.{same-shown, left-slot}
 use borrow.Author.Needs.{needs}
-use Rattle.run_values.proofs.texts.length_of.Statement.{statement}
-use Rattle.run_values.proofs.texts.length_of.Tie as tie
+use Rattle.run_texts.proofs.texts.length_of.Statement.{statement}
+use Rattle.run_texts.proofs.texts.length_of.Tie as tie
 
 show-requires : tie.Need-show-requires
 show-requires c κs = search needs

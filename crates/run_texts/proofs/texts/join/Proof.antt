@@ -1,11 +1,11 @@
 -- `join` meets its contract: the second text is copied to the end of the first.
 use mathlib.Core.Logic.{inl}
 use native.Mathlib.Omega.{arith}
 use Rattle.run_values.proofs.Wording.{pair, joined-long, joined}
 use Rattle.run_values.proofs.Steps.{left-stops}
 use borrow.Author.Needs.{needs}
-use Rattle.run_values.proofs.texts.join.Statement.{statement}
-use Rattle.run_values.proofs.texts.join.Tie as tie
+use Rattle.run_texts.proofs.texts.join.Statement.{statement}
+use Rattle.run_texts.proofs.texts.join.Tie as tie
 
 show-requires : tie.Need-show-requires
 show-requires c κs = search needs

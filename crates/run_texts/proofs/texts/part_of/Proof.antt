@@ -2,10 +2,10 @@
 use mathlib.Core.Path.{ap, _∙_}
 use Prim.Native.Nat.{ℕ, min}
 use native.Mathlib.Omega.{arith}
-use Rattle.run_values.proofs.Between.{between-part, between-none}
+use Rattle.run_texts.proofs.Between.{between-part, between-none}
 use borrow.Author.Needs.{needs}
-use Rattle.run_values.proofs.texts.part_of.Statement.{statement}
-use Rattle.run_values.proofs.texts.part_of.Tie as tie
+use Rattle.run_texts.proofs.texts.part_of.Statement.{statement}
+use Rattle.run_texts.proofs.texts.part_of.Tie as tie
 
 index-from-requires : tie.Need-index-from-requires
 index-from-requires c κs = search needs

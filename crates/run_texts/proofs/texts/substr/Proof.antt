@@ -7,12 +7,12 @@ use Rattle.run_room.specs.Layout.{slotCount}
 use Rattle.values.specs.Value.{textOf}
 use Rattle.values.proofs.Texts.{substr-stops-left, substr-stops-right}
 use Rattle.run_room.specs.Room.{slotAt}
 use Rattle.run_values.proofs.Computing.{taken-stops, taken-gives}
 use Rattle.run_values.proofs.Wording.{shown-size, substr-gives, slotted-part}
 use Rattle.run_values.proofs.Steps.{same-room, same-shown, left-stops, left-slot}
 use borrow.Author.Needs.{needs}
-use Rattle.run_values.proofs.texts.substr.Statement.{statement}
-use Rattle.run_values.proofs.texts.substr.Tie as tie
+use Rattle.run_texts.proofs.texts.substr.Statement.{statement}
+use Rattle.run_texts.proofs.texts.substr.Tie as tie
 
 add-take-number : tie.Need-add-take-number
 add-take-number c = search needs

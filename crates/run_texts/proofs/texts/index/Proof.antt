@@ -1,12 +1,12 @@
 -- `index` meets its contract.
 use Prim.Native.Nat.{_+_}
 use Rattle.run_room.specs.Room.{slotAt}
 use Rattle.run_values.proofs.Wording.{pair, right-size, index-is}
 use Rattle.run_values.proofs.Steps.{left-slot}
 use native.Mathlib.Omega.{arith}
 use borrow.Author.Needs.{needs}
-use Rattle.run_values.proofs.texts.index.Statement.{statement}
-use Rattle.run_values.proofs.texts.index.Tie as tie
+use Rattle.run_texts.proofs.texts.index.Statement.{statement}
+use Rattle.run_texts.proofs.texts.index.Tie as tie
 
 show-requires : tie.Need-show-requires
 show-requires c κs = search needs

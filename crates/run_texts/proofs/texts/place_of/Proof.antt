@@ -4,10 +4,10 @@ use Prim.Native.Nat.{_+_, _*_}
 use native.Mathlib.Omega.{arith}
 use Rattle.buffer.specs.First.{foundOf}
 use Rattle.run_room.specs.Layout.{headSize, slotBytes}
 use Rattle.run_values.proofs.Wording.{found-in, place-none, place-some, place-nowhere, place-most}
 use borrow.Author.Needs.{needs}
-use Rattle.run_values.proofs.texts.place_of.Statement.{statement}
-use Rattle.run_values.proofs.texts.place_of.Tie as tie
+use Rattle.run_texts.proofs.texts.place_of.Statement.{statement}
+use Rattle.run_texts.proofs.texts.place_of.Tie as tie
 
 returns : tie.Need-returns
 returns c =

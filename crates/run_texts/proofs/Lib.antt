@@ -1,0 +1,2 @@
+-- The laws on joined texts.
+pub mod Between
