@@ -1,13 +1,11 @@
 // Operations on the values of operands. Each takes its operands from slot `a` on, leaves its value in slot `a`, and
 // returns 0 or the outcome that it stops with; a stop leaves all values as they were.
 mod arithmetic;
-mod comparing;
 mod numbers;
 
 pub use arithmetic::calculate;
 pub use arithmetic::negate;
 pub use arithmetic::to_number;
-pub use comparing::compare;
 pub use numbers::Judged;
 pub use numbers::Truth;
 pub use numbers::is_true;

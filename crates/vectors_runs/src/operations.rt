@@ -23,7 +23,7 @@ fn perform(work: &mut [u8; ROOM], code: u8) -> u64 {
         12 => run_values::negate(work, 0),
         13 => run_values::to_number(work, 0),
         14 => run_values::negation(work, 0),
-        15..=20 => run_values::compare(work, 0, vectors_frames::wide(code)),
+        15..=20 => run_comparison::compare(work, 0, vectors_frames::wide(code)),
         21 => run_texts::join(work, 0),
         24 => run_texts::length_of(work, 0),
         25 => run_texts::index(work, 0),

@@ -1,9 +1,9 @@
 -- `holds` meets its contract: the tests of the code, for each order.
 use mathlib.Core.Path.{sym, ap, _∙_}
 use Rattle.run_values.proofs.Orders.{tested, tested-holds}
 use borrow.Author.Needs.{needs}
-use Rattle.run_values.proofs.comparing.holds.Statement.{statement}
-use Rattle.run_values.proofs.comparing.holds.Tie as tie
+use Rattle.run_comparison.proofs.comparing.holds.Statement.{statement}
+use Rattle.run_comparison.proofs.comparing.holds.Tie as tie
 
 enum-told : tie.Need-enum-told
 enum-told c = search needs

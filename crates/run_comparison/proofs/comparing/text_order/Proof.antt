@@ -1,10 +1,10 @@
 -- `text_order` meets its contract: both texts are shown, and compared where they are.
 use mathlib.Core.Path.{ap₂, _∙_}
 use Rattle.buffer.specs.Order.{ordering}
 use Rattle.run_values.proofs.Wording.{pair, lent-left, lent-right}
 use borrow.Author.Needs.{needs}
-use Rattle.run_values.proofs.comparing.text_order.Statement.{statement}
-use Rattle.run_values.proofs.comparing.text_order.Tie as tie
+use Rattle.run_comparison.proofs.comparing.text_order.Statement.{statement}
+use Rattle.run_comparison.proofs.comparing.text_order.Tie as tie
 
 show-requires : tie.Need-show-requires
 show-requires c κs = search needs

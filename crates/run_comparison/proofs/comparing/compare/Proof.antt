@@ -3,12 +3,12 @@ use mathlib.Core.Logic.{⊎-elim}
 use Prim.Native.Nat.{_+_}
 use native.Mathlib.Omega.{arith}
 use Rattle.run_room.specs.Room.{slotAt}
 use Rattle.run_values.specs.Codes.{comparisonBy}
 use Rattle.run_values.proofs.Judging.{compare-left-text, compare-right-text}
 use Rattle.run_values.proofs.Steps.{left-slot}
 use borrow.Author.Needs.{needs}
-use Rattle.run_values.proofs.comparing.compare.Statement.{statement}
-use Rattle.run_values.proofs.comparing.compare.Tie as tie
+use Rattle.run_comparison.proofs.comparing.compare.Statement.{statement}
+use Rattle.run_comparison.proofs.comparing.compare.Tie as tie
 
 add-judge : tie.Need-add-judge
 add-judge c = search needs

@@ -1,10 +1,10 @@
 -- `compare_numbers` meets its contract.
 use Rattle.run_values.specs.Codes.{comparisonBy}
 use Rattle.run_values.proofs.Judging.{compare-left-stops, compare-right-stops, compare-gives}
 use Rattle.run_values.proofs.Steps.{same-room, left-stops, left-slot}
 use borrow.Author.Needs.{needs}
-use Rattle.run_values.proofs.comparing.compare_numbers.Statement.{statement}
-use Rattle.run_values.proofs.comparing.compare_numbers.Tie as tie
+use Rattle.run_comparison.proofs.comparing.compare_numbers.Statement.{statement}
+use Rattle.run_comparison.proofs.comparing.compare_numbers.Tie as tie
 
 returns : tie.Need-returns
 returns c =

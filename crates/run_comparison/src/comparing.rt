@@ -9,10 +9,9 @@ ghost use Rattle.buffer.specs.Order.{ordering};
 ghost use Rattle.number.specs.Range.{unbias, top};
 ghost use Rattle.values.specs.Value.{Value, textOf};
 ghost use Rattle.values.specs.Operations.{orderOf, holds as Value·holds, compareOf};
 ghost use Rattle.run_values.specs.Codes.{comparisonBy};
 ghost use Rattle.run_values.specs.Answers.{JudgedBy};
 ghost use Rattle.run_values.specs.Left.{Left, Unchanged};
-use crate::numbers;
 use buffer::Order;
 
 // Returns the order of two numbers.
@@ -97,8 +96,8 @@ fn compare_numbers(
     work: &mut [u8],
     a: usize,
     code: u64,
-    x: numbers::Judged,
-    y: numbers::Judged,
+    x: run_values::Judged,
+    y: run_values::Judged,
 ) -> u64
     requires { ⌜ (slotsEnd ≤ length (now work)) × (a < slotCount) ⌝ }
     ensures { λ r. ⌜ ((v w : Value) → JudgedBy v x → JudgedBy w y → x .numeric ≡ true → y .numeric ≡ true
@@ -110,7 +109,7 @@ fn compare_numbers(
     if y.stop != 0 {
         return y.stop;
     }
-    numbers::set_truth(work, a, holds(code, number_order(x.word, y.word)));
+    run_values::set_truth(work, a, holds(code, number_order(x.word, y.word)));
     0
 }
 
@@ -121,14 +120,14 @@ pub fn compare(work: &mut [u8], a: usize, code: u64) -> u64
     ensures { λ r. ⌜ Left (now (work .entry)) (now (work .exit)) a r
         (compareOf (comparisonBy code) (slotAt (now (work .entry)) a) (slotAt (now (work .entry)) (a + 1))) ⌝ }
 {
-    let y = numbers::judge(work, a + 1);
+    let y = run_values::judge(work, a + 1);
     if y.numeric {
-        let x = numbers::judge(work, a);
+        let x = run_values::judge(work, a);
         if x.numeric {
             return compare_numbers(work, a, code, x, y);
         }
     }
     let o = text_order(work, a);
-    numbers::set_truth(work, a, holds(code, o));
+    run_values::set_truth(work, a, holds(code, o));
     0
 }

@@ -7,8 +7,8 @@ use Rattle.buffer.specs.Order.{ordering}
 use Rattle.buffer.proofs.Parts.{drop-next}
 use Rattle.buffer.proofs.Order.{less-at, more-at, same-at}
 use borrow.Author.Needs.{needs}
-use Rattle.run_values.proofs.comparing.bytes_order.Statement.{statement}
-use Rattle.run_values.proofs.comparing.bytes_order.Tie as tie
+use Rattle.run_comparison.proofs.comparing.bytes_order.Statement.{statement}
+use Rattle.run_comparison.proofs.comparing.bytes_order.Tie as tie
 
 abbrev Inv-loop : tie.InvT-loop
 Inv-loop a b n k₀ k = (k ≤ length a) × (k ≤ length b) × (ordering a b ≡ ordering (drop k a) (drop k b))

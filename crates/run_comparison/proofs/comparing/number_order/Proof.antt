@@ -1,8 +1,8 @@
 -- `number_order` meets its contract.
 use native.Mathlib.Omega.{arith}
 use Rattle.run_values.proofs.Orders.{order-less, order-greater, order-equal}
-use Rattle.run_values.proofs.comparing.number_order.Statement.{statement}
-use Rattle.run_values.proofs.comparing.number_order.Tie as tie
+use Rattle.run_comparison.proofs.comparing.number_order.Statement.{statement}
+use Rattle.run_comparison.proofs.comparing.number_order.Tie as tie
 
 returns : tie.Need-returns
 returns c =
