@@ -1,4 +1,3 @@
 -- Laws of constants as words, and of EREs as tables and automata.
 pub mod Decoding
 pub mod Compiling
-pub mod Filling

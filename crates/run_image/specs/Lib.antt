@@ -1,4 +1,3 @@
 -- What a run keeps of its image.
 pub mod Constants
 pub mod Table
-pub mod Automata

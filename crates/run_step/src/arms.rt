@@ -23,7 +23,7 @@ ghost use Rattle.run_lines.specs.Records.{Safe, InForce, Leaves};
 ghost use Rattle.run_records.specs.declared.beginning.Begun.{Begun};
 ghost use Rattle.run_join.specs.Stores.{Stores};
 ghost use Rattle.run_image.specs.Table.{Readable, Prepared};
-ghost use Rattle.run_image.specs.Automata.{automatonIn, Pooled};
+ghost use Rattle.run_automata.specs.Automata.{automatonIn, Pooled};
 ghost use Rattle.run_values.specs.Answers.{TruthBy};
 ghost use Rattle.run_values.specs.declared.numbers.Truth.{Truth};
 ghost use Rattle.run_operations.specs.Constants.{Fits, Decodes};
@@ -274,7 +274,7 @@ pub fn matches(
         (truthValue (isMatch (bestOf accepts (textOf (slotAt (now (work .entry)) (m .depth - 1))) e)))))) ⌝ }
 {
     let d = m.depth;
-    let automaton = run_image::automaton_of(pool, n);
+    let automaton = run_automata::automaton_of(pool, n);
     let mut r = m;
     r.last = prepare_table(image, eres, edition, automaton.len(), shared, m.last, n);
     run_operations::matches(work, automaton, shared, d - 1);
@@ -310,7 +310,7 @@ pub fn match_marked(
         (bestOf accepts (textOf (slotAt (now (work .entry)) (m .depth - 1))) e)))) ⌝ }
 {
     let d = m.depth;
-    let automata = run_image::automaton_of(pool, Edition::ERES + n);
+    let automata = run_automata::automaton_of(pool, Edition::ERES + n);
     let mut r = m;
     r.last = prepare_table(image, eres, edition, automata.len(), shared, m.last, n);
     run_operations::match_marked(work, automata, shared, d - 1);

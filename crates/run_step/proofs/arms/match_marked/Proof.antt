@@ -5,7 +5,7 @@ use Prim.Native.Nat.{_+_}
 use native.Mathlib.Omega.{arith}
 use lib.ListN.{length}
 use Rattle.edition.specs.Limits.{ereCount}
-use Rattle.run_image.proofs.Filling.{pooled-sought}
+use Rattle.run_automata.proofs.Filling.{pooled-sought}
 use borrow.Author.Needs.{needs}
 use Rattle.run_step.proofs.arms.match_marked.Statement.{statement}
 use Rattle.run_step.proofs.arms.match_marked.Tie as tie

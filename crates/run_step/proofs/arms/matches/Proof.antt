@@ -3,7 +3,7 @@
 use mathlib.Core.Path.{ap, _∙_}
 use native.Mathlib.Omega.{arith}
 use lib.ListN.{length}
-use Rattle.run_image.proofs.Filling.{pooled-ranged}
+use Rattle.run_automata.proofs.Filling.{pooled-ranged}
 use borrow.Author.Needs.{needs}
 use Rattle.run_step.proofs.arms.matches.Statement.{statement}
 use Rattle.run_step.proofs.arms.matches.Tie as tie

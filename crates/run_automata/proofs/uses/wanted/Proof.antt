@@ -2,8 +2,8 @@
 use Prim.Native.Nat.{_-_, _*_, _≤_}
 use lib.ListN.{length}
 use borrow.Author.Needs.{needs}
-use Rattle.run_image.proofs.uses.wanted.Statement.{statement}
-use Rattle.run_image.proofs.uses.wanted.Tie as tie
+use Rattle.run_automata.proofs.uses.wanted.Statement.{statement}
+use Rattle.run_automata.proofs.uses.wanted.Tie as tie
 
 abbrev Inv-loop : tie.InvT-loop
 Inv-loop asked k n₀ j₀ n j = n ≤ 2 * j

@@ -7,10 +7,10 @@ use lib.ListN.{length}
 use borrow.Author.Tests.{leb-false}
 use Rattle.lists.proofs.Tests.{or-false}
 use Rattle.edition.specs.Limits.{ereCount}
-use Rattle.run_image.proofs.Filling.{suits-ere}
+use Rattle.run_automata.proofs.Filling.{suits-ere}
 use borrow.Author.Needs.{needs}
-use Rattle.run_image.proofs.automata.make.Statement.{statement}
-use Rattle.run_image.proofs.automata.make.Tie as tie
+use Rattle.run_automata.proofs.automata.make.Statement.{statement}
+use Rattle.run_automata.proofs.automata.make.Tie as tie
 
 returns : tie.Need-returns
 returns c = λ xs y. record { size = refl; inside = omega arith; fits = λ long. absurd (omega arith) }

@@ -4,12 +4,12 @@ use mathlib.Core.List.{List}
 use Prim.Native.Nat.{ℕ, _-_, _≤_}
 use native.Mathlib.Omega.{arith}
 use lib.ListN.{length, length-set}
 use Rattle.run_image.specs.Table.{Readable}
-use Rattle.run_image.specs.Automata.{poolSlots, Automata, Filled}
-use Rattle.run_image.proofs.Filling.{filled-none}
+use Rattle.run_automata.specs.Automata.{poolSlots, Automata, Filled}
+use Rattle.run_automata.proofs.Filling.{filled-none}
 use borrow.Author.Needs.{needs}
-use Rattle.run_image.proofs.automata.fill_pool.Statement.{statement}
-use Rattle.run_image.proofs.automata.fill_pool.Tie as tie
+use Rattle.run_automata.proofs.automata.fill_pool.Statement.{statement}
+use Rattle.run_automata.proofs.automata.fill_pool.Tie as tie
 
 abbrev Inv-loop : tie.InvT-loop
 Inv-loop image index edition asked table₀ pool₀ k₀ table pool k =

@@ -1,10 +1,10 @@
 -- `add` meets its contract: what the slot has is made in what is left of the pool.
 use native.Mathlib.Omega.{arith}
-use Rattle.run_image.specs.Automata.{boundIn}
-use Rattle.run_image.proofs.Filling.{left-size, left-length, filled-made}
+use Rattle.run_automata.specs.Automata.{boundIn}
+use Rattle.run_automata.proofs.Filling.{left-size, left-length, filled-made}
 use borrow.Author.Needs.{needs}
-use Rattle.run_image.proofs.automata.add.Statement.{statement}
-use Rattle.run_image.proofs.automata.add.Tie as tie
+use Rattle.run_automata.proofs.automata.add.Statement.{statement}
+use Rattle.run_automata.proofs.automata.add.Tie as tie
 
 mul-at : tie.Need-mul-at
 mul-at c = search needs

@@ -11,10 +11,9 @@ ghost use mathlib.Core.List.{List};
 ghost use Prim.Native.Nat.{ℕ, _+_, _≤_, _<_};
 ghost use lib.ListN.{length, replicate};
 ghost use Rattle.ere_table.specs.Table.{tableWords};
 ghost use Rattle.run_image.specs.Table.{Readable, Compiled};
-ghost use Rattle.run_image.specs.Automata.{poolSlots, boundCount, poolWords, automatonIn};
-ghost use Rattle.run_image.specs.Automata.{Bounded, Made, MadeOf, Pooled, Filled};
-use crate::table;
+ghost use Rattle.run_automata.specs.Automata.{poolSlots, boundCount, poolWords, automatonIn};
+ghost use Rattle.run_automata.specs.Automata.{Bounded, Made, MadeOf, Pooled, Filled};
 use crate::uses;
 use edition::Edition;
 
@@ -42,7 +41,7 @@ fn compile_alone(image: &[u8], index: &[u32], edition: Edition, n: usize, table:
     ensures { λ _. ⌜ Compiled (edition .number) (now (image .entry)) (now (index .entry)) n (now (table .exit)) ⌝ }
 {
     clear(table);
-    table::compile(image, index, edition, n, table);
+    run_image::compile(image, index, edition, n, table);
 }
 
 // Makes what slot k has of a table's ERE, each automaton with pairs if they fit below `pairs` words, and gives how many

@@ -7,8 +7,8 @@ use lib.ListN.{length, take, replicate, length-set, getD, length-replicate, getD
 use Rattle.buffer.specs.Parts.{put}
 use Rattle.buffer.proofs.Parts.{put-none, put-all, copied-more, copied-all}
 use borrow.Author.Needs.{needs}
-use Rattle.run_image.proofs.automata.clear.Statement.{statement}
-use Rattle.run_image.proofs.automata.clear.Tie as tie
+use Rattle.run_automata.proofs.automata.clear.Statement.{statement}
+use Rattle.run_automata.proofs.automata.clear.Tie as tie
 
 abbrev Inv-loop : tie.InvT-loop
 Inv-loop words₀ k₀ words k =

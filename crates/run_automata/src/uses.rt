@@ -5,7 +5,7 @@
 ghost use mathlib.Core.Path.{_≡_};
 ghost use Prim.Native.Nat.{_≤_, _<_};
 ghost use lib.ListN.{length};
-ghost use Rattle.run_image.specs.Automata.{poolSlots};
+ghost use Rattle.run_automata.specs.Automata.{poolSlots};
 use edition::Edition;
 
 // How many slots there are.

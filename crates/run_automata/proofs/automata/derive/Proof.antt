@@ -1,8 +1,8 @@
 -- `derive` meets its contract: the slot tells for which search.
 use native.Mathlib.Omega.{arith}
 use borrow.Author.Needs.{needs}
-use Rattle.run_image.proofs.automata.derive.Statement.{statement}
-use Rattle.run_image.proofs.automata.derive.Tie as tie
+use Rattle.run_automata.proofs.automata.derive.Statement.{statement}
+use Rattle.run_automata.proofs.automata.derive.Tie as tie
 
 derive-requires : tie.Need-derive-requires
 derive-requires c κs = search needs

@@ -3,8 +3,8 @@ use mathlib.Core.Path.{_≡_, refl}
 use Prim.Native.Nat.{_-_}
 use lib.ListN.{length}
 use borrow.Author.Needs.{needs}
-use Rattle.run_image.proofs.uses.note_all.Statement.{statement}
-use Rattle.run_image.proofs.uses.note_all.Tie as tie
+use Rattle.run_automata.proofs.uses.note_all.Statement.{statement}
+use Rattle.run_automata.proofs.uses.note_all.Tie as tie
 
 abbrev Inv-loop : tie.InvT-loop
 Inv-loop program asked₀ k₀ asked k = length asked ≡ length asked₀

@@ -19,10 +19,10 @@ use Rattle.ere_automaton.specs.Automaton.{Ranged}
 use Rattle.ere_automaton.specs.Follows.{SeekRanged}
 use Rattle.ere.specs.Answer.{Serves}
 use Rattle.semantics.proofs.Tables.{nth-some}
 use Rattle.run_image.specs.Table.{Readable, IsEre}
-use Rattle.run_image.specs.Automata.{poolSlots, boundCount, boundIn, automatonIn, Bounded, Suits, SuitsEre}
-use Rattle.run_image.specs.Automata.{MadeOf, Automata, Pooled, Filled}
+use Rattle.run_automata.specs.Automata.{poolSlots, boundCount, boundIn, automatonIn, Bounded, Suits, SuitsEre}
+use Rattle.run_automata.specs.Automata.{MadeOf, Automata, Pooled, Filled}
 use Rattle.run_image.proofs.Compiling.{ere-below}
 
 -- ---- an automaton is stored at a place, and its end as bound n + 1
 

@@ -3,10 +3,10 @@ use mathlib.Core.Path.{_≡_}
 use Prim.Native.Nat.{_+_, _-_}
 use native.Mathlib.Omega.{arith}
 use Rattle.buffer.proofs.Lent.{part-lent}
-use Rattle.run_image.specs.Automata.{boundIn}
+use Rattle.run_automata.specs.Automata.{boundIn}
 use borrow.Author.Needs.{needs}
-use Rattle.run_image.proofs.automata.automaton_of.Statement.{statement}
-use Rattle.run_image.proofs.automata.automaton_of.Tie as tie
+use Rattle.run_automata.proofs.automata.automaton_of.Statement.{statement}
+use Rattle.run_automata.proofs.automata.automaton_of.Tie as tie
 
 mul-from : tie.Need-mul-from
 mul-from c = search needs

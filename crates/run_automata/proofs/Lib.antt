@@ -1,0 +1,2 @@
+-- The laws on the pool of automata.
+pub mod Filling

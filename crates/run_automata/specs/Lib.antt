@@ -1,0 +1,2 @@
+-- What the contracts on automata cite.
+pub mod Automata
