@@ -29,7 +29,7 @@ use Rattle.run_room.proofs.Stored.{did-slot, did-so, store-slot, held-slot}
 use Rattle.run_lines.specs.Records.{fsSlot, Safe, InForce, SeparatorOf}
 use Rattle.run_lines.proofs.Stored.{some-one, all-known}
 use Rattle.run_operations.specs.Assigns.{Known, fsOf, Assigns}
-use Rattle.run_operations.proofs.Showing.{slot-other, store-again, held-again}
+use Rattle.run_print.proofs.Showing.{slot-other, store-again, held-again}
 
 -- ---- where a variable's value is
 

@@ -31,7 +31,7 @@ use Rattle.run_room.specs.declared.lines.Line.{Line}
 use Rattle.run_room.proofs.Stored.{did-slot, did-on, did-so}
 use Rattle.run_operations.specs.Marks.{SearchesBy, TellsBy, Searches, Told, Locates, FoundBy}
 use Rattle.run_operations.specs.Marks.{rstartSlot, rlengthSlot, rstartOf, rlengthOf, withMark, markedIn, Marks}
-use Rattle.run_operations.proofs.Showing.{did-again, in-lent, shown-in}
+use Rattle.run_print.proofs.Showing.{did-again, in-lent, shown-in}
 
 -- ---- three slots are set
 

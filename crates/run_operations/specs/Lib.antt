@@ -1,5 +1,4 @@
 -- What the operations with constants, variables, EREs and the output do to the working room.
 pub mod Constants
 pub mod Marks
-pub mod Prints
 pub mod Assigns

@@ -1,14 +1,11 @@
 // Operations that need more than the values of operands: constants, variables, EREs, output.
 mod constants;
 mod matching;
-mod printing;
 mod variables;
 
 pub use constants::push_constant;
 pub use matching::match_marked;
 pub use matching::matches;
-pub use printing::Printed;
-pub use printing::print;
 pub use variables::Assigned;
 pub use variables::get_variable;
 pub use variables::set_variable;

@@ -29,8 +29,8 @@ ghost use Rattle.run_values.specs.declared.numbers.Truth.{Truth};
 ghost use Rattle.run_operations.specs.Constants.{Fits, Decodes};
 ghost use Rattle.run_operations.specs.Assigns.{Known, Assigns};
 ghost use Rattle.run_operations.specs.Marks.{Searches, Locates, markedIn};
-ghost use Rattle.run_operations.specs.Prints.{Writes, written, PrintedBy};
-ghost use Rattle.run_operations.specs.declared.printing.Printed.{Printed as Prints};
+ghost use Rattle.run_print.specs.Prints.{Writes, written, PrintedBy};
+ghost use Rattle.run_print.specs.declared.printing.Printed.{Printed as Prints};
 ghost use Rattle.run_step.specs.Machine.{kindOf, kindIn, advanced, advancedUnless, withLine, withSeparator};
 ghost use Rattle.run_step.specs.Machine.{withLast, sectionBy, endedIn, exitedIn, branchedTo, printedTo};
 use crate::machine;
@@ -42,7 +42,7 @@ use crate::machine::Machine;
 use crate::machine::TO_END;
 use crate::machine::TO_RECORDS;
 use edition::Edition;
-use run_operations::Printed;
+use run_print::Printed;
 
 // Pushes constant n.
 pub fn push_constant(
@@ -169,7 +169,7 @@ pub fn print(work: &mut [u8], output: &mut [u8], m: Machine, n: usize) -> Machin
 {
     let first = m.depth - n;
     let written = m.written;
-    let p = run_operations::print(work, first, n, &mut output[written..]);
+    let p = run_print::print(work, first, n, &mut output[written..]);
     match p {
         Printed::Bytes(k) => {
             let mut r = m;

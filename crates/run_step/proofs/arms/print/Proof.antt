@@ -4,8 +4,8 @@ use Prim.Native.Nat.{_-_}
 use native.Mathlib.Omega.{arith}
 use lib.ListN.{length, length-drop}
 use Rattle.buffer.proofs.Lent.{tail-lent}
-use Rattle.run_operations.specs.declared.printing.Printed.{Printed as Prints}
-use Rattle.run_operations.specs.Prints.{written}
+use Rattle.run_print.specs.declared.printing.Printed.{Printed as Prints}
+use Rattle.run_print.specs.Prints.{written}
 use Rattle.run_step.specs.Machine.{printedTo}
 use Rattle.run_step.proofs.Printing.{rest-came}
 use borrow.Author.Needs.{needs}

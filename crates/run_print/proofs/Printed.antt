@@ -19,12 +19,12 @@ use Rattle.run_room.specs.Room.{slotAt, slotsFrom, storeOf}
 use Rattle.run_room.specs.Held.{Shown, Did}
 use Rattle.run_room.specs.declared.lines.Line.{Line}
 use Rattle.run_lines.specs.Records.{ofsSlot}
-use Rattle.run_operations.specs.Prints.{InSlot, Kept, orsSlot, lineFrom, Writes, written, PrintedBy}
-use Rattle.run_operations.specs.declared.printing.Printed.{Printed}
-use Rattle.run_operations.specs.declared.printing.Printed.the-variants.{Bytes, Short}
-use Rattle.run_operations.proofs.Showing.{in-length, shown-in, kept-shown, kept-on, did-kept}
-use Rattle.run_operations.proofs.Joined.{line-kept}
-use Rattle.run_operations.proofs.Written.{put-two}
+use Rattle.run_print.specs.Prints.{InSlot, Kept, orsSlot, lineFrom, Writes, written, PrintedBy}
+use Rattle.run_print.specs.declared.printing.Printed.{Printed}
+use Rattle.run_print.specs.declared.printing.Printed.the-variants.{Bytes, Short}
+use Rattle.run_print.proofs.Showing.{in-length, shown-in, kept-shown, kept-on, did-kept}
+use Rattle.run_print.proofs.Joined.{line-kept}
+use Rattle.run_print.proofs.Written.{put-two}
 
 -- ---- the definition's print
 

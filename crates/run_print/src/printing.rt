@@ -14,7 +14,7 @@ ghost use Rattle.run_room.specs.declared.lines.Line.{Line};
 ghost use Rattle.semantics.specs.World.{World};
 ghost use Rattle.semantics.specs.Operations.{printValues};
 ghost use Rattle.run_lines.specs.Records.{ofsSlot};
-ghost use Rattle.run_operations.specs.Prints.{InSlot, Kept, ofsOf, lineFrom, Writes, written, PrintedBy};
+ghost use Rattle.run_print.specs.Prints.{InSlot, Kept, ofsOf, lineFrom, Writes, written, PrintedBy};
 
 // The slot of ORS.
 pub const ORS: usize = run_room::OPERANDS + 4;

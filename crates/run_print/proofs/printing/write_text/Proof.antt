@@ -1,9 +1,9 @@
 -- `write_text` meets its contract.
 use mathlib.Core.Path.{refl}
-use Rattle.run_operations.proofs.Written.{wrote-text}
+use Rattle.run_print.proofs.Written.{wrote-text}
 use borrow.Author.Needs.{needs}
-use Rattle.run_operations.proofs.printing.write_text.Statement.{statement}
-use Rattle.run_operations.proofs.printing.write_text.Tie as tie
+use Rattle.run_print.proofs.printing.write_text.Statement.{statement}
+use Rattle.run_print.proofs.printing.write_text.Tie as tie
 
 mul-s : tie.Need-mul-s
 mul-s c = search needs

@@ -12,10 +12,10 @@ use Rattle.run_room.specs.Layout.{headSize, slotBytes, slotCount, slotsEnd}
 use Rattle.run_room.specs.Room.{slotAt}
 use Rattle.run_room.specs.Held.{Shown}
 use Rattle.run_lines.specs.Records.{ofsSlot}
-use Rattle.run_operations.specs.Prints.{InSlot, Kept, ofsOf, lineFrom}
-use Rattle.run_operations.proofs.Showing.{in-length, in-lent, shown-length, kept-none, kept-on}
-use Rattle.run_operations.proofs.Joined.{line-one, line-more, length-more, length-mono}
-use Rattle.run_operations.proofs.Joined.{line-kept, kept-first, length-ofs, first-length}
+use Rattle.run_print.specs.Prints.{InSlot, Kept, ofsOf, lineFrom}
+use Rattle.run_print.proofs.Showing.{in-length, in-lent, shown-length, kept-none, kept-on}
+use Rattle.run_print.proofs.Joined.{line-one, line-more, length-more, length-mono}
+use Rattle.run_print.proofs.Joined.{line-kept, kept-first, length-ofs, first-length}
 
 -- ---- writes
 

@@ -1,10 +1,10 @@
 -- `write_next` meets its contract.
 use native.Mathlib.Omega.{arith}
-use Rattle.run_operations.proofs.Showing.{shown-in, shown-length, kept-shown}
-use Rattle.run_operations.proofs.Written.{wrote-next}
+use Rattle.run_print.proofs.Showing.{shown-in, shown-length, kept-shown}
+use Rattle.run_print.proofs.Written.{wrote-next}
 use borrow.Author.Needs.{needs}
-use Rattle.run_operations.proofs.printing.write_next.Statement.{statement}
-use Rattle.run_operations.proofs.printing.write_next.Tie as tie
+use Rattle.run_print.proofs.printing.write_next.Statement.{statement}
+use Rattle.run_print.proofs.printing.write_next.Tie as tie
 
 write-text-requires : tie.Need-write-text-requires
 write-text-requires c κs = search needs

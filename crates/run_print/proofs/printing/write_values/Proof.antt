@@ -1,12 +1,12 @@
 -- `write_values` meets its contract: the invariant is that the texts so far are the front of the output.
 use Prim.Native.Nat.{_-_}
 use native.Mathlib.Omega.{arith}
-use Rattle.run_operations.proofs.Showing.{shown-in}
-use Rattle.run_operations.proofs.Written.{Written, first-fits, written-first, written-length}
-use Rattle.run_operations.proofs.Written.{written-ofs, next-fits, written-next, written-all}
+use Rattle.run_print.proofs.Showing.{shown-in}
+use Rattle.run_print.proofs.Written.{Written, first-fits, written-first, written-length}
+use Rattle.run_print.proofs.Written.{written-ofs, next-fits, written-next, written-all}
 use borrow.Author.Needs.{needs}
-use Rattle.run_operations.proofs.printing.write_values.Statement.{statement}
-use Rattle.run_operations.proofs.printing.write_values.Tie as tie
+use Rattle.run_print.proofs.printing.write_values.Statement.{statement}
+use Rattle.run_print.proofs.printing.write_values.Tie as tie
 
 abbrev Inv-loop : tie.InvT-loop
 Inv-loop work₀ first n between out₀ m at₀ i₀ work out at i = Written work₀ work out₀ out first n i at

@@ -1,10 +1,10 @@
 -- `print` meets its contract: its length first, and then all of it or nothing.
 use native.Mathlib.Omega.{arith}
-use Rattle.run_operations.proofs.Printed.{ofs-in, measured, print-short}
-use Rattle.run_operations.proofs.Printed.{values-fit, ors-in, ors-fits, print-whole}
+use Rattle.run_print.proofs.Printed.{ofs-in, measured, print-short}
+use Rattle.run_print.proofs.Printed.{values-fit, ors-in, ors-fits, print-whole}
 use borrow.Author.Needs.{needs}
-use Rattle.run_operations.proofs.printing.print.Statement.{statement}
-use Rattle.run_operations.proofs.printing.print.Tie as tie
+use Rattle.run_print.proofs.printing.print.Statement.{statement}
+use Rattle.run_print.proofs.printing.print.Tie as tie
 
 show-requires : tie.Need-show-requires
 show-requires c κs = search needs

@@ -19,7 +19,7 @@ use Rattle.run_room.specs.declared.lines.Line.{Line}
 use Rattle.run_room.proofs.Outside.{outside-same, part-before, part-after}
 use Rattle.run_room.proofs.Slotwise.{slot-before, slot-after}
 use Rattle.run_room.proofs.Stored.{store-slot, held-slot}
-use Rattle.run_operations.specs.Prints.{InSlot, Kept}
+use Rattle.run_print.specs.Prints.{InSlot, Kept}
 
 -- ---- the other slots
 

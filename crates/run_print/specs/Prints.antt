@@ -16,8 +16,8 @@ use Rattle.run_room.specs.Room.{slotAt, slotsFrom, storeOf}
 use Rattle.run_room.specs.Held.{Held}
 use Rattle.run_room.specs.declared.lines.Line.{Line}
 use Rattle.run_lines.specs.Records.{ofsSlot}
-use Rattle.run_operations.specs.declared.printing.Printed.{Printed}
-use Rattle.run_operations.specs.declared.printing.Printed.the-variants.{Bytes, Short}
+use Rattle.run_print.specs.declared.printing.Printed.{Printed}
+use Rattle.run_print.specs.declared.printing.Printed.the-variants.{Bytes, Short}
 
 abbrev pub orsSlot : ℕ
 orsSlot = operandDepth + ORS

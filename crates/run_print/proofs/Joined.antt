@@ -12,8 +12,8 @@ use Rattle.run_room.specs.Layout.{slotCount, slotsEnd}
 use Rattle.run_room.specs.Room.{slotAt, slotsFrom}
 use Rattle.run_room.specs.Held.{Shown}
 use Rattle.run_lines.specs.Records.{ofsSlot}
-use Rattle.run_operations.specs.Prints.{InSlot, Kept, ofsOf, lineFrom}
-use Rattle.run_operations.proofs.Showing.{in-length, shown-in, shown-length, kept-shown, kept-none, kept-on}
+use Rattle.run_print.specs.Prints.{InSlot, Kept, ofsOf, lineFrom}
+use Rattle.run_print.proofs.Showing.{in-length, shown-in, shown-length, kept-shown, kept-none, kept-on}
 
 -- ---- one more
 

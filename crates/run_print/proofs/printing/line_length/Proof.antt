@@ -1,10 +1,10 @@
 -- `line_length` meets its contract: the invariant is that the sum is the length of the texts so far.
 use Prim.Native.Nat.{_-_}
 use native.Mathlib.Omega.{arith}
-use Rattle.run_operations.proofs.Joined.{Counted, counted-first, counted-next, counted-all}
+use Rattle.run_print.proofs.Joined.{Counted, counted-first, counted-next, counted-all}
 use borrow.Author.Needs.{needs}
-use Rattle.run_operations.proofs.printing.line_length.Statement.{statement}
-use Rattle.run_operations.proofs.printing.line_length.Tie as tie
+use Rattle.run_print.proofs.printing.line_length.Statement.{statement}
+use Rattle.run_print.proofs.printing.line_length.Tie as tie
 
 abbrev Inv-loop : tie.InvT-loop
 Inv-loop work₀ first n between sum₀ i₀ work sum i = Counted work₀ work first n i sum

@@ -1,0 +1,2 @@
+-- What the contracts on print cite.
+pub mod Prints
