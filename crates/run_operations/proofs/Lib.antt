@@ -1,4 +1,3 @@
 -- Laws of the operations.
 pub mod Decoded
-pub mod Marked
 pub mod Assigned

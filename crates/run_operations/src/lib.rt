@@ -1,11 +1,8 @@
-// Operations that need more than the values of operands: constants, variables, EREs, output.
+// Constants and variables: got, and set.
 mod constants;
-mod matching;
 mod variables;
 
 pub use constants::push_constant;
-pub use matching::match_marked;
-pub use matching::matches;
 pub use variables::Assigned;
 pub use variables::get_variable;
 pub use variables::set_variable;

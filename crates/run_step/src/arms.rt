@@ -28,7 +28,7 @@ ghost use Rattle.run_values.specs.Answers.{TruthBy};
 ghost use Rattle.run_values.specs.declared.numbers.Truth.{Truth};
 ghost use Rattle.run_operations.specs.Constants.{Fits, Decodes};
 ghost use Rattle.run_operations.specs.Assigns.{Known, Assigns};
-ghost use Rattle.run_operations.specs.Marks.{Searches, Locates, markedIn};
+ghost use Rattle.run_match.specs.Marks.{Searches, Locates, markedIn};
 ghost use Rattle.run_print.specs.Prints.{Writes, written, PrintedBy};
 ghost use Rattle.run_print.specs.declared.printing.Printed.{Printed as Prints};
 ghost use Rattle.run_step.specs.Machine.{kindOf, kindIn, advanced, advancedUnless, withLine, withSeparator};
@@ -277,7 +277,7 @@ pub fn matches(
     let automaton = run_automata::automaton_of(pool, n);
     let mut r = m;
     r.last = prepare_table(image, eres, edition, automaton.len(), shared, m.last, n);
-    run_operations::matches(work, automaton, shared, d - 1);
+    run_match::matches(work, automaton, shared, d - 1);
     r.on(d)
 }
 
@@ -313,6 +313,6 @@ pub fn match_marked(
     let automata = run_automata::automaton_of(pool, Edition::ERES + n);
     let mut r = m;
     r.last = prepare_table(image, eres, edition, automata.len(), shared, m.last, n);
-    run_operations::match_marked(work, automata, shared, d - 1);
+    run_match::match_marked(work, automata, shared, d - 1);
     r.on(d)
 }

@@ -1,8 +1,8 @@
 -- `mark` meets its contract.
-use Rattle.run_operations.proofs.Marked.{marks}
+use Rattle.run_match.proofs.Marked.{marks}
 use borrow.Author.Needs.{needs}
-use Rattle.run_operations.proofs.matching.mark.Statement.{statement}
-use Rattle.run_operations.proofs.matching.mark.Tie as tie
+use Rattle.run_match.proofs.matching.mark.Statement.{statement}
+use Rattle.run_match.proofs.matching.mark.Tie as tie
 
 set-number-requires : tie.Need-set-number-requires
 set-number-requires c κs = search needs

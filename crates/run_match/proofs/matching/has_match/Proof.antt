@@ -1,7 +1,7 @@
 -- `has_match` meets its contract: each branch is a search.
 use native.Mathlib.Omega.{arith}
-use Rattle.run_operations.proofs.matching.has_match.Statement.{statement}
-use Rattle.run_operations.proofs.matching.has_match.Tie as tie
+use Rattle.run_match.proofs.matching.has_match.Statement.{statement}
+use Rattle.run_match.proofs.matching.has_match.Tie as tie
 
 exists-requires : tie.Need-exists-requires
 exists-requires c κs = (c .before .before .before .before .pre .1, c .before .before .before .before .pre .2)

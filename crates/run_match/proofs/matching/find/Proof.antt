@@ -1,8 +1,8 @@
 -- `find` meets its contract: each branch is a search.
 use native.Mathlib.Omega.{arith}
 use borrow.Author.Needs.{needs}
-use Rattle.run_operations.proofs.matching.find.Statement.{statement}
-use Rattle.run_operations.proofs.matching.find.Tie as tie
+use Rattle.run_match.proofs.matching.find.Statement.{statement}
+use Rattle.run_match.proofs.matching.find.Tie as tie
 
 find-from-requires : tie.Need-find-from-requires
 find-from-requires c κs = search needs

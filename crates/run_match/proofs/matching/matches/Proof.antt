@@ -1,9 +1,9 @@
 -- `matches` meets its contract: the text is shown, and it has a match where the definition finds one.
 use mathlib.Core.Path.{refl}
-use Rattle.run_operations.proofs.Marked.{tested}
+use Rattle.run_match.proofs.Marked.{tested}
 use borrow.Author.Needs.{needs}
-use Rattle.run_operations.proofs.matching.matches.Statement.{statement}
-use Rattle.run_operations.proofs.matching.matches.Tie as tie
+use Rattle.run_match.proofs.matching.matches.Statement.{statement}
+use Rattle.run_match.proofs.matching.matches.Tie as tie
 
 show-requires : tie.Need-show-requires
 show-requires c κs = search needs

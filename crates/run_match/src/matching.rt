@@ -15,7 +15,7 @@ ghost use Rattle.ere_exists.specs.Any.{isMatch};
 ghost use Rattle.ere_automaton.specs.Automaton.{Ranged};
 ghost use Rattle.ere_automaton.specs.Follows.{SeekRanged};
 ghost use Rattle.values.specs.Value.{textOf, truthValue};
-ghost use Rattle.run_operations.specs.Marks.{Searches, Told, Locates, FoundBy, markedIn, Marks};
+ghost use Rattle.run_match.specs.Marks.{Searches, Told, Locates, FoundBy, markedIn, Marks};
 use ere_search::Found;
 
 // Tells whether a text has a match of an ERE: by its automaton, or where that is empty by its table.

@@ -1,10 +1,10 @@
 -- `match_marked` meets its contract: the text is shown, and the match in it is the one that the definition finds.
 use mathlib.Core.Path.{refl}
 use native.Mathlib.Omega.{arith}
-use Rattle.run_operations.proofs.Marked.{found-inside, matched-at, matched-none}
+use Rattle.run_match.proofs.Marked.{found-inside, matched-at, matched-none}
 use borrow.Author.Needs.{needs}
-use Rattle.run_operations.proofs.matching.match_marked.Statement.{statement}
-use Rattle.run_operations.proofs.matching.match_marked.Tie as tie
+use Rattle.run_match.proofs.matching.match_marked.Statement.{statement}
+use Rattle.run_match.proofs.matching.match_marked.Tie as tie
 
 show-requires : tie.Need-show-requires
 show-requires c κs = search needs

@@ -1,0 +1,2 @@
+-- The laws on matches.
+pub mod Marked

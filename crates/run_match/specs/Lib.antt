@@ -1,0 +1,2 @@
+-- What the contracts on matches cite.
+pub mod Marks
