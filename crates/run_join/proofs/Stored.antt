@@ -22,7 +22,7 @@ use Rattle.run_room.proofs.Stored.{store-slot, held-slot, did-nothing, did-so}
 use Rattle.run_lines.specs.Records.{ofsSlot, Safe, InForce, Same, Becomes}
 use Rattle.run_lines.specs.Numbers.{FieldBy}
 use Rattle.run_lines.specs.declared.numbers.FieldNumber.{FieldNumber}
-use Rattle.run_records.proofs.Started.{same}
+use Rattle.run_input.proofs.Started.{same}
 use Rattle.run_join.specs.Stores.{Stands, Assigns, Effected, Stores}
 
 -- the slots of two rooms that stand for the same but for the record

@@ -17,7 +17,7 @@ ghost use Rattle.run_lines.specs.Records.{ofsSlot, Safe, InForce, Becomes};
 ghost use Rattle.run_join.specs.Stores.{Assigns, Stores};
 use edition::Edition;
 use edition::Outcome;
-use run_records::Begun;
+use run_input::Begun;
 use run_room::Line;
 use separators::Kind;
 

@@ -23,7 +23,7 @@ use Rattle.run_room.specs.declared.lines.Line.{Line}
 use Rattle.run_room.proofs.Stored.{did-nothing}
 use Rattle.run_lines.specs.Records.{Safe, InForce, BegunBy, Began, refusal, Same, Becomes}
 use Rattle.run_lines.proofs.Stored.{store-shown, held-shown}
-use Rattle.run_records.proofs.Started.{no-separator, separator-told, same, becomes}
+use Rattle.run_input.proofs.Started.{no-separator, separator-told, same, becomes}
 
 split-none : (edition : ℕ) (w : World) (a : Value) → separatorOf edition (special w FS) ≡ none → assigned edition w 0 a ≡ stops (stop badSeparator)
 unfolding splitBy

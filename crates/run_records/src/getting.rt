@@ -14,8 +14,8 @@ ghost use Rattle.run_room.specs.Layout.{slotCount, baseEnd};
 ghost use Rattle.run_room.specs.Room.{slotAt, lineOf, fieldsOf, Lined, storeOf, withSlot};
 ghost use Rattle.run_room.specs.Held.{Slotted, Did};
 ghost use Rattle.run_lines.specs.Records.{Safe, InForce, knownField, Leaves};
-use crate::beginning::Begun;
 use edition::Edition;
+use run_input::Begun;
 use run_room::Line;
 use separators::Kind;
 

@@ -10,9 +10,8 @@ ghost use Rattle.run_room.specs.Layout.{slotCount, baseEnd};
 ghost use Rattle.run_room.specs.Room.{slotAt, Lined};
 ghost use Rattle.run_room.specs.Held.{Did};
 ghost use Rattle.run_lines.specs.Records.{Safe, Becomes};
-use crate::beginning;
-use crate::beginning::Begun;
 use edition::Edition;
+use run_input::Begun;
 use run_room::Line;
 use separators::Kind;
 
@@ -32,7 +31,7 @@ pub fn set_record(
         → Becomes (edition .number) (special w FS) (now (work .entry)) (now (work .exit)) line (r .line) (r .outcome)
         (assigned (edition .number) w 0 (slotAt (now (work .entry)) v))) ⌝ }
 {
-    let o = beginning::refusal_of(kind);
+    let o = run_input::refusal_of(kind);
     if o != 0 {
         return Begun {
             outcome: o,
@@ -40,7 +39,7 @@ pub fn set_record(
         };
     }
     let n = run_room::show(work, v);
-    beginning::begin_part(
+    run_input::begin_part(
         work,
         t,
         kind,

@@ -20,7 +20,7 @@ ghost use Rattle.run_room.specs.Room.{slotAt, slotsFrom, lineOf, fieldsOf, Line
 ghost use Rattle.run_room.specs.Held.{Did};
 ghost use Rattle.run_room.specs.declared.lines.Line.{Line};
 ghost use Rattle.run_lines.specs.Records.{Safe, InForce, Leaves};
-ghost use Rattle.run_records.specs.declared.beginning.Begun.{Begun};
+ghost use Rattle.run_input.specs.declared.beginning.Begun.{Begun};
 ghost use Rattle.run_join.specs.Stores.{Stores};
 ghost use Rattle.run_image.specs.Table.{Readable, Prepared};
 ghost use Rattle.run_automata.specs.Automata.{automatonIn, Pooled};

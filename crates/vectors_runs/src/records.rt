@@ -14,7 +14,7 @@ use crate::slots;
 use crate::slots::ROOM;
 use edition::Edition;
 use ere_table::TABLE_WORDS;
-use run_records::Begun;
+use run_input::Begun;
 use run_room::Line;
 use separators::Kind;
 
@@ -121,7 +121,7 @@ fn answers(
         after: 1,
     };
     let count = vectors_frames::word(p, 4);
-    let read = run_records::read_record(work, t, kind, edition, empty, count, record);
+    let read = run_input::read_record(work, t, kind, edition, empty, count, record);
     let first = assign(work, t, kind, edition, read.line, 0);
     let second = assign(work, t, kind, edition, first.line, 2);
     let got = get(work, t, kind, edition, second.line);

@@ -7,8 +7,8 @@ use Rattle.run_records.proofs.replacing.set_record.Statement.{statement
 use Rattle.run_records.proofs.replacing.set_record.Tie as tie
 use Rattle.run_records.proofs.replacing.set_record.Reads as reads
 use Rattle.run_records.proofs.replacing.set_record.Lts as lts
-use Rattle.run_records.proofs.beginning.begin_part.Reads as begin-part-reads
-use Rattle.run_records.proofs.beginning.refusal_of.Reads as refusal-of-reads
+use Rattle.run_input.proofs.begin_part.Reads as begin-part-reads
+use Rattle.run_input.proofs.refusal_of.Reads as refusal-of-reads
 use Rattle.run_room.proofs.show.Reads as show-reads
 
 refusal-of-requires : tie.Need-refusal-of-requires
