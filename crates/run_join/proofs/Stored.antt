@@ -20,8 +20,8 @@ use Rattle.run_room.specs.declared.lines.Line.{Line}
 use Rattle.run_room.proofs.Slotwise.{getD-slots}
 use Rattle.run_room.proofs.Stored.{store-slot, held-slot, did-nothing, did-so}
 use Rattle.run_lines.specs.Records.{ofsSlot, Safe, InForce, Same, Becomes}
-use Rattle.run_lines.specs.Numbers.{FieldBy}
-use Rattle.run_lines.specs.declared.numbers.FieldNumber.{FieldNumber}
+use Rattle.run_numbers.specs.Numbers.{FieldBy}
+use Rattle.run_numbers.specs.declared.numbers.FieldNumber.{FieldNumber}
 use Rattle.run_input.proofs.Started.{same}
 use Rattle.run_join.specs.Stores.{Stands, Assigns, Effected, Stores}
 

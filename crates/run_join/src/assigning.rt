@@ -108,7 +108,7 @@ pub fn store_field(
     ensures { λ r. ⌜ Stores (edition .number) (now (t .entry)) kind (now (work .entry)) (now (work .exit)) line
         (r .line) a (r .outcome) ⌝ }
 {
-    let f = run_lines::field_number(work, a);
+    let f = run_numbers::field_number(work, a);
     if f.stop != 0 {
         return Begun {
             outcome: f.stop,

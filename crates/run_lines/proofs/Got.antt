@@ -26,8 +26,8 @@ use Rattle.run_room.proofs.Slotwise.{slot-before}
 use Rattle.run_room.proofs.Entrywise.{length-entries}
 use Rattle.run_room.proofs.Stored.{store-slot, held-slot, did-nothing, did-so}
 use Rattle.run_lines.specs.Records.{fsSlot, Safe, Pends, InForce, Splits, SplitsAll, knownField, SeparatorOf, Leaves}
-use Rattle.run_lines.specs.Numbers.{FieldBy}
-use Rattle.run_lines.specs.declared.numbers.FieldNumber.{FieldNumber}
+use Rattle.run_numbers.specs.Numbers.{FieldBy}
+use Rattle.run_numbers.specs.declared.numbers.FieldNumber.{FieldNumber}
 use Rattle.run_lines.proofs.Turn.{line-kept, lined-few, splits-pends, splits-lined}
 use Rattle.run_lines.proofs.Stored.{force-pends, store-split, store-all, all-lined, all-known, known-field}
 

@@ -2,4 +2,3 @@
 pub mod Turn
 pub mod Stored
 pub mod Got
-pub mod Numbered

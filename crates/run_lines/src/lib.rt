@@ -1,14 +1,9 @@
 // The record in the working room: fields split off as far as one is asked for, FS, and numbers of fields.
 mod lines;
-mod numbers;
 mod separating;
 
 pub use lines::split_all;
 pub use lines::split_to;
-pub use numbers::FieldNumber;
-pub use numbers::Taken;
-pub use numbers::field_number;
-pub use numbers::take_number;
 pub use separating::FS;
 pub use separating::OFS;
 pub use separating::separator_of;

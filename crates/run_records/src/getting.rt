@@ -101,7 +101,7 @@ pub fn load_field(
         → Leaves (edition .number) fs s w (now (work .entry)) (now (work .exit)) line (r .line) a (r .outcome)
         (getField (slotAt (now (work .entry)) a) w)) ⌝ }
 {
-    let f = run_lines::field_number(work, a);
+    let f = run_numbers::field_number(work, a);
     if f.stop != 0 {
         return Begun {
             outcome: f.stop,

@@ -127,11 +127,11 @@ pub fn substr(work: &mut [u8], a: usize) -> u64
         (substrOf (slotAt (now (work .entry)) a) (slotAt (now (work .entry)) (a + 1))
         (slotAt (now (work .entry)) (a + 2))) ⌝ }
 {
-    let x = run_lines::take_number(work, a + 1);
+    let x = run_numbers::take_number(work, a + 1);
     if x.stop != 0 {
         return x.stop;
     }
-    let y = run_lines::take_number(work, a + 2);
+    let y = run_numbers::take_number(work, a + 2);
     if y.stop != 0 {
         return y.stop;
     }

@@ -10,8 +10,8 @@ use Rattle.number.specs.Answers.{answerOf, Computes}
 use Rattle.number.specs.declared.arithmetic.Computed.{Computed}
 use Rattle.values.specs.Value.{Value, stop, Result, gives, stops, result, numberOf}
 use Rattle.values.specs.Operations.{computed, aNumber, arithmeticOf, negateOf}
-use Rattle.run_lines.specs.Numbers.{TakenBy}
-use Rattle.run_lines.specs.declared.numbers.Taken.{Taken}
+use Rattle.run_numbers.specs.Numbers.{TakenBy}
+use Rattle.run_numbers.specs.declared.numbers.Taken.{Taken}
 use Rattle.run_values.specs.Codes.{arithmeticBy}
 
 -- ---- a number that was taken, or the stop

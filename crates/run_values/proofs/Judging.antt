@@ -23,8 +23,8 @@ use Rattle.values.specs.Value.{Value, unset, number, text, field-text, stop, Re
 use Rattle.values.specs.Value.{numberOf, numeric, nonzero, truthOf, truthValue}
 use Rattle.values.specs.Operations.{notOf, orderOf, holds, compareOf}
 use Rattle.run_room.specs.Room.{kindOf, isNumber}
-use Rattle.run_lines.specs.Numbers.{TakenBy}
-use Rattle.run_lines.specs.declared.numbers.Taken.{Taken}
+use Rattle.run_numbers.specs.Numbers.{TakenBy}
+use Rattle.run_numbers.specs.declared.numbers.Taken.{Taken}
 use Rattle.run_values.specs.Answers.{JudgedBy, TruthBy}
 use Rattle.run_values.specs.declared.numbers.Judged.{Judged}
 use Rattle.run_values.specs.declared.numbers.Truth.{Truth}

@@ -29,8 +29,8 @@ use Rattle.run_room.specs.Room.{slotAt}
 use Rattle.run_room.specs.Held.{Slotted, Shown}
 use Rattle.run_room.proofs.Outside.{part-before, outside-put, outside-on}
 use Rattle.run_room.proofs.Slotwise.{slot-after, part-less}
-use Rattle.run_lines.specs.Numbers.{TakenBy}
-use Rattle.run_lines.specs.declared.numbers.Taken.{Taken}
+use Rattle.run_numbers.specs.Numbers.{TakenBy}
+use Rattle.run_numbers.specs.declared.numbers.Taken.{Taken}
 use Rattle.run_values.specs.Left.{Left, Unchanged}
 use Rattle.run_values.proofs.Steps.{same-shown, same-on, left-slot}
 use Rattle.run_values.proofs.Computing.{taken-gives}

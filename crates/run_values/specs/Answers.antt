@@ -3,7 +3,7 @@ use mathlib.Core.Path.{_≡_}
 use mathlib.Core.Bool.{Bool, true}
 use Prim.Native.Nat.{ℕ}
 use Rattle.values.specs.Value.{Value, stop, Result, gives, stops, numberOf, numeric}
-use Rattle.run_lines.specs.Numbers.{TakenBy}
+use Rattle.run_numbers.specs.Numbers.{TakenBy}
 use Rattle.run_values.specs.declared.numbers.Judged.{Judged}
 use Rattle.run_values.specs.declared.numbers.Truth.{Truth}
 

@@ -50,11 +50,11 @@ pub fn calculate(work: &mut [u8], a: usize, code: u64) -> u64
         (arithmeticOf (arithmeticBy code) (slotAt (now (work .entry)) a) (slotAt (now (work .entry)) (a + 1))) ⌝ }
 {
     let b = a + 1;
-    let left = run_lines::take_number(work, a);
+    let left = run_numbers::take_number(work, a);
     if left.stop != 0 {
         return left.stop;
     }
-    let right = run_lines::take_number(work, b);
+    let right = run_numbers::take_number(work, b);
     if right.stop != 0 {
         return right.stop;
     }
@@ -66,7 +66,7 @@ pub fn negate(work: &mut [u8], a: usize) -> u64
     requires { ⌜ (slotsEnd ≤ length (now work)) × (a < slotCount) ⌝ }
     ensures { λ r. ⌜ Left (now (work .entry)) (now (work .exit)) a r (negateOf (slotAt (now (work .entry)) a)) ⌝ }
 {
-    let x = run_lines::take_number(work, a);
+    let x = run_numbers::take_number(work, a);
     if x.stop != 0 {
         return x.stop;
     }
@@ -78,7 +78,7 @@ pub fn to_number(work: &mut [u8], a: usize) -> u64
     requires { ⌜ (slotsEnd ≤ length (now work)) × (a < slotCount) ⌝ }
     ensures { λ r. ⌜ Left (now (work .entry)) (now (work .exit)) a r (toNumberOf (slotAt (now (work .entry)) a)) ⌝ }
 {
-    let x = run_lines::take_number(work, a);
+    let x = run_numbers::take_number(work, a);
     if x.stop != 0 {
         return x.stop;
     }

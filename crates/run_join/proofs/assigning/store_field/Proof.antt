@@ -10,7 +10,7 @@ use Rattle.run_join.proofs.assigning.store_field.Tie as tie
 use Rattle.run_join.proofs.assigning.store_field.Reads as reads
 use Rattle.run_join.proofs.assigning.store_field.Lts as lts
 use Rattle.run_join.proofs.assigning.assign.Reads as assign-reads
-use Rattle.run_lines.proofs.field_number.Reads as field-number-reads
+use Rattle.run_numbers.proofs.field_number.Reads as field-number-reads
 use Rattle.run_room.proofs.copy_slot.Reads as copy-slot-reads
 
 field-number-requires : tie.Need-field-number-requires

@@ -9,7 +9,7 @@ use Rattle.run_records.proofs.getting.load_field.Tie as tie
 use Rattle.run_records.proofs.getting.load_field.Reads as reads
 use Rattle.run_records.proofs.getting.load_field.Lts as lts
 use Rattle.run_records.proofs.getting.get_field.Reads as get-field-reads
-use Rattle.run_lines.proofs.field_number.Reads as field-number-reads
+use Rattle.run_numbers.proofs.field_number.Reads as field-number-reads
 
 field-number-requires : tie.Need-field-number-requires
 field-number-requires c κs = search needs

@@ -1,7 +1,7 @@
 -- `judge` meets its contract, by the value's kind.
 use mathlib.Core.Path.{refl}
 use native.Mathlib.Omega.{arith}
-use Rattle.run_lines.proofs.Numbered.{kind-text, taken-number, taken-unset}
+use Rattle.run_numbers.proofs.Numbered.{kind-text, taken-number, taken-unset}
 use Rattle.run_room.specs.Room.{slotAt}
 use Rattle.run_values.proofs.Judging.{judged-number, judged-text, judged-field}
 use borrow.Author.Needs.{needs}

@@ -1,7 +1,7 @@
 -- `judge_field` meets its contract, by the reading of the text.
 use mathlib.Core.Path.{refl}
 use Rattle.numeral.specs.Judgement.{numberOf}
-use Rattle.run_lines.proofs.Numbered.{taken-is, taken-out, taken-part}
+use Rattle.run_numbers.proofs.Numbered.{taken-is, taken-out, taken-part}
 use Rattle.run_values.proofs.Judging.{judged-look}
 use borrow.Author.Needs.{needs}
 use Rattle.run_values.proofs.numbers.judge_field.Statement.{statement}

@@ -1,12 +1,12 @@
 -- `text_number` meets its contract, by the reading of the text.
 use mathlib.Core.Path.{refl}
 use Rattle.numeral.specs.Judgement.{numberOf}
-use Rattle.run_lines.proofs.Numbered.{taken-is, taken-out, taken-part}
+use Rattle.run_numbers.proofs.Numbered.{taken-is, taken-out, taken-part}
 use borrow.Author.Needs.{needs}
-use Rattle.run_lines.proofs.numbers.text_number.Statement.{statement}
-use Rattle.run_lines.proofs.numbers.text_number.Tie as tie
-use Rattle.run_lines.proofs.numbers.text_number.Reads as reads
-use Rattle.run_lines.proofs.numbers.text_number.Lts as lts
+use Rattle.run_numbers.proofs.numbers.text_number.Statement.{statement}
+use Rattle.run_numbers.proofs.numbers.text_number.Tie as tie
+use Rattle.run_numbers.proofs.numbers.text_number.Reads as reads
+use Rattle.run_numbers.proofs.numbers.text_number.Lts as lts
 use Rattle.numeral.proofs.read_number.Reads as read-number-reads
 
 read-number-requires : tie.Need-read-number-requires

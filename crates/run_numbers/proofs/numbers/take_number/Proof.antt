@@ -2,13 +2,13 @@
 use mathlib.Core.Path.{refl}
 use native.Mathlib.Omega.{arith}
 use Rattle.run_room.specs.Room.{slotAt}
-use Rattle.run_lines.proofs.Numbered.{taken-number, taken-unset, taken-text, kind-text}
+use Rattle.run_numbers.proofs.Numbered.{taken-number, taken-unset, taken-text, kind-text}
 use borrow.Author.Needs.{needs}
-use Rattle.run_lines.proofs.numbers.take_number.Statement.{statement}
-use Rattle.run_lines.proofs.numbers.take_number.Tie as tie
-use Rattle.run_lines.proofs.numbers.take_number.Reads as reads
-use Rattle.run_lines.proofs.numbers.take_number.Lts as lts
-use Rattle.run_lines.proofs.numbers.text_number.Reads as text-number-reads
+use Rattle.run_numbers.proofs.numbers.take_number.Statement.{statement}
+use Rattle.run_numbers.proofs.numbers.take_number.Tie as tie
+use Rattle.run_numbers.proofs.numbers.take_number.Reads as reads
+use Rattle.run_numbers.proofs.numbers.take_number.Lts as lts
+use Rattle.run_numbers.proofs.numbers.text_number.Reads as text-number-reads
 use Rattle.run_room.proofs.slot_kind.Reads as slot-kind-reads
 use Rattle.run_room.proofs.slot_number.Reads as slot-number-reads
 use Rattle.run_room.proofs.slot_text.Reads as slot-text-reads

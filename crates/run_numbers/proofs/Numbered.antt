@@ -18,9 +18,9 @@ use Rattle.numeral.specs.declared.reading.Value.the-variants.{Is, OutOfRange, N
 use Rattle.values.specs.Value.{Value, unset, number, text, field-text, stop, Result, gives, stops, bind, result, textOf, numberOf}
 use Rattle.values.specs.Operations.{fieldIn, fieldNumber}
 use Rattle.run_room.specs.Room.{kindOf, isNumber}
-use Rattle.run_lines.specs.Numbers.{TakenBy, FieldBy}
-use Rattle.run_lines.specs.declared.numbers.Taken.{Taken}
-use Rattle.run_lines.specs.declared.numbers.FieldNumber.{FieldNumber}
+use Rattle.run_numbers.specs.Numbers.{TakenBy, FieldBy}
+use Rattle.run_numbers.specs.declared.numbers.Taken.{Taken}
+use Rattle.run_numbers.specs.declared.numbers.FieldNumber.{FieldNumber}
 
 -- ---- a text
 

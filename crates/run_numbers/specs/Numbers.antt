@@ -5,8 +5,8 @@ use lib.IntN.{ℤ}
 use Rattle.edition.specs.Limits.{fieldCount}
 use Rattle.number.specs.Range.{unbias, top}
 use Rattle.values.specs.Value.{stop, Result, gives, stops}
-use Rattle.run_lines.specs.declared.numbers.Taken.{Taken}
-use Rattle.run_lines.specs.declared.numbers.FieldNumber.{FieldNumber}
+use Rattle.run_numbers.specs.declared.numbers.Taken.{Taken}
+use Rattle.run_numbers.specs.declared.numbers.FieldNumber.{FieldNumber}
 
 abbrev pub TakenBy : Result ℤ → Taken → Type 0
 TakenBy (gives z) r = (r .stop ≡ 0) × (z ≡ unbias (r .word)) × (r .word ≤ top)

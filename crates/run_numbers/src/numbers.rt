@@ -7,7 +7,7 @@ ghost use Rattle.values.specs.Value.{result, numberOf};
 ghost use Rattle.values.specs.Operations.{fieldNumber};
 ghost use Rattle.run_room.specs.Layout.{slotsEnd, slotCount};
 ghost use Rattle.run_room.specs.Room.{slotAt};
-ghost use Rattle.run_lines.specs.Numbers.{TakenBy, FieldBy};
+ghost use Rattle.run_numbers.specs.Numbers.{TakenBy, FieldBy};
 use edition::Edition;
 use numeral::Value;
 

@@ -2,13 +2,13 @@
 use mathlib.Core.Path.{refl}
 use native.Mathlib.Omega.{arith}
 use Rattle.run_room.specs.Room.{slotAt}
-use Rattle.run_lines.proofs.Numbered.{field-stops, field-low, field-over, field-some}
+use Rattle.run_numbers.proofs.Numbered.{field-stops, field-low, field-over, field-some}
 use borrow.Author.Needs.{needs}
-use Rattle.run_lines.proofs.numbers.field_number.Statement.{statement}
-use Rattle.run_lines.proofs.numbers.field_number.Tie as tie
-use Rattle.run_lines.proofs.numbers.field_number.Reads as reads
-use Rattle.run_lines.proofs.numbers.field_number.Lts as lts
-use Rattle.run_lines.proofs.numbers.take_number.Reads as take-number-reads
+use Rattle.run_numbers.proofs.numbers.field_number.Statement.{statement}
+use Rattle.run_numbers.proofs.numbers.field_number.Tie as tie
+use Rattle.run_numbers.proofs.numbers.field_number.Reads as reads
+use Rattle.run_numbers.proofs.numbers.field_number.Lts as lts
+use Rattle.run_numbers.proofs.numbers.take_number.Reads as take-number-reads
 
 take-number-requires : tie.Need-take-number-requires
 take-number-requires c κs = search needs

@@ -1,0 +1,2 @@
+-- The laws on field numbers.
+pub mod Numbered

@@ -1,0 +1,2 @@
+-- What the contracts on field numbers cite.
+pub mod Numbers
