@@ -51,7 +51,7 @@ pub fn set_field(
         → Becomes (edition .number) fs (now (work .entry)) (now (work .exit)) line (r .line) (r .outcome)
         (assigned (edition .number) w (suc k) (slotAt (now (work .entry)) v))) ⌝ }
 {
-    let n = run_room::show(work, run_lines::OFS);
+    let n = run_room::show(work, run_separator::OFS);
     let all = run_lines::split_all(work, t, kind, edition, line);
     let count = field_count(all.known, k);
     if run_parts::too_long(work, all, k, v, count, n) {
@@ -60,7 +60,7 @@ pub fn set_field(
             line: all,
         };
     }
-    let from = run_lines::OFS * run_room::SLOT + run_room::HEAD;
+    let from = run_separator::OFS * run_room::SLOT + run_room::HEAD;
     let at = run_parts::join_all(work, all, k, v, count, from, n);
     Begun {
         outcome: 0,

@@ -75,15 +75,15 @@ pub fn set_variable(
         (Assigns (edition .number) (now (t .entry)) (now (t .exit)) kind (r .kind)
         (now (work .entry)) (now (work .exit)) line (r .line) v a) ⌝ }
 {
-    if run_room::OPERANDS + v != run_lines::FS {
+    if run_room::OPERANDS + v != run_separator::FS {
         run_room::copy_slot(work, a, run_room::OPERANDS + v);
         return Assigned {
             line: line,
             kind: kind,
         };
     }
-    let r = run_lines::set_separator(work, t, kind, edition, line, a);
-    let next = run_lines::separator_of(work, edition, t);
+    let r = run_separator::set_separator(work, t, kind, edition, line, a);
+    let next = run_separator::separator_of(work, edition, t);
     Assigned {
         line: r,
         kind: next,

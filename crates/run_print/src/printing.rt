@@ -63,7 +63,7 @@ fn write_next(work: &mut [u8], i: usize, between: usize, out: &mut [u8], at: usi
         ≡ put (now (out .entry)) at (ofsOf (now (work .entry)) ++ textOf (slotAt (now (work .entry)) i)))
         × (r ≡ at + (between + length (textOf (slotAt (now (work .entry)) i)))) ⌝ }
 {
-    let from = write_text(work, run_lines::OFS, between, out, at);
+    let from = write_text(work, run_separator::OFS, between, out, at);
     let n = run_room::show(work, i);
     write_text(work, i, n, out, from)
 }
@@ -98,7 +98,7 @@ pub fn print(work: &mut [u8], first: usize, n: usize, out: &mut [u8]) -> Printed
         → PrintedBy w (now (out .entry)) (now (out .exit)) r
         (printValues (slotsFrom first n (now (work .entry))) w)))) ⌝ }
 {
-    let between = run_room::show(work, run_lines::OFS);
+    let between = run_room::show(work, run_separator::OFS);
     let end = run_room::show(work, ORS);
     let size = line_length(work, first, n, between) + end;
     if out.len() < size {

@@ -27,8 +27,8 @@ const RECORD: usize = 6;
 
 // Sets the slots before.
 fn loads(work: &mut [u8; ROOM], rest: &[u8]) -> bool {
-    slots::set(work, run_lines::FS, slots::value(rest, 3))
-        && slots::set(work, run_lines::OFS, slots::value(rest, 4))
+    slots::set(work, run_separator::FS, slots::value(rest, 3))
+        && slots::set(work, run_separator::OFS, slots::value(rest, 4))
         && slots::set(work, 0, slots::value(rest, 6))
         && slots::set(work, 1, slots::value(rest, 7))
         && slots::set(work, 2, slots::value(rest, 8))
@@ -137,7 +137,7 @@ fn runs(work: &mut [u8; ROOM], p: &[u8], rest: &[u8]) -> bool {
         number: Edition::FIRST,
     };
     let mut t = [0u64; TABLE_WORDS];
-    let kind = run_lines::separator_of(work, edition, &mut t);
+    let kind = run_separator::separator_of(work, edition, &mut t);
     let record = slots::bytes_of(slots::value(rest, 5));
     answers(work, &t, kind, edition, p, record)
 }

@@ -2,7 +2,7 @@
 use native.Mathlib.Omega.{arith}
 use Rattle.values.specs.Operations.{fieldNumber}
 use Rattle.run_room.specs.Room.{slotAt}
-use Rattle.run_lines.proofs.Got.{field-most}
+use Rattle.run_separator.proofs.Got.{field-most}
 use Rattle.run_join.proofs.Stored.{stores-stop, stores-refused, stores-value}
 use borrow.Author.Needs.{needs}
 use Rattle.run_join.proofs.assigning.store_field.Statement.{statement}

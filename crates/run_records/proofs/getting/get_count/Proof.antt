@@ -1,6 +1,6 @@
 -- `get_count` meets its contract.
 use mathlib.Core.Path.{refl}
-use Rattle.run_lines.proofs.Got.{counted-all}
+use Rattle.run_separator.proofs.Got.{counted-all}
 use borrow.Author.Needs.{needs}
 use Rattle.run_records.proofs.getting.get_count.Statement.{statement}
 use Rattle.run_records.proofs.getting.get_count.Tie as tie

@@ -1,5 +1,5 @@
 -- `get_field` meets its contract.
-use Rattle.run_lines.proofs.Got.{got}
+use Rattle.run_separator.proofs.Got.{got}
 use borrow.Author.Needs.{needs}
 use Rattle.run_records.proofs.getting.get_field.Statement.{statement}
 use Rattle.run_records.proofs.getting.get_field.Tie as tie

@@ -2,7 +2,7 @@
 use native.Mathlib.Omega.{arith}
 use Rattle.values.specs.Operations.{fieldNumber}
 use Rattle.run_room.specs.Room.{slotAt}
-use Rattle.run_lines.proofs.Got.{field-most, load-stop, load-field}
+use Rattle.run_separator.proofs.Got.{field-most, load-stop, load-field}
 use borrow.Author.Needs.{needs}
 use Rattle.run_records.proofs.getting.load_field.Statement.{statement}
 use Rattle.run_records.proofs.getting.load_field.Tie as tie

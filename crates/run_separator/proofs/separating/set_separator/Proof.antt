@@ -1,13 +1,13 @@
 -- `set_separator` meets its contract.
 use native.Mathlib.Omega.{arith}
 use Rattle.run_lines.specs.Records.{fsSlot}
-use Rattle.run_lines.proofs.Got.{set-all}
+use Rattle.run_separator.proofs.Got.{set-all}
 use borrow.Author.Needs.{needs}
-use Rattle.run_lines.proofs.separating.set_separator.Statement.{statement}
-use Rattle.run_lines.proofs.separating.set_separator.Tie as tie
-use Rattle.run_lines.proofs.separating.set_separator.Reads as reads
-use Rattle.run_lines.proofs.separating.set_separator.Lts as lts
-use Rattle.run_lines.proofs.lines.split_all.Reads as split-all-reads
+use Rattle.run_separator.proofs.separating.set_separator.Statement.{statement}
+use Rattle.run_separator.proofs.separating.set_separator.Tie as tie
+use Rattle.run_separator.proofs.separating.set_separator.Reads as reads
+use Rattle.run_separator.proofs.separating.set_separator.Lts as lts
+use Rattle.run_lines.proofs.split_all.Reads as split-all-reads
 use Rattle.run_room.proofs.copy_slot.Reads as copy-slot-reads
 
 split-all-requires : tie.Need-split-all-requires

@@ -9,8 +9,7 @@ ghost use Rattle.separators.specs.Kinds.{Sized, Tells};
 ghost use Rattle.run_room.specs.Layout.{slotCount, slotsEnd, baseEnd};
 ghost use Rattle.run_room.specs.Room.{slotAt, Lined, storeOf, withSlot};
 ghost use Rattle.run_room.specs.Held.{Did};
 ghost use Rattle.run_lines.specs.Records.{fsSlot, Safe, InForce, SeparatorOf};
-use crate::lines;
 use edition::Edition;
 use run_room::Line;
 use separators::Kind;
@@ -37,7 +36,7 @@ pub fn set_separator(
         → storeOf (now (work .exit)) r s'
         ≡ withSlot (storeOf (now (work .entry)) line s) fsSlot (slotAt (now (work .entry)) from))) ⌝ }
 {
-    let r = lines::split_all(work, t, kind, edition, line);
+    let r = run_lines::split_all(work, t, kind, edition, line);
     run_room::copy_slot(work, from, FS);
     r
 }

@@ -1,11 +1,11 @@
 -- `separator_of` meets its contract: FS is shown, and its bytes are told.
 use mathlib.Core.Path.{refl}
-use Rattle.run_lines.proofs.Got.{separator-is}
+use Rattle.run_separator.proofs.Got.{separator-is}
 use borrow.Author.Needs.{needs}
-use Rattle.run_lines.proofs.separating.separator_of.Statement.{statement}
-use Rattle.run_lines.proofs.separating.separator_of.Tie as tie
-use Rattle.run_lines.proofs.separating.separator_of.Reads as reads
-use Rattle.run_lines.proofs.separating.separator_of.Lts as lts
+use Rattle.run_separator.proofs.separating.separator_of.Statement.{statement}
+use Rattle.run_separator.proofs.separating.separator_of.Tie as tie
+use Rattle.run_separator.proofs.separating.separator_of.Reads as reads
+use Rattle.run_separator.proofs.separating.separator_of.Lts as lts
 use Rattle.run_room.proofs.show.Reads as show-reads
 use Rattle.separators.proofs.kind_of.Reads as kind-of-reads
 

@@ -1,0 +1,2 @@
+-- The laws on the separator.
+pub mod Got
