@@ -22,7 +22,7 @@ use Rattle.program_parser.proofs.Tokens.{good-after}
 use Rattle.program_items.specs.declared.programs.Program.{Program}
 use Rattle.program_items.specs.Programs.{each, countIn}
 use Rattle.program_items.specs.Items.{Put, ReadingMain, ReadingItem, Onward}
-use Rattle.program_statements.proofs.Answers.{
+use Rattle.program_simple.proofs.Answers.{
   Fails,
   fails-up,
   begun,
@@ -31,7 +31,7 @@ use Rattle.program_statements.proofs.Answers.{
   lower,
   ready-of,
 }
-use Rattle.program_statements.proofs.Jumps.{none-wrote}
+use Rattle.program_simple.proofs.Jumps.{none-wrote}
 use Rattle.program_items.proofs.Patterns.{item-begin, item-end}
 
 -- what holds of each section

@@ -31,7 +31,7 @@ use Rattle.program_parser.specs.Meaning.{Wrote}
 use Rattle.program_parser.specs.Reading.{answered, refusal, refusedBy, Ready, Reading, ReadingStatement}
 use Rattle.program_parser.proofs.Codes.{decoded-back}
 use Rattle.program_items.specs.Items.{ReadMain, ReadingMain}
-use Rattle.program_statements.proofs.Answers.{
+use Rattle.program_simple.proofs.Answers.{
   Fails,
   fails-up,
   fails-by,
@@ -47,7 +47,7 @@ use Rattle.program_statements.proofs.Answers.{
   lower,
   ready-of,
 }
-use Rattle.program_statements.proofs.Jumps.{branch-wrote, bare-wrote, if-code}
+use Rattle.program_simple.proofs.Jumps.{branch-wrote, bare-wrote, if-code}
 
 -- ---- actions
 

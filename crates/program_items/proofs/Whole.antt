@@ -33,8 +33,8 @@ use Rattle.program_parser.proofs.Spelling.{wrote-after}
 use Rattle.program_items.specs.declared.programs.Program.{Program}
 use Rattle.program_items.specs.Programs.{countIn, ReadingProgram}
 use Rattle.program_items.specs.Items.{ReadItem, ReadingItem, Onward}
-use Rattle.program_statements.proofs.Answers.{lower, here, token-ready, good-newlines}
-use Rattle.program_statements.proofs.Jumps.{none-wrote, end-wrote}
+use Rattle.program_simple.proofs.Answers.{lower, here, token-ready, good-newlines}
+use Rattle.program_simple.proofs.Jumps.{none-wrote, end-wrote}
 
 -- ---- past the ends that follow an item
 

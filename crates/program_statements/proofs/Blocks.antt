@@ -28,8 +28,8 @@ use Rattle.program_parser.proofs.Codes.{decoded-coded, decoded-back}
 use Rattle.program_parser.proofs.Tokens.{good-after, good-operand}
 use Rattle.program_parser.proofs.Passing.{still}
 use Rattle.program_parser.proofs.Spelling.{wrote-after}
-use Rattle.program_statements.specs.Statements.{followedOf}
-use Rattle.program_statements.proofs.Answers.{
+use Rattle.program_simple.specs.Statements.{followedOf}
+use Rattle.program_simple.proofs.Answers.{
   answers,
   end-is,
   Fails,
@@ -47,7 +47,7 @@ use Rattle.program_statements.proofs.Answers.{
   here,
   ready-of,
 }
-use Rattle.program_statements.proofs.Jumps.{none-wrote}
+use Rattle.program_simple.proofs.Jumps.{none-wrote}
 use Rattle.program_statements.proofs.Cases.{statement-further}
 
 -- ---- the answer of `followed`

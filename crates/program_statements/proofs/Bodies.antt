@@ -36,10 +36,10 @@ use Rattle.program_parser.specs.declared.read.Read.{Read}
 use Rattle.program_parser.specs.Meaning.{Wrote}
 use Rattle.program_parser.specs.Reading.{answered, success, refusal, refusedBy, endOf, Good, Ready, ReadingStatement}
 use Rattle.program_parser.proofs.Codes.{decoded-back}
-use Rattle.program_statements.specs.Statements.{placeOf, elseOf, bodyOf, ReadingCondition}
-use Rattle.program_statements.specs.declared.conditions.Else.{Else}
-use Rattle.program_statements.specs.declared.conditions.Else.the-variants.{At, Nothing}
-use Rattle.program_statements.proofs.Answers.{
+use Rattle.program_simple.specs.Statements.{placeOf, elseOf, bodyOf, ReadingCondition}
+use Rattle.program_simple.specs.declared.conditions.Else.{Else}
+use Rattle.program_simple.specs.declared.conditions.Else.the-variants.{At, Nothing}
+use Rattle.program_simple.proofs.Answers.{
   answers,
   end-is,
   fails-up,
@@ -61,8 +61,8 @@ use Rattle.program_statements.proofs.Answers.{
   ready-of,
   good-newlines,
 }
-use Rattle.program_statements.proofs.Jumps.{jump-wrote, branch-wrote, if-code, if-else-code, while-code}
-use Rattle.program_statements.proofs.Choosing.{else-good}
+use Rattle.program_simple.proofs.Jumps.{jump-wrote, branch-wrote, if-code, if-else-code, while-code}
+use Rattle.program_simple.proofs.Choosing.{else-good}
 use Rattle.program_statements.proofs.Cases.{body-none, body-inside}
 
 -- ---- a body, from the token after the `)` or the `else` on

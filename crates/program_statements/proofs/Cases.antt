@@ -19,8 +19,8 @@ use Rattle.program_lexer.specs.declared.tokens.Token.{Token as Coded}
 use Rattle.program_lexer.proofs.Coding.{rank-of}
 use Rattle.program_parser.specs.declared.read.Read.{Read}
 use Rattle.program_parser.specs.Reading.{Ready, ReadStatement}
-use Rattle.program_statements.specs.Statements.{bodyOf, bracesOf}
-use Rattle.program_statements.proofs.Answers.{begun}
+use Rattle.program_simple.specs.Statements.{bodyOf, bracesOf}
+use Rattle.program_simple.proofs.Answers.{begun}
 
 module _ (edition : ℕ) (s : List ℕ) (inMain : Bool) where
   at-level : (levels : ℕ) (t : Token) → statementAt edition s inMain levels t

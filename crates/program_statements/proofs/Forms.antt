@@ -22,8 +22,8 @@ use Rattle.program_parser.specs.Meaning.{Wrote}
 use Rattle.program_parser.specs.Reading.{answered, success, refusal, Good, Ready, ReadingStatement}
 use Rattle.program_parser.proofs.Codes.{decoded-back}
 use Rattle.program_parser.proofs.Tokens.{good-after}
-use Rattle.program_statements.specs.Statements.{bodyOf}
-use Rattle.program_statements.proofs.Answers.{
+use Rattle.program_simple.specs.Statements.{bodyOf}
+use Rattle.program_simple.proofs.Answers.{
   answers,
   begun,
   deep-fails,
@@ -32,7 +32,7 @@ use Rattle.program_statements.proofs.Answers.{
   earlier,
   ready-of,
 }
-use Rattle.program_statements.proofs.Jumps.{next-wrote, exit-wrote, none-wrote}
+use Rattle.program_simple.proofs.Jumps.{next-wrote, exit-wrote, none-wrote}
 use Rattle.program_statements.proofs.Cases.{kind-deep, kind-empty, kind-if, kind-while, kind-exit, kind-next}
 
 module _ (edition : ℕ) (s : List ℕ) (inMain : Bool) (levels : ℕ) (t : Coded) (n : ℕ) (xs : List ℕ)

@@ -9,16 +9,16 @@ ghost use Rattle.edition.specs.Limits.{nestingDepth};
 ghost use Rattle.program_reader.specs.Statements.{bodyAt, ifAt, whileAt, statementAt, blockOf};
 ghost use Rattle.program_lexer.specs.Coded.{decoded, kindCount};
 ghost use Rattle.program_parser.specs.Reading.{Ready, ReadingStatement};
-ghost use Rattle.program_statements.specs.Statements.{placeOf, bodyOf, followedOf};
-use crate::conditions;
-use crate::conditions::Else;
-use crate::simple;
+ghost use Rattle.program_simple.specs.Statements.{placeOf, bodyOf, followedOf};
 use edition::Edition;
 use program_lexer::Token;
 use program_parser::Read;
 use program_parser::kinds;
 use program_parser::newlines;
 use program_parser::read;
+use program_simple::conditions;
+use program_simple::conditions::Else;
+use program_simple::simple;
 
 // Reads the body of an `if`, an `else` or a `while`, from the token after the `)` or the `else` on.
 fn body(

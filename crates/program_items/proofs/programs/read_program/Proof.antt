@@ -7,7 +7,7 @@ use Rattle.semantics.specs.Moves.{begin as begin-section, main as main-section,
 use Rattle.program_tokens.specs.Tokens.{tokenAt}
 use Rattle.program_parser.proofs.Tokens.{good-at}
 use Rattle.program_items.specs.Programs.{each}
-use Rattle.program_statements.proofs.Answers.{token-ready}
+use Rattle.program_simple.proofs.Answers.{token-ready}
 use Rattle.program_items.proofs.Items.{each-section}
 use Rattle.program_items.proofs.Whole.{
   ProgramTurn,

@@ -6,8 +6,8 @@ use lib.ListN.{length}
 use borrow.Author.Needs.{needs}
 use Rattle.program_reader.specs.Statements.{statementAt}
 use Rattle.program_lexer.specs.Coded.{decoded}
-use Rattle.program_statements.specs.Statements.{bodyOf}
-use Rattle.program_statements.proofs.Answers.{statement-known}
+use Rattle.program_simple.specs.Statements.{bodyOf}
+use Rattle.program_simple.proofs.Answers.{statement-known}
 use Rattle.program_statements.proofs.Cases.{kind-block, kind-print, kind-expression}
 use Rattle.program_statements.proofs.Forms.{
   statement-is,
@@ -76,11 +76,11 @@ use Rattle.program_parser.proofs.newlines.past_newlines.Reads as past-newlines-
 use Rattle.program_parser.proofs.read.ok.Reads as ok-reads
 use Rattle.program_parser.proofs.read.refuse.Reads as refuse-reads
 use Rattle.program_parser.proofs.read.too_deep.Reads as too-deep-reads
-use Rattle.program_statements.proofs.conditions.condition.Reads as condition-reads
-use Rattle.program_statements.proofs.conditions.else_after.Reads as else-after-reads
-use Rattle.program_statements.proofs.simple.expression.Reads as expression-reads
-use Rattle.program_statements.proofs.simple.print.Reads as print-reads
-use Rattle.program_statements.proofs.simple.single.Reads as single-reads
+use Rattle.program_simple.proofs.conditions.condition.Reads as condition-reads
+use Rattle.program_simple.proofs.conditions.else_after.Reads as else-after-reads
+use Rattle.program_simple.proofs.simple.expression.Reads as expression-reads
+use Rattle.program_simple.proofs.simple.print.Reads as print-reads
+use Rattle.program_simple.proofs.simple.single.Reads as single-reads
 use Rattle.program_statements.proofs.statements.followed.Reads as followed-reads
 use Rattle.program_statements.proofs.statements.+block+body+if_else+repeat+statement.{
   statement,

@@ -1,7 +1,7 @@
 use Prim.Native.Nat.{_-_}
 use lib.ListN.{length}
 use borrow.Author.Needs.{needs}
-use Rattle.program_statements.proofs.Choosing.{
+use Rattle.program_simple.proofs.Choosing.{
   ElseTurn,
   else-start,
   else-none,
@@ -9,8 +9,8 @@ use Rattle.program_statements.proofs.Choosing.{
   else-nearer,
   else-more,
 }
-use Rattle.program_statements.proofs.conditions.else_after.Statement.{statement}
-use Rattle.program_statements.proofs.conditions.else_after.Tie as tie
+use Rattle.program_simple.proofs.conditions.else_after.Statement.{statement}
+use Rattle.program_simple.proofs.conditions.else_after.Tie as tie
 
 abbrev Inv-loop : tie.InvT-loop
 Inv-loop s edition free u₀ ended₀ semicolons₀ u ended semicolons = ElseTurn (edition .number) s u₀ free u ended

@@ -1,8 +1,8 @@
 use mathlib.Core.Path.{sym, _∙_}
-use Rattle.program_statements.proofs.Printing.{print-ready, print-listed, print-bare}
+use Rattle.program_simple.proofs.Printing.{print-ready, print-listed, print-bare}
 use borrow.Author.Needs.{needs}
-use Rattle.program_statements.proofs.simple.print.Statement.{statement}
-use Rattle.program_statements.proofs.simple.print.Tie as tie
+use Rattle.program_simple.proofs.simple.print.Statement.{statement}
+use Rattle.program_simple.proofs.simple.print.Tie as tie
 
 operand-after-requires : tie.Need-operand-after-requires
 operand-after-requires c κs = search needs

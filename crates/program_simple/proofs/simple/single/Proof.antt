@@ -1,9 +1,9 @@
 use Rattle.program_tokens.specs.Tokens.{tokenAfter}
 use Rattle.program_lexer.specs.Coded.{decoded}
-use Rattle.program_statements.proofs.Answers.{answers}
+use Rattle.program_simple.proofs.Answers.{answers}
 use borrow.Author.Needs.{needs}
-use Rattle.program_statements.proofs.simple.single.Statement.{statement}
-use Rattle.program_statements.proofs.simple.single.Tie as tie
+use Rattle.program_simple.proofs.simple.single.Statement.{statement}
+use Rattle.program_simple.proofs.simple.single.Tie as tie
 
 emit-requires : tie.Need-emit-requires
 emit-requires c κs = search needs

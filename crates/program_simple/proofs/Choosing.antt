@@ -25,9 +25,9 @@ use Rattle.program_parser.specs.declared.read.Read.{Read}
 use Rattle.program_parser.specs.Reading.{success, refusal, refusedBy, closedOf, formOf, Good, Ready, Reading}
 use Rattle.program_parser.proofs.Codes.{kind-below, decoded-coded, decoded-back, closed-no}
 use Rattle.program_parser.proofs.Tokens.{choose, good-after}
-use Rattle.program_statements.specs.Statements.{elseOf, ReadingCondition}
-use Rattle.program_statements.specs.declared.conditions.Else.the-variants.{At, Nothing}
-use Rattle.program_statements.proofs.Answers.{
+use Rattle.program_simple.specs.Statements.{elseOf, ReadingCondition}
+use Rattle.program_simple.specs.declared.conditions.Else.the-variants.{At, Nothing}
+use Rattle.program_simple.proofs.Answers.{
   refuse-fails,
   some-refused,
   begun,

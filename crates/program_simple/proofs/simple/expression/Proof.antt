@@ -1,8 +1,8 @@
 use native.Mathlib.Omega.{arith}
-use Rattle.program_statements.proofs.Printing.{count-small, expression-refused, expression-dropped}
+use Rattle.program_simple.proofs.Printing.{count-small, expression-refused, expression-dropped}
 use borrow.Author.Needs.{needs}
-use Rattle.program_statements.proofs.simple.expression.Statement.{statement}
-use Rattle.program_statements.proofs.simple.expression.Tie as tie
+use Rattle.program_simple.proofs.simple.expression.Statement.{statement}
+use Rattle.program_simple.proofs.simple.expression.Tie as tie
 
 tier-requires : tie.Need-tier-requires
 tier-requires c κs = search needs

@@ -33,7 +33,7 @@ use Rattle.program_parser.specs.Reading.{
 }
 use Rattle.program_parser.proofs.Codes.{kind-below, decoded-back}
 use Rattle.program_parser.proofs.Tokens.{good-after, good-operand, good-past}
-use Rattle.program_statements.specs.Statements.{ReadCondition, ReadingCondition}
+use Rattle.program_simple.specs.Statements.{ReadCondition, ReadingCondition}
 
 -- ---- what was refused
 

@@ -1,9 +1,9 @@
 use native.Mathlib.Omega.{arith}
-use Rattle.program_statements.proofs.Answers.{expression-known}
-use Rattle.program_statements.proofs.Choosing.{condition-unopened, condition-ready, condition-closed}
+use Rattle.program_simple.proofs.Answers.{expression-known}
+use Rattle.program_simple.proofs.Choosing.{condition-unopened, condition-ready, condition-closed}
 use borrow.Author.Needs.{needs}
-use Rattle.program_statements.proofs.conditions.condition.Statement.{statement}
-use Rattle.program_statements.proofs.conditions.condition.Tie as tie
+use Rattle.program_simple.proofs.conditions.condition.Statement.{statement}
+use Rattle.program_simple.proofs.conditions.condition.Tie as tie
 
 refuse-requires : tie.Need-refuse-requires
 refuse-requires c κs = search needs

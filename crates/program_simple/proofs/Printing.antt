@@ -28,7 +28,7 @@ use Rattle.program_parser.specs.Reading.{answered, Good, Ready, Reading, Readin
 use Rattle.program_parser.proofs.Codes.{decoded-back}
 use Rattle.program_parser.proofs.Tokens.{good-after}
 use Rattle.program_parser.proofs.Spelling.{wrote-after}
-use Rattle.program_statements.proofs.Answers.{
+use Rattle.program_simple.proofs.Answers.{
   answers,
   fails-up,
   fails-by,
@@ -45,7 +45,7 @@ use Rattle.program_statements.proofs.Answers.{
   good-newlines,
   good-next,
 }
-use Rattle.program_statements.proofs.Jumps.{count-wrote, drop-wrote, bare-wrote, none-wrote, drop-code}
+use Rattle.program_simple.proofs.Jumps.{count-wrote, drop-wrote, bare-wrote, none-wrote, drop-code}
 
 -- ---- an expression, and its value dropped
 

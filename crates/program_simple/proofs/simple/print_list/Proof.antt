@@ -3,7 +3,7 @@ use Prim.Native.Nat.{_-_}
 use native.Mathlib.Omega.{arith}
 use lib.ListN.{length}
 use borrow.Author.Needs.{needs}
-use Rattle.program_statements.proofs.Printing.{
+use Rattle.program_simple.proofs.Printing.{
   ListTurn,
   list-start,
   list-failed,
@@ -13,8 +13,8 @@ use Rattle.program_statements.proofs.Printing.{
   list-nearer,
   list-more,
 }
-use Rattle.program_statements.proofs.simple.print_list.Statement.{statement}
-use Rattle.program_statements.proofs.simple.print_list.Tie as tie
+use Rattle.program_simple.proofs.simple.print_list.Statement.{statement}
+use Rattle.program_simple.proofs.simple.print_list.Tie as tie
 
 abbrev Inv-loop : tie.InvT-loop
 Inv-loop s section₀ edition n levels first₀ count₀ d₀ section first count d = (length section ≡ length section₀)

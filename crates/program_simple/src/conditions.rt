@@ -7,7 +7,7 @@ ghost use Rattle.edition.specs.Limits.{nestingDepth};
 ghost use Rattle.program_reader.specs.Statements.{conditionAt, elseAfter};
 ghost use Rattle.program_lexer.specs.Coded.{decoded, kindCount};
 ghost use Rattle.program_parser.specs.Reading.{Good, Ready};
-ghost use Rattle.program_statements.specs.Statements.{ReadingCondition, elseOf};
+ghost use Rattle.program_simple.specs.Statements.{ReadingCondition, elseOf};
 use edition::Edition;
 use program_lexer::Token;
 use program_parser::Read;

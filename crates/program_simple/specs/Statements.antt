@@ -16,8 +16,8 @@ use Rattle.program_lexer.specs.Coded.{coded, decoded}
 use Rattle.program_parser.specs.declared.read.Read.{Read}
 use Rattle.program_parser.specs.Meaning.{Wrote}
 use Rattle.program_parser.specs.Reading.{success, refusal, refusedBy, Good}
-use Rattle.program_statements.specs.declared.conditions.Else.{Else}
-use Rattle.program_statements.specs.declared.conditions.Else.the-variants.{At, Nothing}
+use Rattle.program_simple.specs.declared.conditions.Else.{Else}
+use Rattle.program_simple.specs.declared.conditions.Else.the-variants.{At, Nothing}
 
 -- the place of a token, as a token of no bytes
 abbrev pub placeOf : Token → Token

@@ -1,0 +1,2 @@
+-- What the contracts on statements cite.
+pub mod Statements

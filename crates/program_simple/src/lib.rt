@@ -1,0 +1,3 @@
+// The reader of simple statements and of conditions.
+pub mod conditions;
+pub mod simple;

@@ -1,2 +1,0 @@
--- The reader of statements, which writes code as it goes.
-pub mod Statements
