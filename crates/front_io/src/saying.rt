@@ -20,8 +20,8 @@ pub fn fail(name: &[u8]) {
         return;
     }
     let mut room = io::large_buffer();
-    let a = front_messages::put_text(&mut room, 0, b"flowawk: ");
-    let n = front_messages::put_text(&mut room, a, name);
+    let a = front_lines::put_text(&mut room, 0, b"flowawk: ");
+    let n = front_lines::put_text(&mut room, a, name);
     if n <= MESSAGE {
         os::fail(&room[0..n]);
     }
@@ -78,13 +78,13 @@ pub fn summarize(outcome: u64, records: u64, steps: u64, bytes: u64) {
 // Says that input does not fit its room, and how many bytes the room has.
 pub fn refuse_size(size: usize) {
     let mut room = io::large_buffer();
-    let a = front_messages::put_text(
+    let a = front_lines::put_text(
         &mut room,
         0,
         b"flowawk: the input does not fit the room of ",
     );
-    let b = front_messages::put_decimal(&mut room, a, size as u64);
-    let n = front_messages::put_text(&mut room, b, b" bytes\n");
+    let b = front_lines::put_decimal(&mut room, a, size as u64);
+    let n = front_lines::put_text(&mut room, b, b" bytes\n");
     if n <= MESSAGE {
         say(&room[0..n]);
     }
@@ -99,9 +99,9 @@ pub fn refuse_word(word: &[u8], reason: &[u8]) {
         return;
     }
     let mut room = io::large_buffer();
-    let a = front_messages::put_text(&mut room, 0, b"flowawk: ");
-    let b = front_messages::put_text(&mut room, a, word);
-    let c = front_messages::put_text(&mut room, b, reason);
+    let a = front_lines::put_text(&mut room, 0, b"flowawk: ");
+    let b = front_lines::put_text(&mut room, a, word);
+    let c = front_lines::put_text(&mut room, b, reason);
     if c <= MESSAGE {
         say(&room[0..c]);
     }

@@ -1,4 +1,2 @@
 -- Laws on messages.
-pub mod Columns
 pub mod Meanings
-pub mod Putting

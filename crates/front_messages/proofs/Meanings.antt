@@ -7,7 +7,7 @@ use Rattle.buffer.specs.Parts.{part}
 use Rattle.front_words.specs.Words.{wordsOf, wordIn}
 use Rattle.front_words.specs.Walk.{SpanOf}
 use Rattle.front_words.specs.declared.words.Span.{Span}
-use Rattle.front_messages.specs.Messages.{meanings}
+use Rattle.front_lines.specs.Messages.{meanings}
 
 -- words, each with a NUL after it
 abbrev block : List (List ℕ) → List ℕ

@@ -1,10 +1,8 @@
 // Whole messages: a refusal with its place, a run's outcome with its counts, an image's outcome.
 ghost use Prim.Native.Nat.{_+_, _≤_, _<_, _^_};
 ghost use lib.ListN.{length};
-ghost use Rattle.front_messages.specs.Puts.{Puts};
-ghost use Rattle.front_messages.specs.Messages.{outcomeText, placeText, countsText, refusalText, summaryText, imageText};
-use crate::lines;
-use crate::put;
+ghost use Rattle.front_lines.specs.Puts.{Puts};
+ghost use Rattle.front_lines.specs.Messages.{outcomeText, placeText, countsText, refusalText, summaryText, imageText};
 
 // Writes an outcome's meaning and number from byte k on; returns the index after them.
 fn put_outcome(room: &mut [u8], k: usize, outcome: u64) -> usize
@@ -20,10 +18,10 @@ fn put_outcome(room: &mut [u8], k: usize, outcome: u64) -> usize
     let w = front_words::find_word(meanings, outcome as usize);
     let start = w.start;
     let end = w.end;
-    let meaning = put::put_text(room, k, &meanings[start..end]);
-    let open = put::put_text(room, meaning, b" (outcome ");
-    let number = put::put_decimal(room, open, outcome);
-    put::put_text(room, number, b")")
+    let meaning = front_lines::put_text(room, k, &meanings[start..end]);
+    let open = front_lines::put_text(room, meaning, b" (outcome ");
+    let number = front_lines::put_decimal(room, open, outcome);
+    front_lines::put_text(room, number, b")")
 }
 
 // Writes a place's name, line and column from byte k on; returns the index after them.
@@ -32,13 +30,13 @@ fn put_place(room: &mut [u8], k: usize, name: &[u8], line: usize, column: usize)
     ensures { λ r. ⌜ Puts (now (room .entry)) k (placeText (now (name .entry)) line column) r (now (room .exit))
         × (r ≤ k + (length (now (name .entry)) + 100)) ⌝ }
 {
-    let a = put::put_text(room, k, b"flowawk: ");
-    let b = put::put_text(room, a, name);
-    let c = put::put_text(room, b, b":");
-    let d = put::put_decimal(room, c, line as u64);
-    let e = put::put_text(room, d, b":");
-    let f = put::put_decimal(room, e, column as u64);
-    put::put_text(room, f, b": ")
+    let a = front_lines::put_text(room, k, b"flowawk: ");
+    let b = front_lines::put_text(room, a, name);
+    let c = front_lines::put_text(room, b, b":");
+    let d = front_lines::put_decimal(room, c, line as u64);
+    let e = front_lines::put_text(room, d, b":");
+    let f = front_lines::put_decimal(room, e, column as u64);
+    front_lines::put_text(room, f, b": ")
 }
 
 // Writes a run's counts from byte k on; returns the index after them.
@@ -46,13 +44,13 @@ fn put_counts(room: &mut [u8], k: usize, records: u64, steps: u64, bytes: u64) -
     requires { ⌜ k < 2 ^ 48 ⌝ }
     ensures { λ r. ⌜ Puts (now (room .entry)) k (countsText records steps bytes) r (now (room .exit)) ⌝ }
 {
-    let a = put::put_text(room, k, b"; ");
-    let b = put::put_decimal(room, a, records);
-    let c = put::put_text(room, b, b" records begun, ");
-    let d = put::put_decimal(room, c, steps);
-    let e = put::put_text(room, d, b" steps, ");
-    let f = put::put_decimal(room, e, bytes);
-    put::put_text(room, f, b" bytes written\n")
+    let a = front_lines::put_text(room, k, b"; ");
+    let b = front_lines::put_decimal(room, a, records);
+    let c = front_lines::put_text(room, b, b" records begun, ");
+    let d = front_lines::put_decimal(room, c, steps);
+    let e = front_lines::put_text(room, d, b" steps, ");
+    let f = front_lines::put_decimal(room, e, bytes);
+    front_lines::put_text(room, f, b" bytes written\n")
 }
 
 // Writes why a filter was refused: its name, the place, the outcome, the line and a caret. Answers the message's
@@ -66,15 +64,15 @@ pub fn put_refusal(room: &mut [u8], name: &[u8], text: &[u8], place: usize, outc
     let column = front_places::column_at(text, place);
     let a = put_place(room, 0, name, line, column);
     let b = put_outcome(room, a, outcome);
-    let c = put::put_text(room, b, b"\n");
-    lines::put_caret(room, c, text, place)
+    let c = front_lines::put_text(room, b, b"\n");
+    front_lines::put_caret(room, c, text, place)
 }
 
 // Writes a run's outcome and counts. Answers the message's length.
 pub fn put_summary(room: &mut [u8], outcome: u64, records: u64, steps: u64, bytes: u64) -> usize
     ensures { λ r. ⌜ Puts (now (room .entry)) 0 (summaryText outcome records steps bytes) r (now (room .exit)) ⌝ }
 {
-    let a = put::put_text(room, 0, b"flowawk: ");
+    let a = front_lines::put_text(room, 0, b"flowawk: ");
     let b = put_outcome(room, a, outcome);
     put_counts(room, b, records, steps, bytes)
 }
@@ -84,9 +82,9 @@ pub fn put_image_refusal(room: &mut [u8], name: &[u8], outcome: u64) -> usize
     requires { ⌜ length (now name) < 2 ^ 16 ⌝ }
     ensures { λ r. ⌜ Puts (now (room .entry)) 0 (imageText (now (name .entry)) outcome) r (now (room .exit)) ⌝ }
 {
-    let a = put::put_text(room, 0, b"flowawk: ");
-    let b = put::put_text(room, a, name);
-    let c = put::put_text(room, b, b": ");
+    let a = front_lines::put_text(room, 0, b"flowawk: ");
+    let b = front_lines::put_text(room, a, name);
+    let c = front_lines::put_text(room, b, b": ");
     let d = put_outcome(room, c, outcome);
-    put::put_text(room, d, b"\n")
+    front_lines::put_text(room, d, b"\n")
 }

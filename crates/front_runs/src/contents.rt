@@ -17,7 +17,7 @@ fn put_words(room: &mut [u8], words: &[u64]) -> Filled {
         if size - k < LINE {
             return Filled::Full;
         }
-        let end = front_messages::put_decimal(room, k, words[i]);
+        let end = front_lines::put_decimal(room, k, words[i]);
         varint::put_byte(room, end, b'\n');
         k = end + 1;
         i += 1;

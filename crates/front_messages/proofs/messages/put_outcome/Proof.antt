@@ -4,8 +4,8 @@ use native.Mathlib.Omega.{arith}
 use mathlib.Core.Path.{_≡_, ap, _∙_}
 use mathlib.Core.List.{List}
 use Prim.Native.Nat.{ℕ}
-use Rattle.front_messages.specs.Messages.{outcomeText}
-use Rattle.front_messages.proofs.Putting.{follow, puts-of}
+use Rattle.front_lines.specs.Messages.{outcomeText}
+use Rattle.front_lines.proofs.Putting.{follow, puts-of}
 use Rattle.front_messages.proofs.Meanings.{meaning-is}
 use borrow.Author.Needs.{needs}
 use Rattle.front_messages.proofs.messages.put_outcome.Statement.{statement}

@@ -3,8 +3,8 @@ use borrow.Author.Needs.{needs}
 use native.Mathlib.Omega.{arith}
 use mathlib.Core.Path.{_≡_, ap₂}
 use Prim.Native.Nat.{ℕ}
-use Rattle.front_messages.specs.Messages.{placeText, refusalText}
-use Rattle.front_messages.proofs.Putting.{follow, puts-of}
+use Rattle.front_lines.specs.Messages.{placeText, refusalText}
+use Rattle.front_lines.proofs.Putting.{follow, puts-of}
 use borrow.Author.Needs.{needs}
 use Rattle.front_messages.proofs.messages.put_refusal.Statement.{statement}
 use Rattle.front_messages.proofs.messages.put_refusal.Tie as tie

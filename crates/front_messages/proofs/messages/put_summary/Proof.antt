@@ -1,8 +1,8 @@
 -- `put_summary`: its parts, one after the other.
 use borrow.Author.Needs.{needs}
 use native.Mathlib.Omega.{arith}
-use Rattle.front_messages.specs.Messages.{summaryText}
-use Rattle.front_messages.proofs.Putting.{follow}
+use Rattle.front_lines.specs.Messages.{summaryText}
+use Rattle.front_lines.proofs.Putting.{follow}
 use borrow.Author.Needs.{needs}
 use Rattle.front_messages.proofs.messages.put_summary.Statement.{statement}
 use Rattle.front_messages.proofs.messages.put_summary.Tie as tie

@@ -11,7 +11,7 @@ use Rattle.decimals.proofs.Decimals.{digits-small, digits-step, length-within}
 use Rattle.varint.specs.Room.{withOne, withAll}
 use Rattle.varint.proofs.Words.{all-append}
 use Rattle.front_places.specs.Shown.{spelled}
-use Rattle.front_messages.specs.Puts.{Puts}
+use Rattle.front_lines.specs.Puts.{Puts}
 
 -- one list, and then another
 pub follow : {x y z : List ℕ} {k r t : ℕ} {a b : List ℕ} → Puts x k a r y → Puts y r b t z → Puts x k (a ++ b) t z

@@ -2,7 +2,7 @@
 ghost use Prim.Native.Nat.{_+_, _≤_, _<_, _^_};
 ghost use lib.ListN.{length};
 ghost use Rattle.decimals.specs.Decimal.{decimalDigits};
-ghost use Rattle.front_messages.specs.Puts.{Puts};
+ghost use Rattle.front_lines.specs.Puts.{Puts};
 
 // Writes a text from byte k on; returns the index after it.
 pub fn put_text(room: &mut [u8], k: usize, text: &[u8]) -> usize

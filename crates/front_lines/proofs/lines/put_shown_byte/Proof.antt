@@ -3,8 +3,8 @@ use borrow.Author.Needs.{needs}
 use mathlib.Core.Path.{sym, _∙_}
 use Rattle.front_places.specs.Shown.{shownByte}
 use borrow.Author.Needs.{needs}
-use Rattle.front_messages.proofs.lines.put_shown_byte.Statement.{statement}
-use Rattle.front_messages.proofs.lines.put_shown_byte.Tie as tie
+use Rattle.front_lines.proofs.lines.put_shown_byte.Statement.{statement}
+use Rattle.front_lines.proofs.lines.put_shown_byte.Tie as tie
 
 prints-requires : tie.Need-prints-requires
 prints-requires c κs = search needs

@@ -5,10 +5,10 @@ use mathlib.Core.Path.{_≡_, refl}
 use Prim.Native.Nat.{_+_, _*_, _-_, _≤_}
 use lib.ListN.{length, getD}
 use Rattle.front_places.specs.Shown.{blankByte}
-use Rattle.front_messages.proofs.Putting.{Spelling, spell-start, spell-next, spell-end}
-use Rattle.front_messages.proofs.Columns.{blank-few}
-use Rattle.front_messages.proofs.lines.put_blanks.Statement.{statement}
-use Rattle.front_messages.proofs.lines.put_blanks.Tie as tie
+use Rattle.front_lines.proofs.Putting.{Spelling, spell-start, spell-next, spell-end}
+use Rattle.front_lines.proofs.Columns.{blank-few}
+use Rattle.front_lines.proofs.lines.put_blanks.Statement.{statement}
+use Rattle.front_lines.proofs.lines.put_blanks.Tie as tie
 
 abbrev Inv-loop : tie.InvT-loop
 Inv-loop room₀ k s n₀ i₀ room n i = (i ≤ length s) × (length room ≡ length room₀) × (n ≤ k + 4 * i) × Spelling blankByte room₀ k s room n i

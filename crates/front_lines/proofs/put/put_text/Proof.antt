@@ -6,9 +6,9 @@ use mathlib.Core.List.{List}
 use Prim.Native.Nat.{ℕ, _+_, _-_, _≤_}
 use lib.ListN.{length, drop}
 use Rattle.varint.specs.Room.{withAll}
-use Rattle.front_messages.proofs.Putting.{put-next, put-end}
-use Rattle.front_messages.proofs.put.put_text.Statement.{statement}
-use Rattle.front_messages.proofs.put.put_text.Tie as tie
+use Rattle.front_lines.proofs.Putting.{put-next, put-end}
+use Rattle.front_lines.proofs.put.put_text.Statement.{statement}
+use Rattle.front_lines.proofs.put.put_text.Tie as tie
 
 abbrev Inv-loop : tie.InvT-loop
 Inv-loop room₀ k text i₀ room i = (i ≤ length text) × (length room ≡ length room₀) × (withAll room₀ k text ≡ withAll room (k + i) (drop i text))

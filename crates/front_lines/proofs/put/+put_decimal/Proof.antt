@@ -2,16 +2,16 @@
 use borrow.Author.Needs.{needs}
 use native.Mathlib.Omega.{arith}
 use Prim.Native.Nat.{_/_, _^_}
-use Rattle.front_messages.proofs.Putting.{tenth-few, put-digit, put-digits}
+use Rattle.front_lines.proofs.Putting.{tenth-few, put-digit, put-digits}
 use Prim.Native.Nat.{ℕ, _<_}
 use borrow.Fn.Kinds.{In}
 use borrow.Fn.PlainCycle.{Measures, is, falls, and}
-use Rattle.front_messages.proofs.put.put_decimal.Reads as put-decimal
-use Rattle.front_messages.proofs.put.put_decimal.Kinds as put-decimal-kinds
-use Rattle.front_messages.proofs.put.+put_decimal.Lts-put_decimal as put-decimal-lts
+use Rattle.front_lines.proofs.put.put_decimal.Reads as put-decimal
+use Rattle.front_lines.proofs.put.put_decimal.Kinds as put-decimal-kinds
+use Rattle.front_lines.proofs.put.+put_decimal.Lts-put_decimal as put-decimal-lts
 use Rattle.varint.proofs.put_byte.Reads as put-byte-reads
-use Rattle.front_messages.proofs.put.+put_decimal.{statement}
-use Rattle.front_messages.proofs.put.+put_decimal.Tie.{close}
+use Rattle.front_lines.proofs.put.+put_decimal.{statement}
+use Rattle.front_lines.proofs.put.+put_decimal.Tie.{close}
 
 abbrev μ-put-decimal : Measures 1 put-decimal-kinds.ps ℕ
 μ-put-decimal κs a = a .1 .1 .0

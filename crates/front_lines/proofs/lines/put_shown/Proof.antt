@@ -5,10 +5,10 @@ use mathlib.Core.Path.{_≡_, refl}
 use Prim.Native.Nat.{_+_, _*_, _-_, _≤_}
 use lib.ListN.{length, getD}
 use Rattle.front_places.specs.Shown.{shownByte}
-use Rattle.front_messages.proofs.Putting.{Spelling, spell-start, spell-next, spell-end}
-use Rattle.front_messages.proofs.Columns.{shown-few}
-use Rattle.front_messages.proofs.lines.put_shown.Statement.{statement}
-use Rattle.front_messages.proofs.lines.put_shown.Tie as tie
+use Rattle.front_lines.proofs.Putting.{Spelling, spell-start, spell-next, spell-end}
+use Rattle.front_lines.proofs.Columns.{shown-few}
+use Rattle.front_lines.proofs.lines.put_shown.Statement.{statement}
+use Rattle.front_lines.proofs.lines.put_shown.Tie as tie
 
 abbrev Inv-loop : tie.InvT-loop
 Inv-loop room₀ k s n₀ i₀ room n i = (i ≤ length s) × (length room ≡ length room₀) × (n ≤ k + 4 * i) × Spelling shownByte room₀ k s room n i

@@ -4,8 +4,8 @@ use mathlib.Core.Path.{sym, _∙_}
 use borrow.Author.Tests.{eq-eqb, ne-eqb}
 use Rattle.front_places.specs.Shown.{blankByte}
 use borrow.Author.Needs.{needs}
-use Rattle.front_messages.proofs.lines.put_blank_byte.Statement.{statement}
-use Rattle.front_messages.proofs.lines.put_blank_byte.Tie as tie
+use Rattle.front_lines.proofs.lines.put_blank_byte.Statement.{statement}
+use Rattle.front_lines.proofs.lines.put_blank_byte.Tie as tie
 
 slice-aggregate-put-text : tie.Need-slice-aggregate-put-text
 slice-aggregate-put-text c = search needs

@@ -2,8 +2,8 @@
 ghost use Prim.Native.Nat.{_+_, _*_, _≤_, _<_, _^_};
 ghost use lib.ListN.{length};
 ghost use Rattle.front_places.specs.Shown.{shownByte, blankByte, shown, blanks};
-ghost use Rattle.front_messages.specs.Puts.{Puts};
-ghost use Rattle.front_messages.specs.Messages.{caretOf};
+ghost use Rattle.front_lines.specs.Puts.{Puts};
+ghost use Rattle.front_lines.specs.Messages.{caretOf};
 use crate::put;
 
 // Writes a byte as it is shown, from byte k on; returns the index after it.

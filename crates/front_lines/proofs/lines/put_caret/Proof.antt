@@ -5,11 +5,11 @@ use mathlib.Core.Path.{_≡_, ap}
 use Prim.Native.Nat.{_-_}
 use Rattle.front_places.specs.Shown.{shown, blanks}
 use Rattle.buffer.specs.Parts.{part}
-use Rattle.front_messages.specs.Messages.{caretOf}
-use Rattle.front_messages.proofs.Putting.{follow, puts-of, span-few}
+use Rattle.front_lines.specs.Messages.{caretOf}
+use Rattle.front_lines.proofs.Putting.{follow, puts-of, span-few}
 use borrow.Author.Needs.{needs}
-use Rattle.front_messages.proofs.lines.put_caret.Statement.{statement}
-use Rattle.front_messages.proofs.lines.put_caret.Tie as tie
+use Rattle.front_lines.proofs.lines.put_caret.Statement.{statement}
+use Rattle.front_lines.proofs.lines.put_caret.Tie as tie
 
 shown-around-requires : tie.Need-shown-around-requires
 shown-around-requires c κs = search needs

@@ -1,0 +1,3 @@
+-- The laws on what is put.
+pub mod Columns
+pub mod Putting
