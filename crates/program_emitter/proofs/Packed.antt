@@ -2,7 +2,7 @@
 use mathlib.Core.Path.{_≡_}
 use Prim.Native.Nat.{ℕ, _+_, _*_, _/_, _%_, _<_}
 use native.Mathlib.Omega.{arith}
-use Rattle.program_emitter.specs.Words.{packed, Fits, opIn, depthIn, firstIn, secondIn}
+use Rattle.program_words.specs.Words.{packed, Fits, opIn, depthIn, firstIn, secondIn}
 
 module _ (op depth first second : ℕ) (h : Fits op depth first second) where
   pub op-packed : opIn (packed op depth first second) ≡ op

@@ -4,8 +4,8 @@ ghost use mathlib.Core.List.{[], _∷_};
 ghost use Prim.Native.Nat.{_+_, _≤_, _<_};
 ghost use lib.ListN.{set};
 ghost use lib.Seq.{sets};
-ghost use Rattle.program_emitter.specs.Words.{Fits, word, recordWords, ereWords, notWords, bothWords, eitherWords, printWords};
-use crate::words;
+ghost use Rattle.program_words.specs.Words.{Fits, word, recordWords, ereWords, notWords, bothWords, eitherWords, printWords};
+use program_words::words;
 
 // Stores instruction n, if there is room.
 pub fn put(section: &mut [u64], n: usize, instruction: u64)

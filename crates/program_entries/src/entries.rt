@@ -39,11 +39,11 @@ pub fn is_named(what: u64, op: u64) -> bool
     ensures { λ r. ⌜ r ≡ isNamed what op ⌝ }
 {
     match op {
-        program_emitter::CONSTANT => what == CONSTANTS,
-        program_emitter::GET => what == VARIABLES,
-        program_emitter::SET => what == VARIABLES,
-        program_emitter::MATCHES => what == ERES,
-        program_emitter::MATCH => what == ERES,
+        program_words::CONSTANT => what == CONSTANTS,
+        program_words::GET => what == VARIABLES,
+        program_words::SET => what == VARIABLES,
+        program_words::MATCHES => what == ERES,
+        program_words::MATCH => what == ERES,
         _ => false,
     }
 }

@@ -26,7 +26,7 @@ use Rattle.program_code.proofs.Flows.{size-length}
 use Rattle.program_lexer.specs.Coded.{coded, decoded, kindOf, kindCount}
 use Rattle.program_lexer.specs.declared.tokens.Token.{Token as Coded}
 use Rattle.program_lexer.proofs.Coding.{rank-of}
-use Rattle.program_emitter.specs.Words.{Fits, word}
+use Rattle.program_words.specs.Words.{Fits, word}
 use Rattle.program_parser.specs.declared.read.Read.{Read}
 use Rattle.program_parser.specs.declared.calls.Function.{Function as Coding}
 use Rattle.program_expressions.specs.declared.expressions.PendingCall.{PendingCall}

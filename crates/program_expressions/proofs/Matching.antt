@@ -21,7 +21,7 @@ use Rattle.program_code.proofs.Flows.{size-length}
 use Rattle.program_lexer.specs.Coded.{coded, decoded, kindOf}
 use Rattle.program_lexer.specs.declared.tokens.Token.{Token as Coded}
 use Rattle.program_lexer.proofs.Coding.{rank-of}
-use Rattle.program_emitter.specs.Words.{word}
+use Rattle.program_words.specs.Words.{word}
 use Rattle.program_parser.specs.declared.read.Read.{Read}
 use Rattle.program_parser.specs.Meaning.{Denotes, Wrote}
 use Rattle.program_parser.specs.Reading.{answered, refusal, refusedBy, formOf, Good, Ready, ReadExpression, Reading}

@@ -23,7 +23,7 @@ use Rattle.program_reader.specs.Operators.{Operator, operatorIn, tierOf, treeIn
 use Rattle.program_code.specs.Emitted.{nothing, the-constant, the-instruction, Emitted, emit, act, actionCode, flowCode, opcode}
 use Rattle.program_code.specs.Expressions.{size, numeral, doubleNot, compile}
 use Rattle.program_lexer.specs.Coded.{kindOf}
-use Rattle.program_emitter.specs.Words.{word, notWords, bothWords, eitherWords}
+use Rattle.program_words.specs.Words.{word, notWords, bothWords, eitherWords}
 use Rattle.program_parser.specs.Tables.{actionOf}
 use Rattle.program_parser.specs.Meaning.{Denotes, none-left, one-more, Wrote}
 use Rattle.program_parser.specs.Reading.{formOf}

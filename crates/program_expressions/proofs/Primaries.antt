@@ -26,7 +26,7 @@ use Rattle.program_code.specs.Expressions.{prefixAction, size, compile}
 use Rattle.program_lexer.specs.Coded.{coded, decoded, kindOf, kindCount}
 use Rattle.program_lexer.specs.declared.tokens.Token.{Token as Coded}
 use Rattle.program_lexer.proofs.Coding.{rank-of}
-use Rattle.program_emitter.specs.Words.{Fits, word, ereWords}
+use Rattle.program_words.specs.Words.{Fits, word, ereWords}
 use Rattle.program_parser.specs.declared.read.Read.{Read}
 use Rattle.program_parser.specs.Tables.{prefixCode}
 use Rattle.program_parser.specs.Meaning.{Denotes, none-left, one-more, nameAt}

@@ -18,7 +18,7 @@ use Rattle.program_code.specs.Emitted.{Operand, Emitted, emit, opcode}
 use Rattle.program_code.specs.Expressions.{size, compile}
 use Rattle.program_code.proofs.Flows.{size-length}
 use Rattle.program_lexer.specs.Coded.{coded}
-use Rattle.program_emitter.specs.Words.{Fits, word}
+use Rattle.program_words.specs.Words.{Fits, word}
 use Rattle.program_parser.specs.declared.read.Read.{Read}
 use Rattle.program_parser.specs.Meaning.{Denotes, Wrote}
 use Rattle.program_parser.specs.Reading.{success, answered, refusal, refusedBy, closedOf, formOf, Good, ReadExpression, Reading}

@@ -23,7 +23,7 @@ use Rattle.program_code.proofs.Flows.{size-length}
 use Rattle.program_code.proofs.Opcodes.{opcode-row}
 use Rattle.program_lexer.specs.Coded.{coded, decoded, kindOf}
 use Rattle.program_lexer.specs.declared.tokens.Token.{Token as Coded}
-use Rattle.program_emitter.specs.Words.{word, notWords, bothWords, eitherWords}
+use Rattle.program_words.specs.Words.{word, notWords, bothWords, eitherWords}
 use Rattle.program_parser.specs.declared.read.Read.{Read}
 use Rattle.program_parser.specs.Tables.{between, rightDepth, actionOf, operatorCode}
 use Rattle.program_parser.specs.Meaning.{Denotes, Wrote}

@@ -12,7 +12,7 @@ use Rattle.program_reader.specs.Read.{Read as Result, ok, no}
 use Rattle.program_code.specs.Emitted.{Operand, Emitted, emit, opcode}
 use Rattle.program_code.specs.Expressions.{size, compile}
 use Rattle.program_code.proofs.Flows.{size-length}
-use Rattle.program_emitter.specs.Words.{Fits, word}
+use Rattle.program_words.specs.Words.{Fits, word}
 use Rattle.program_emitter.proofs.Stores.{sets-append}
 use Rattle.program_parser.specs.declared.read.Read.{Read}
 use Rattle.program_parser.specs.Meaning.{Denotes, Means, Spell, none-left, one-more, Wrote}

@@ -16,7 +16,7 @@ use Rattle.program_code.specs.Emitted.{Operand, the-ere, Emitted, emit, actionC
 use Rattle.program_code.specs.Expressions.{size, compile}
 use Rattle.program_lexer.specs.Coded.{decoded, kindOf}
 use Rattle.program_lexer.specs.declared.tokens.Token.{Token as Coded}
-use Rattle.program_emitter.specs.Words.{word, notWords, bothWords, eitherWords}
+use Rattle.program_words.specs.Words.{word, notWords, bothWords, eitherWords}
 use Rattle.program_parser.specs.declared.read.Read.{Read}
 use Rattle.program_expressions.specs.declared.expressions.PendingCall.{PendingCall}
 use Rattle.program_parser.specs.Tables.{operatorCode, shapesCode}

@@ -17,11 +17,6 @@ ghost use Rattle.program_expressions.specs.Parts.{Continues, ContinuesFr
 use crate::operations;
 use crate::parts;
 use edition::Edition;
-use program_emitter::CONSTANT;
-use program_emitter::FIELD;
-use program_emitter::GET;
-use program_emitter::SET;
-use program_emitter::SET_FIELD;
 use program_lexer::Token;
 use program_parser::Read;
 use program_parser::calls;
@@ -31,6 +26,11 @@ use program_parser::operators::EXPRESSIONS;
 use program_parser::operators::FIELDS;
 use program_parser::operators::PREFIXED;
 use program_parser::read;
+use program_words::CONSTANT;
+use program_words::FIELD;
+use program_words::GET;
+use program_words::SET;
+use program_words::SET_FIELD;
 
 // Reads a form of a tier one level further in, which the token `opener` opens.
 pub fn inside(

@@ -8,7 +8,7 @@ ghost use lib.Seq.{sets};
 ghost use Rattle.program_tokens.specs.Tokens.{tokenAfter};
 ghost use Rattle.program_reader.specs.Expressions.{matching as matchingOf};
 ghost use Rattle.program_lexer.specs.Coded.{decoded};
-ghost use Rattle.program_emitter.specs.Words.{Fits, word, ereWords};
+ghost use Rattle.program_words.specs.Words.{Fits, word, ereWords};
 ghost use Rattle.program_parser.specs.Reading.{Ready, success};
 ghost use Rattle.program_expressions.specs.Parts.{Suffixed, Continues};
 use edition::Edition;
@@ -91,7 +91,7 @@ pub fn matching(s: &[u8], section: &mut [u64], edition: Edition, r: Read, depth:
     let n = program_emitter::emit(
         section,
         r.count,
-        program_emitter::MATCHES,
+        program_words::MATCHES,
         depth + 1,
         u.start as u64,
     );
@@ -99,6 +99,6 @@ pub fn matching(s: &[u8], section: &mut [u64], edition: Edition, r: Read, depth:
     if kind == kinds::TILDE {
         return read::ok(next, n, read::OTHER);
     }
-    let count = program_emitter::emit(section, n, program_emitter::NOT, depth + 1, 0);
+    let count = program_emitter::emit(section, n, program_words::NOT, depth + 1, 0);
     read::ok(next, count, read::OTHER)
 }

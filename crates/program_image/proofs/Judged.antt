@@ -15,7 +15,7 @@ use Rattle.semantics.specs.Variables.{specialCount}
 use Rattle.semantics.specs.World.{variableCount}
 use Rattle.semantics.specs.Check.{smallConstant}
 use Rattle.program_numbering.specs.Sizes.{fits}
-use Rattle.program_emitter.specs.Words.{depthIn}
+use Rattle.program_words.specs.Words.{depthIn}
 use Rattle.program_tables.specs.declared.tables.Entry.{Entry}
 use Rattle.program_tables.specs.Texts.{valueIn}
 use Rattle.program_tables.specs.Tables.{entryIn, meant, entriesFrom}

@@ -19,7 +19,7 @@ use Rattle.image_format.specs.Numbers.{coded}
 use Rattle.image_format.specs.Writing.{all, bytes, instructionIn}
 use Rattle.opcodes.specs.Rows.{operandsIn}
 use Rattle.varint.proofs.Puts.{coded-short}
-use Rattle.program_emitter.specs.Words.{opIn, depthIn, firstIn}
+use Rattle.program_words.specs.Words.{opIn, depthIn, firstIn}
 use Rattle.program_tables.specs.declared.tables.Entry.{Entry}
 use Rattle.program_tables.specs.Texts.{unescape, valueOf, between, valueIn}
 use Rattle.program_tables.specs.Tables.{entryIn, meant, InsideText, entriesFrom}

@@ -11,7 +11,7 @@ use Rattle.image_format.specs.Image.{Constant, number, text, Instruction}
 use Rattle.image_format.specs.Numbers.{coded}
 use Rattle.image_format.specs.Writing.{all, bytes, constantIn, instructionIn}
 use Rattle.varint.specs.Room.{withAll}
-use Rattle.program_emitter.specs.Words.{opIn, depthIn, firstIn}
+use Rattle.program_words.specs.Words.{opIn, depthIn, firstIn}
 use Rattle.program_tables.specs.declared.tables.Entry.{Entry}
 use Rattle.program_tables.specs.Tables.{entryIn, entriesFrom}
 

@@ -17,7 +17,7 @@ pub fn depths_fit(section: &[u64], count: usize) -> bool
 {
     let mut i: usize = 0;
     while i < count {
-        if (Edition::DEPTH as u64) < program_emitter::depth_in(section[i]) {
+        if (Edition::DEPTH as u64) < program_words::depth_in(section[i]) {
             return false;
         }
         i += 1;

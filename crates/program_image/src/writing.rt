@@ -78,14 +78,14 @@ fn has_operand(op: u64) -> bool
     ensures { λ r. ⌜ r ≡ hasOperand op ⌝ }
 {
     match op {
-        program_emitter::CONSTANT => true,
-        program_emitter::GET => true,
-        program_emitter::SET => true,
-        program_emitter::MATCHES => true,
+        program_words::CONSTANT => true,
+        program_words::GET => true,
+        program_words::SET => true,
+        program_words::MATCHES => true,
         MATCH => true,
-        program_emitter::JUMP => true,
-        program_emitter::JUMP_IF_FALSE => true,
-        program_emitter::PRINT => true,
+        program_words::JUMP => true,
+        program_words::JUMP_IF_FALSE => true,
+        program_words::PRINT => true,
         _ => false,
     }
 }
@@ -95,11 +95,11 @@ fn put_instruction(w: u64, room: &mut [u8], k: usize) -> usize
     requires { ⌜ k < 2 ^ 32 ⌝ }
     ensures { λ r. ⌜ Writes (now (room .entry)) k (instructionIn coded (instructionOf w)) r (now (room .exit)) ⌝ }
 {
-    let op = program_emitter::op_in(w);
+    let op = program_words::op_in(w);
     let i = varint::put_number(room, k, op);
-    let j = varint::put_number(room, i, program_emitter::depth_in(w));
+    let j = varint::put_number(room, i, program_words::depth_in(w));
     if has_operand(op) {
-        return varint::put_number(room, j, program_emitter::first_in(w));
+        return varint::put_number(room, j, program_words::first_in(w));
     }
     j
 }

@@ -25,7 +25,7 @@ use Rattle.image_format.specs.Codes.{jump-if-false, flow}
 use Rattle.program_lexer.specs.Coded.{coded, decoded, kindOf, kindCount}
 use Rattle.program_lexer.specs.declared.tokens.Token.{Token as Coded}
 use Rattle.program_lexer.proofs.Coding.{rank-of}
-use Rattle.program_emitter.specs.Words.{word, printWords}
+use Rattle.program_words.specs.Words.{word, printWords}
 use Rattle.program_parser.specs.declared.read.Read.{Read}
 use Rattle.program_parser.specs.Meaning.{Wrote}
 use Rattle.program_parser.specs.Reading.{answered, refusal, refusedBy, Ready, Reading, ReadingStatement}

@@ -22,7 +22,7 @@ use Rattle.program_code.proofs.Sections.{statement-length}
 use Rattle.image_format.specs.Codes.{section-end, flow}
 use Rattle.program_lexer.specs.Coded.{coded, decoded, kindCount}
 use Rattle.program_lexer.specs.declared.tokens.Token.{Token as Coded}
-use Rattle.program_emitter.specs.Words.{word}
+use Rattle.program_words.specs.Words.{word}
 use Rattle.program_parser.specs.Meaning.{Wrote}
 use Rattle.program_parser.specs.Reading.{Good}
 use Rattle.program_parser.specs.Passing.{passing}

@@ -78,20 +78,14 @@ fn guarded(s: &[u8], section: &mut [u64], edition: Edition, t: Token, n: usize) 
     let j = e.count;
     if kinds::is_ender(kind) | (kind == kinds::TEXT_END) {
         let count = program_emitter::emit_print(section, j + 1);
-        program_emitter::emit(section, j, program_emitter::JUMP_IF_FALSE, 1, count as u64);
+        program_emitter::emit(section, j, program_words::JUMP_IF_FALSE, 1, count as u64);
         return read::ok(u, count, read::OTHER);
     }
     let r = action(s, section, edition, u, j + 1, true);
     if r.outcome != 0 {
         return r;
     }
-    program_emitter::emit(
-        section,
-        j,
-        program_emitter::JUMP_IF_FALSE,
-        1,
-        r.count as u64,
-    );
+    program_emitter::emit(section, j, program_words::JUMP_IF_FALSE, 1, r.count as u64);
     r
 }
 
@@ -185,9 +179,9 @@ pub fn read_program(
     loop {
         let t = p.token;
         if t.kind == kinds::TEXT_END {
-            let b = program_emitter::emit(begin, p.begin, program_emitter::SECTION_END, 0, 0);
-            let m = program_emitter::emit(main, p.main, program_emitter::SECTION_END, 0, 0);
-            let e = program_emitter::emit(end, p.end, program_emitter::SECTION_END, 0, 0);
+            let b = program_emitter::emit(begin, p.begin, program_words::SECTION_END, 0, 0);
+            let m = program_emitter::emit(main, p.main, program_words::SECTION_END, 0, 0);
+            let e = program_emitter::emit(end, p.end, program_words::SECTION_END, 0, 0);
             return Program {
                 token: t,
                 outcome: 0,

@@ -8,7 +8,7 @@ use Rattle.image_format.specs.Image.{Constant}
 use Rattle.program_numbering.specs.Names.{withNew, numberOf}
 use Rattle.program_numbering.specs.Numbering.{sameConstant}
 use Rattle.program_numbering.proofs.Numbers.{constant-same}
-use Rattle.program_emitter.specs.Words.{opIn}
+use Rattle.program_words.specs.Words.{opIn}
 use Rattle.program_entries.specs.Named.{isNamed}
 use Rattle.program_numberer.specs.Numbered.{withOperand, thingAt, things, numbered, numberedFrom}
 use Rattle.program_numberer.proofs.Lists.{new-append, number-entered}

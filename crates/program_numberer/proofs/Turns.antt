@@ -15,7 +15,7 @@ use Rattle.edition.specs.Limits.{filterText}
 use Rattle.image_format.specs.Image.{Constant}
 use Rattle.program_numbering.specs.Names.{withNew, numberOf}
 use Rattle.program_numbering.specs.Numbering.{sameConstant}
-use Rattle.program_emitter.specs.Words.{packed, opIn, depthIn, firstIn}
+use Rattle.program_words.specs.Words.{packed, opIn, depthIn, firstIn}
 use Rattle.program_tables.specs.declared.tables.Entry.{Entry}
 use Rattle.program_tables.specs.Tables.{meant, AllInside, entriesFrom, withEntry}
 use Rattle.program_entries.specs.Named.{isNamed, named, Stands}

@@ -10,7 +10,7 @@ use Rattle.edition.specs.Limits.{numberBound}
 use Rattle.image_format.specs.Image.{Constant}
 use Rattle.program_numbering.specs.Names.{withNew, numberOf}
 use Rattle.program_numbering.specs.Numbering.{sameConstant}
-use Rattle.program_emitter.specs.Words.{opIn, depthIn, firstIn, word}
+use Rattle.program_words.specs.Words.{opIn, depthIn, firstIn, word}
 use Rattle.program_tables.specs.Tables.{entryIn}
 use Rattle.program_entries.specs.Named.{isNamed, named}
 use Rattle.program_entries.specs.Variables.{Held}

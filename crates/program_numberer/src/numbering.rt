@@ -29,13 +29,13 @@ fn number_word(
         (now (table .entry)) n (now (section .exit)) (now (table .exit)) r ⌝ }
 {
     let w = section[i];
-    let op = program_emitter::op_in(w);
+    let op = program_words::op_in(w);
     if !program_entries::is_named(what, op) | (table.len() / 2 < n) {
         return n;
     }
-    let e = program_entries::entry_at(s, program_emitter::first_in(w) as usize, what, edition);
+    let e = program_entries::entry_at(s, program_words::first_in(w) as usize, what, edition);
     let k = program_tables::enter(s, table, n, e, what == program_entries::CONSTANTS);
-    section[i] = program_emitter::instruction(op, program_emitter::depth_in(w), k as u64, 0);
+    section[i] = program_words::instruction(op, program_words::depth_in(w), k as u64, 0);
     if k < n {
         return n;
     }

@@ -7,7 +7,7 @@ use lib.ListN.{length}
 use lib.Seq.{sets}
 use Rattle.image_format.specs.Codes.{Operation}
 use Rattle.program_code.specs.Emitted.{Operand, Emitted, emit, opcode}
-use Rattle.program_emitter.specs.Words.{Fits, word}
+use Rattle.program_words.specs.Words.{Fits, word}
 use Rattle.program_emitter.proofs.Packed.{op-packed, depth-packed, first-packed, second-packed}
 use Rattle.program_emitter.proofs.Stores.{sets-after, sets-before}
 use Rattle.program_parser.specs.Meaning.{Denotes, Means, Spell, none-left, one-more, Wrote}

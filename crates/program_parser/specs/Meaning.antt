@@ -12,7 +12,7 @@ use Rattle.image_format.specs.Image.{Constant, number, text}
 use Rattle.program_tokens.specs.Kinds.{NUMBER}
 use Rattle.program_tokens.specs.Tokens.{Token, is, tokenOf, asOperand, spelling, numberIn, stringIn, ereIn}
 use Rattle.program_code.specs.Emitted.{Operand, nothing, the-constant, the-variable, the-ere, the-instruction, the-count, Emitted, opcode}
-use Rattle.program_emitter.specs.Words.{opIn, depthIn, firstIn, secondIn}
+use Rattle.program_words.specs.Words.{opIn, depthIn, firstIn, secondIn}
 
 module _ (edition : ℕ) (s : List ℕ) where
   -- the token that starts at a place

@@ -43,10 +43,10 @@ pub fn function_of(kind: u64, edition: Edition) -> Function
     ensures { λ r. ⌜ r ≡ described (functionOf (edition .number) (kindOf kind)) ⌝ }
 {
     match kind {
-        kinds::LENGTH => with_since(program_emitter::LENGTH, ONE, Edition::FIRST, edition),
-        kinds::INDEX => with_since(program_emitter::INDEX, TWO, Edition::FIRST, edition),
-        kinds::SUBSTR => with_since(program_emitter::SUBSTR, THREE, Edition::FIRST, edition),
-        kinds::MATCH => with_since(program_emitter::MATCH, ONE_AND_ERE, Edition::FIRST, edition),
+        kinds::LENGTH => with_since(program_words::LENGTH, ONE, Edition::FIRST, edition),
+        kinds::INDEX => with_since(program_words::INDEX, TWO, Edition::FIRST, edition),
+        kinds::SUBSTR => with_since(program_words::SUBSTR, THREE, Edition::FIRST, edition),
+        kinds::MATCH => with_since(program_words::MATCH, ONE_AND_ERE, Edition::FIRST, edition),
         _ => Function { op: 0, shapes: 0 },
     }
 }

@@ -80,18 +80,18 @@ pub fn operator_code(kind: u64) -> u64
     ensures { λ r. ⌜ r ≡ operatorCode (kindOf kind) ⌝ }
 {
     match kind {
-        kinds::PLUS => program_emitter::ADD,
-        kinds::MINUS => program_emitter::SUBTRACT,
-        kinds::STAR => program_emitter::MULTIPLY,
-        kinds::SLASH => program_emitter::DIVIDE,
-        kinds::PERCENT => program_emitter::REMAINDER,
-        kinds::LESS => program_emitter::LESS,
-        kinds::AT_MOST => program_emitter::AT_MOST,
-        kinds::EQUAL => program_emitter::EQUAL,
-        kinds::DIFFERENT => program_emitter::DIFFERENT,
-        kinds::GREATER => program_emitter::GREATER,
-        kinds::AT_LEAST => program_emitter::AT_LEAST,
-        _ => program_emitter::JOIN,
+        kinds::PLUS => program_words::ADD,
+        kinds::MINUS => program_words::SUBTRACT,
+        kinds::STAR => program_words::MULTIPLY,
+        kinds::SLASH => program_words::DIVIDE,
+        kinds::PERCENT => program_words::REMAINDER,
+        kinds::LESS => program_words::LESS,
+        kinds::AT_MOST => program_words::AT_MOST,
+        kinds::EQUAL => program_words::EQUAL,
+        kinds::DIFFERENT => program_words::DIFFERENT,
+        kinds::GREATER => program_words::GREATER,
+        kinds::AT_LEAST => program_words::AT_LEAST,
+        _ => program_words::JOIN,
     }
 }
 
@@ -101,9 +101,9 @@ pub fn prefix_code(kind: u64) -> u64
     ensures { λ r. ⌜ r ≡ prefixCode (kindOf kind) ⌝ }
 {
     match kind {
-        kinds::BANG => program_emitter::NOT,
-        kinds::PLUS => program_emitter::TO_NUMBER,
-        _ => program_emitter::NEGATE,
+        kinds::BANG => program_words::NOT,
+        kinds::PLUS => program_words::TO_NUMBER,
+        _ => program_words::NEGATE,
     }
 }
 

@@ -37,7 +37,7 @@ use Rattle.program_code.specs.Expressions.{size, compile}
 use Rattle.program_code.specs.Sections.{compilePrint, sizeOf, compileStatement}
 use Rattle.program_code.proofs.Flows.{size-length}
 use Rattle.program_code.proofs.Sections.{statement-length}
-use Rattle.program_emitter.specs.Words.{Fits, word, printWords}
+use Rattle.program_words.specs.Words.{Fits, word, printWords}
 use Rattle.program_parser.specs.Meaning.{Denotes, none-left, one-more, Wrote}
 use Rattle.program_parser.proofs.Spelling.{word-means, word-spells, wrote-after, wrote-before}
 

@@ -21,7 +21,7 @@ use Rattle.program_code.specs.Sections.{sizeAll, compileAll, sizePrint, compile
 use Rattle.program_code.proofs.Sections.{all-length}
 use Rattle.program_lexer.specs.Coded.{coded, decoded, kindOf, kindCount}
 use Rattle.program_lexer.specs.declared.tokens.Token.{Token as Coded}
-use Rattle.program_emitter.specs.Words.{word, printWords}
+use Rattle.program_words.specs.Words.{word, printWords}
 use Rattle.program_parser.specs.declared.read.Read.{Read}
 use Rattle.program_parser.specs.Meaning.{Wrote}
 use Rattle.program_parser.specs.Reading.{answered, Good, Ready, Reading, ReadingStatement}

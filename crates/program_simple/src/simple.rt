@@ -12,7 +12,7 @@ ghost use Rattle.program_reader.specs.Read.{map, operandAfter};
 ghost use Rattle.program_reader.specs.Expressions.{expressionAt};
 ghost use Rattle.program_reader.specs.Statements.{listed, printAt};
 ghost use Rattle.program_lexer.specs.Coded.{decoded};
-ghost use Rattle.program_emitter.specs.Words.{word};
+ghost use Rattle.program_words.specs.Words.{word};
 ghost use Rattle.program_parser.specs.Reading.{success, Ready, ReadingStatement};
 use edition::Edition;
 use program_lexer::Token;
@@ -64,7 +64,7 @@ pub fn expression(
     if r.outcome != 0 {
         return r;
     }
-    let count = program_emitter::emit(section, r.count, program_emitter::DROP, 1, 0);
+    let count = program_emitter::emit(section, r.count, program_words::DROP, 1, 0);
     read::ok(r.token, count, read::OTHER)
 }
 
@@ -105,7 +105,7 @@ fn print_list(
         count = r.count;
         let t = r.token;
         if t.kind != kinds::COMMA {
-            let end = program_emitter::emit(section, count, program_emitter::PRINT, d, d);
+            let end = program_emitter::emit(section, count, program_words::PRINT, d, d);
             return read::ok(t, end, read::OTHER);
         }
         first = newlines::past_newlines(s, program_lexer::token_after(s, t, edition), edition);

@@ -31,7 +31,7 @@ use Rattle.program_code.specs.Sections.{sizeOf, compileStatement}
 use Rattle.image_format.specs.Codes.{jump, jump-if-false, flow}
 use Rattle.program_lexer.specs.Coded.{coded, decoded, kindOf, kindCount}
 use Rattle.program_lexer.specs.declared.tokens.Token.{Token as Coded}
-use Rattle.program_emitter.specs.Words.{word}
+use Rattle.program_words.specs.Words.{word}
 use Rattle.program_parser.specs.declared.read.Read.{Read}
 use Rattle.program_parser.specs.Meaning.{Wrote}
 use Rattle.program_parser.specs.Reading.{answered, success, refusal, refusedBy, endOf, Good, Ready, ReadingStatement}

@@ -16,7 +16,7 @@ use Rattle.program_reader.specs.Statements.{ended, ifAt, whileAt, statementAt}
 use Rattle.program_code.specs.Sections.{sizeOf, compileStatement}
 use Rattle.program_lexer.specs.Coded.{coded, decoded}
 use Rattle.program_lexer.specs.declared.tokens.Token.{Token as Coded}
-use Rattle.program_emitter.specs.Words.{word}
+use Rattle.program_words.specs.Words.{word}
 use Rattle.program_parser.specs.declared.read.Read.{Read}
 use Rattle.program_parser.specs.Meaning.{Wrote}
 use Rattle.program_parser.specs.Reading.{answered, success, refusal, Good, Ready, ReadingStatement}

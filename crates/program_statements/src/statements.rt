@@ -73,21 +73,15 @@ fn if_else(
     }
     let i = a.count;
     let Else::At(w) = conditions::else_after(s, edition, a.token, a.form == read::ENDED) else {
-        program_emitter::emit(section, j, program_emitter::JUMP_IF_FALSE, 1, i as u64);
+        program_emitter::emit(section, j, program_words::JUMP_IF_FALSE, 1, i as u64);
         return a;
     };
     let b = body(s, section, edition, w, i + 1, levels, in_main);
     if b.outcome != 0 {
         return b;
     }
-    program_emitter::emit(section, i, program_emitter::JUMP, 0, b.count as u64);
-    program_emitter::emit(
-        section,
-        j,
-        program_emitter::JUMP_IF_FALSE,
-        1,
-        (i + 1) as u64,
-    );
+    program_emitter::emit(section, i, program_words::JUMP, 0, b.count as u64);
+    program_emitter::emit(section, j, program_words::JUMP_IF_FALSE, 1, (i + 1) as u64);
     b
 }
 
@@ -116,8 +110,8 @@ fn repeat(
     if a.outcome != 0 {
         return a;
     }
-    let count = program_emitter::emit(section, a.count, program_emitter::JUMP, 0, n as u64);
-    program_emitter::emit(section, j, program_emitter::JUMP_IF_FALSE, 1, count as u64);
+    let count = program_emitter::emit(section, a.count, program_words::JUMP, 0, n as u64);
+    program_emitter::emit(section, j, program_words::JUMP_IF_FALSE, 1, count as u64);
     read::ok(a.token, count, a.form)
 }
 
@@ -157,10 +151,10 @@ fn statement(
         return simple::print(s, section, edition, t, n, levels);
     }
     if kind == kinds::EXIT {
-        return simple::single(s, section, edition, t, n, program_emitter::EXIT);
+        return simple::single(s, section, edition, t, n, program_words::EXIT);
     }
     if (kind == kinds::NEXT) & in_main {
-        return simple::single(s, section, edition, t, n, program_emitter::NEXT);
+        return simple::single(s, section, edition, t, n, program_words::NEXT);
     }
     simple::expression(s, section, edition, t, n, levels)
 }

@@ -11,7 +11,7 @@ use Rattle.program_code.specs.Emitted.{Operand, nothing, the-constant, the-vari
 use Rattle.program_numbering.specs.Names.{has, numberOf}
 use Rattle.program_numbering.specs.Numbering.{specialNames, sameConstant, constantIn, ereIn, operandsBy, Tables, numbersOf, instructions}
 use Rattle.program_numbering.proofs.Numbers.{Each, each-join}
-use Rattle.program_emitter.specs.Words.{Fits, opIn, depthIn, firstIn}
+use Rattle.program_words.specs.Words.{Fits, opIn, depthIn, firstIn}
 use Rattle.program_emitter.proofs.Packed.{op-packed, depth-packed, first-packed}
 use Rattle.program_parser.specs.Meaning.{constantAt, nameAt, ereAt, Denotes, Means, Spell, none-left, one-more}
 use Rattle.program_entries.specs.Named.{isNamed, named, variableOf}

@@ -4,7 +4,7 @@ use Rattle.program_emitter.proofs.runs.emit.Tie as tie
 use Rattle.program_emitter.proofs.runs.emit.Reads as reads
 use Rattle.program_emitter.proofs.runs.emit.Lts as lts
 use Rattle.program_emitter.proofs.runs.put.Reads as put-reads
-use Rattle.program_emitter.proofs.words.instruction.Reads as instruction-reads
+use Rattle.program_words.proofs.words.instruction.Reads as instruction-reads
 
 instruction-requires : tie.Need-instruction-requires
 instruction-requires c κs = search needs

@@ -7,7 +7,7 @@ use borrow.Author.Tests.{eq-eqb, ne-eqb}
 use Rattle.image_format.specs.Codes.{action}
 use Rattle.program_code.specs.Emitted.{opcode}
 use Rattle.program_lexer.specs.Coded.{kindOf}
-use Rattle.program_emitter.specs.Words.{word}
+use Rattle.program_words.specs.Words.{word}
 use Rattle.program_parser.specs.Tables.{actionOf}
 use Rattle.program_parser.specs.Reading.{answered}
 use Rattle.program_expressions.proofs.Primaries.{fits}

@@ -5,7 +5,7 @@ use native.Mathlib.Omega.{arith}
 use borrow.Author.Needs.{needs}
 use Rattle.image_format.specs.Numbers.{coded}
 use Rattle.varint.proofs.Puts.{coded-short}
-use Rattle.program_emitter.specs.Words.{opIn, depthIn, firstIn}
+use Rattle.program_words.specs.Words.{opIn, depthIn, firstIn}
 use Rattle.program_image.specs.Written.{hasOperand}
 use Rattle.program_image.proofs.Remaining.{writes-by, writes-both, writes-same}
 use Rattle.program_image.proofs.Parts.{operand-bytes, plain-bytes}

@@ -1,6 +1,6 @@
 // An instruction as one word.
 ghost use mathlib.Core.Path.{_≡_};
-ghost use Rattle.program_emitter.specs.Words.{packed, Fits, opIn, depthIn, firstIn, secondIn};
+ghost use Rattle.program_words.specs.Words.{packed, Fits, opIn, depthIn, firstIn, secondIn};
 use edition::Edition;
 
 // The codes of the instructions.

@@ -1,2 +1,0 @@
--- Instructions as words.
-pub mod Words
