@@ -10,9 +10,9 @@ ghost use Rattle.program_parser.specs.Reading.{Good};
 ghost use Rattle.program_expressions.specs.Parts.{applied, appliedTo};
 use edition::Edition;
 use program_lexer::Token;
+use program_newlines::newlines;
 use program_parser::Read;
 use program_parser::kinds;
-use program_parser::newlines;
 use program_parser::operators;
 use program_parser::read;
 

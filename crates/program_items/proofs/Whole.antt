@@ -25,10 +25,10 @@ use Rattle.program_lexer.specs.declared.tokens.Token.{Token as Coded}
 use Rattle.program_words.specs.Words.{word}
 use Rattle.program_parser.specs.Meaning.{Wrote}
 use Rattle.program_parser.specs.Reading.{Good}
-use Rattle.program_parser.specs.Passing.{passing}
+use Rattle.program_newlines.specs.Passing.{passing}
 use Rattle.program_parser.proofs.Codes.{kind-below, decoded-back}
 use Rattle.program_parser.proofs.Tokens.{good-at, good-after, good-operand, good-past}
-use Rattle.program_parser.proofs.Passing.{still}
+use Rattle.program_newlines.proofs.Passing.{still}
 use Rattle.program_parser.proofs.Spelling.{wrote-after}
 use Rattle.program_items.specs.declared.programs.Program.{Program}
 use Rattle.program_items.specs.Programs.{countIn, ReadingProgram}

@@ -16,9 +16,9 @@ ghost use Rattle.program_items.specs.Programs.{each, ReadingProgram};
 ghost use Rattle.program_items.specs.Items.{ReadingMain, ReadingItem, Onward};
 use edition::Edition;
 use program_lexer::Token;
+use program_newlines::newlines;
 use program_parser::Read;
 use program_parser::kinds;
-use program_parser::newlines;
 use program_parser::operators;
 use program_parser::read;
 

@@ -4,5 +4,4 @@ pub mod Tokens
 pub mod Places
 pub mod Codes
 pub mod Others
-pub mod Passing
 pub mod Spelling

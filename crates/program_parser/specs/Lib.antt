@@ -2,4 +2,3 @@
 pub mod Tables
 pub mod Meaning
 pub mod Reading
-pub mod Passing

@@ -16,9 +16,9 @@ ghost use Rattle.program_words.specs.Words.{word};
 ghost use Rattle.program_parser.specs.Reading.{success, Ready, ReadingStatement};
 use edition::Edition;
 use program_lexer::Token;
+use program_newlines::newlines;
 use program_parser::Read;
 use program_parser::kinds;
-use program_parser::newlines;
 use program_parser::operators;
 use program_parser::read;
 

@@ -26,7 +26,7 @@ use Rattle.program_parser.specs.Meaning.{Wrote}
 use Rattle.program_parser.specs.Reading.{answered, success, refusal, refusedBy, endOf, Good, Ready, ReadingStatement}
 use Rattle.program_parser.proofs.Codes.{decoded-coded, decoded-back}
 use Rattle.program_parser.proofs.Tokens.{good-after, good-operand}
-use Rattle.program_parser.proofs.Passing.{still}
+use Rattle.program_newlines.proofs.Passing.{still}
 use Rattle.program_parser.proofs.Spelling.{wrote-after}
 use Rattle.program_simple.specs.Statements.{followedOf}
 use Rattle.program_simple.proofs.Answers.{

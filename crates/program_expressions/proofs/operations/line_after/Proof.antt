@@ -10,7 +10,7 @@ use Rattle.program_expressions.proofs.operations.line_after.Tie as tie
 use Rattle.program_expressions.proofs.operations.line_after.Reads as reads
 use Rattle.program_expressions.proofs.operations.line_after.Lts as lts
 use Rattle.program_lexer.proofs.token_after.Reads as token-after-reads
-use Rattle.program_parser.proofs.newlines.past_newlines.Reads as past-newlines-reads
+use Rattle.program_newlines.proofs.newlines.past_newlines.Reads as past-newlines-reads
 
 token-after-requires : tie.Need-token-after-requires
 token-after-requires c κs = search needs

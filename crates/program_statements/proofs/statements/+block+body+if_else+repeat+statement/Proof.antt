@@ -72,7 +72,7 @@ use Rattle.program_statements.proofs.statements.+block+body+if_else+rep
 use Rattle.program_emitter.proofs.emit.Reads as emit-reads
 use Rattle.program_lexer.proofs.token_after.Reads as token-after-reads
 use Rattle.program_parser.proofs.kinds.starts_statement.Reads as starts-statement-reads
-use Rattle.program_parser.proofs.newlines.past_newlines.Reads as past-newlines-reads
+use Rattle.program_newlines.proofs.newlines.past_newlines.Reads as past-newlines-reads
 use Rattle.program_parser.proofs.read.ok.Reads as ok-reads
 use Rattle.program_parser.proofs.read.refuse.Reads as refuse-reads
 use Rattle.program_parser.proofs.read.too_deep.Reads as too-deep-reads

@@ -5,11 +5,11 @@ ghost use Prim.Native.Nat.{_<_};
 ghost use Rattle.program_tokens.specs.Kinds.{among};
 ghost use Rattle.program_reader.specs.Read.{past as pastOf, pastNewlines};
 ghost use Rattle.program_lexer.specs.Coded.{coded, decoded, kindOf, kindCount};
 ghost use Rattle.program_parser.specs.Reading.{Good};
-ghost use Rattle.program_parser.specs.Passing.{passing};
-use crate::kinds;
+ghost use Rattle.program_newlines.specs.Passing.{passing};
 use edition::Edition;
 use program_lexer::Token;
+use program_parser::kinds;
 
 // Tells whether a token of this kind is passed: a newline, and `;` where that holds.
 fn is_passed(kind: u64, semicolons: bool) -> bool

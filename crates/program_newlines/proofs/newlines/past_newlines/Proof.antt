@@ -1,7 +1,7 @@
 use borrow.Author.Needs.{needs}
-use Rattle.program_parser.proofs.Passing.{newlines-ready, newlines-again}
-use Rattle.program_parser.proofs.newlines.past_newlines.Statement.{statement}
-use Rattle.program_parser.proofs.newlines.past_newlines.Tie as tie
+use Rattle.program_newlines.proofs.Passing.{newlines-ready, newlines-again}
+use Rattle.program_newlines.proofs.newlines.past_newlines.Statement.{statement}
+use Rattle.program_newlines.proofs.newlines.past_newlines.Tie as tie
 
 past-requires : tie.Need-past-requires
 past-requires c κs = search needs

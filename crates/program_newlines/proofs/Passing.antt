@@ -16,11 +16,11 @@ use Rattle.program_reader.specs.Read.{pastIn, past, pastNewlines}
 use Rattle.program_lexer.specs.Coded.{coded, decoded, kindOf, kindCount}
 use Rattle.program_lexer.specs.declared.tokens.Token.{Token as Coded}
 use Rattle.program_lexer.proofs.Coding.{rank-of}
 use Rattle.program_parser.specs.Reading.{Good}
-use Rattle.program_parser.specs.Passing.{passing, Passes}
+use Rattle.program_newlines.specs.Passing.{passing, Passes}
 use Rattle.program_parser.proofs.Tokens.{good-after, good-past}
 use Rattle.program_parser.proofs.Codes.{kind-below, decoded-back}
 use Rattle.program_parser.proofs.Sets.{ender-kind, newline-kind}
 
 pub passing-kind : (semicolons : Bool) (n : ℕ) → n < kindCount → (eqb n 1 || (semicolons && eqb n 43))
     ≡ among (passing semicolons) (kindOf n)

@@ -3,10 +3,10 @@ use Prim.Native.Nat.{_-_}
 use lib.ListN.{length}
 use borrow.Author.Needs.{needs}
 use Rattle.program_lexer.specs.Coded.{kindOf, kindCount}
-use Rattle.program_parser.specs.Passing.{passing, Passes}
-use Rattle.program_parser.proofs.Passing.{pass-start, pass-done, pass-nearer, pass-more}
-use Rattle.program_parser.proofs.newlines.past.Statement.{statement}
-use Rattle.program_parser.proofs.newlines.past.Tie as tie
+use Rattle.program_newlines.specs.Passing.{passing, Passes}
+use Rattle.program_newlines.proofs.Passing.{pass-start, pass-done, pass-nearer, pass-more}
+use Rattle.program_newlines.proofs.newlines.past.Statement.{statement}
+use Rattle.program_newlines.proofs.newlines.past.Tie as tie
 
 abbrev Inv-loop : tie.InvT-loop
 Inv-loop s semicolons edition u₀ u = Passes (edition .number) s (passing semicolons) u₀ u

@@ -1,0 +1,2 @@
+-- The laws on newlines.
+pub mod Passing

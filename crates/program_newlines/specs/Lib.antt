@@ -1,0 +1,2 @@
+-- What the contracts on newlines cite.
+pub mod Passing

@@ -1,0 +1,2 @@
+// Newlines, passed where the grammar has them.
+pub mod newlines;
