@@ -11,9 +11,9 @@ ghost use Rattle.program_expressions.specs.Parts.{applied, appliedTo};
 use edition::Edition;
 use program_lexer::Token;
 use program_newlines::newlines;
+use program_operators::operators;
 use program_parser::Read;
 use program_parser::kinds;
-use program_parser::operators;
 use program_parser::read;
 
 // Returns the first token after t and newlines.

@@ -17,9 +17,9 @@ ghost use Rattle.program_items.specs.Items.{ReadingMain, ReadingItem, On
 use edition::Edition;
 use program_lexer::Token;
 use program_newlines::newlines;
+use program_operators::operators;
 use program_parser::Read;
 use program_parser::kinds;
-use program_parser::operators;
 use program_parser::read;
 
 // What was read of a program: the first token after it and how many instructions each section has; or an outcome, and a

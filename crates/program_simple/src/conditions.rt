@@ -10,9 +10,9 @@ ghost use Rattle.program_parser.specs.Reading.{Good, Ready};
 ghost use Rattle.program_simple.specs.Statements.{ReadingCondition, elseOf};
 use edition::Edition;
 use program_lexer::Token;
+use program_operators::operators;
 use program_parser::Read;
 use program_parser::kinds;
-use program_parser::operators;
 use program_parser::read;
 
 // Reads a condition in parentheses, at its `(`.

@@ -17,9 +17,9 @@ ghost use Rattle.program_parser.specs.Reading.{success, Ready, ReadingStatement
 use edition::Edition;
 use program_lexer::Token;
 use program_newlines::newlines;
+use program_operators::operators;
 use program_parser::Read;
 use program_parser::kinds;
-use program_parser::operators;
 use program_parser::read;
 
 // Writes a statement that is one instruction and names nothing, and goes past its word.

@@ -66,10 +66,10 @@ use Rattle.program_lexer.proofs.token_after.Reads as token-after-reads
 use Rattle.program_parser.proofs.calls.function_of.Reads as function-of-reads
 use Rattle.program_parser.proofs.kinds.is_name.Reads as is-name-reads
 use Rattle.program_parser.proofs.kinds.is_prefix.Reads as is-prefix-reads
-use Rattle.program_parser.proofs.operators.between.Reads as between-reads
-use Rattle.program_parser.proofs.operators.prefix_code.Reads as prefix-code-reads
-use Rattle.program_parser.proofs.operators.right_depth.Reads as right-depth-reads
-use Rattle.program_parser.proofs.operators.tier_of.Reads as tier-of-reads
+use Rattle.program_operators.proofs.operators.between.Reads as between-reads
+use Rattle.program_operators.proofs.operators.prefix_code.Reads as prefix-code-reads
+use Rattle.program_operators.proofs.operators.right_depth.Reads as right-depth-reads
+use Rattle.program_operators.proofs.operators.tier_of.Reads as tier-of-reads
 use Rattle.program_parser.proofs.read.closed.Reads as closed-reads
 use Rattle.program_parser.proofs.read.ok.Reads as ok-reads
 use Rattle.program_parser.proofs.read.operand_after.Reads as operand-after-reads

@@ -19,7 +19,7 @@ use Rattle.program_expressions.proofs.operations.apply.Lts as lts
 use Rattle.program_emitter.proofs.emit.Reads as emit-reads
 use Rattle.program_emitter.proofs.emit_both.Reads as emit-both-reads
 use Rattle.program_emitter.proofs.emit_either.Reads as emit-either-reads
-use Rattle.program_parser.proofs.operators.operator_code.Reads as operator-code-reads
+use Rattle.program_operators.proofs.operators.operator_code.Reads as operator-code-reads
 use Rattle.program_parser.proofs.read.ok.Reads as ok-reads
 
 emit-both-requires : tie.Need-emit-both-requires

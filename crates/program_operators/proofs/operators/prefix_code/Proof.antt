@@ -3,11 +3,11 @@ use Rattle.program_reader.specs.Operators.{prefixOf}
 use Rattle.program_code.specs.Emitted.{actionCode}
 use Rattle.program_code.specs.Expressions.{prefixAction}
 use Rattle.program_lexer.specs.Coded.{kindOf}
 use Rattle.program_parser.proofs.Others.{other-prefix}
-use Rattle.program_parser.proofs.operators.prefix_code.Statement.{statement}
-use Rattle.program_parser.proofs.operators.prefix_code.Tie as tie
-use Rattle.program_parser.proofs.operators.prefix_code.Reads as reads
-use Rattle.program_parser.proofs.operators.prefix_code.Lts as lts
+use Rattle.program_operators.proofs.operators.prefix_code.Statement.{statement}
+use Rattle.program_operators.proofs.operators.prefix_code.Tie as tie
+use Rattle.program_operators.proofs.operators.prefix_code.Reads as reads
+use Rattle.program_operators.proofs.operators.prefix_code.Lts as lts
 
 returns : tie.Need-returns
 unfolding prefixOf prefixAction actionCode kindOf rank

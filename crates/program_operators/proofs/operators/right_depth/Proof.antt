@@ -1,8 +1,8 @@
 use borrow.Author.Needs.{needs}
-use Rattle.program_parser.proofs.operators.right_depth.Statement.{statement}
-use Rattle.program_parser.proofs.operators.right_depth.Tie as tie
-use Rattle.program_parser.proofs.operators.right_depth.Reads as reads
-use Rattle.program_parser.proofs.operators.right_depth.Lts as lts
+use Rattle.program_operators.proofs.operators.right_depth.Statement.{statement}
+use Rattle.program_operators.proofs.operators.right_depth.Tie as tie
+use Rattle.program_operators.proofs.operators.right_depth.Reads as reads
+use Rattle.program_operators.proofs.operators.right_depth.Lts as lts
 
 returns : tie.Need-returns
 returns c = rw (c .if1 .taken)

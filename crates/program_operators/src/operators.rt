@@ -4,9 +4,9 @@ ghost use mathlib.Core.Bool.{false};
 ghost use Prim.Native.Nat.{_<_, _≤_};
 ghost use Rattle.program_reader.specs.Operators.{tierOf};
 ghost use Rattle.program_lexer.specs.Coded.{kindOf, kindCount};
 ghost use Rattle.program_parser.specs.Tables.{joinedTier, operatorCode, prefixCode, between as betweenOf, rightDepth};
-use crate::kinds;
 use edition::Edition;
+use program_parser::kinds;
 
 // The tiers, from the tightest; 7 is free.
 pub const FIELDS: u64 = 0;

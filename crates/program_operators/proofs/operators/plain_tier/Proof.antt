@@ -2,13 +2,13 @@ use mathlib.Core.Path.{_∙_}
 use Rattle.program_tokens.specs.Kinds.{rank}
 use Rattle.program_reader.specs.Operators.{tierOf, operatorIn}
 use Rattle.program_lexer.specs.Coded.{kindOf}
 use Rattle.program_parser.proofs.Others.{other-tier}
 use borrow.Author.Needs.{needs}
-use Rattle.program_parser.proofs.operators.plain_tier.Statement.{statement}
-use Rattle.program_parser.proofs.operators.plain_tier.Tie as tie
-use Rattle.program_parser.proofs.operators.plain_tier.Reads as reads
-use Rattle.program_parser.proofs.operators.plain_tier.Lts as lts
-use Rattle.program_parser.proofs.operators.joined_tier.Reads as joined-tier-reads
+use Rattle.program_operators.proofs.operators.plain_tier.Statement.{statement}
+use Rattle.program_operators.proofs.operators.plain_tier.Tie as tie
+use Rattle.program_operators.proofs.operators.plain_tier.Reads as reads
+use Rattle.program_operators.proofs.operators.plain_tier.Lts as lts
+use Rattle.program_operators.proofs.operators.joined_tier.Reads as joined-tier-reads
 
 joined-tier-requires : tie.Need-joined-tier-requires
 joined-tier-requires c κs = search needs

@@ -1,8 +1,8 @@
 use borrow.Author.Tests.{eq-eqb, ne-eqb}
-use Rattle.program_parser.proofs.operators.between.Statement.{statement}
-use Rattle.program_parser.proofs.operators.between.Tie as tie
-use Rattle.program_parser.proofs.operators.between.Reads as reads
-use Rattle.program_parser.proofs.operators.between.Lts as lts
+use Rattle.program_operators.proofs.operators.between.Statement.{statement}
+use Rattle.program_operators.proofs.operators.between.Tie as tie
+use Rattle.program_operators.proofs.operators.between.Reads as reads
+use Rattle.program_operators.proofs.operators.between.Lts as lts
 
 returns : tie.Need-returns
 returns c = rw (eq-eqb _ 61 (c .if1 .taken))

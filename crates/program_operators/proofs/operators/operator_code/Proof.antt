@@ -1,12 +1,12 @@
 use Rattle.program_tokens.specs.Kinds.{rank}
 use Rattle.program_code.specs.Emitted.{actionCode, arithmeticCode, comparisonCode}
 use Rattle.program_lexer.specs.Coded.{kindOf}
 use Rattle.program_parser.specs.Tables.{actionOf}
 use Rattle.program_parser.proofs.Others.{other-code}
-use Rattle.program_parser.proofs.operators.operator_code.Statement.{statement}
-use Rattle.program_parser.proofs.operators.operator_code.Tie as tie
-use Rattle.program_parser.proofs.operators.operator_code.Reads as reads
-use Rattle.program_parser.proofs.operators.operator_code.Lts as lts
+use Rattle.program_operators.proofs.operators.operator_code.Statement.{statement}
+use Rattle.program_operators.proofs.operators.operator_code.Tie as tie
+use Rattle.program_operators.proofs.operators.operator_code.Reads as reads
+use Rattle.program_operators.proofs.operators.operator_code.Lts as lts
 
 returns : tie.Need-returns
 unfolding actionOf actionCode arithmeticCode comparisonCode kindOf rank

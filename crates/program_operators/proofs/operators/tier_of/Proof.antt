@@ -1,11 +1,11 @@
 use mathlib.Core.Path.{_∙_}
 use Rattle.program_parser.proofs.Others.{barred, not-barred}
 use borrow.Author.Needs.{needs}
-use Rattle.program_parser.proofs.operators.tier_of.Statement.{statement}
-use Rattle.program_parser.proofs.operators.tier_of.Tie as tie
-use Rattle.program_parser.proofs.operators.tier_of.Reads as reads
-use Rattle.program_parser.proofs.operators.tier_of.Lts as lts
-use Rattle.program_parser.proofs.operators.plain_tier.Reads as plain-tier-reads
+use Rattle.program_operators.proofs.operators.tier_of.Statement.{statement}
+use Rattle.program_operators.proofs.operators.tier_of.Tie as tie
+use Rattle.program_operators.proofs.operators.tier_of.Reads as reads
+use Rattle.program_operators.proofs.operators.tier_of.Lts as lts
+use Rattle.program_operators.proofs.operators.plain_tier.Reads as plain-tier-reads
 
 returns : tie.Need-returns
 returns c = barred (c .before .args .kind) (c .before .pre) _ _ (c .if1 .taken)

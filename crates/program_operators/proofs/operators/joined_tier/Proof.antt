@@ -1,9 +1,9 @@
 use borrow.Author.Needs.{needs}
-use Rattle.program_parser.proofs.operators.joined_tier.Statement.{statement}
-use Rattle.program_parser.proofs.operators.joined_tier.Tie as tie
-use Rattle.program_parser.proofs.operators.joined_tier.Reads as reads
-use Rattle.program_parser.proofs.operators.joined_tier.Lts as lts
+use Rattle.program_operators.proofs.operators.joined_tier.Statement.{statement}
+use Rattle.program_operators.proofs.operators.joined_tier.Tie as tie
+use Rattle.program_operators.proofs.operators.joined_tier.Reads as reads
+use Rattle.program_operators.proofs.operators.joined_tier.Lts as lts
 use Rattle.program_parser.proofs.kinds.starts_joined.Reads as starts-joined-reads
 
 starts-joined-requires : tie.Need-starts-joined-requires
 starts-joined-requires c κs = search needs

@@ -1,0 +1,2 @@
+// The operators of the tiers.
+pub mod operators;
