@@ -19,7 +19,7 @@ use Rattle.image_index.specs.declared.indexes.Kind.{Kind}
 use Rattle.image_index.specs.declared.indexes.Kind.the-variants.{Constants, Eres, Instructions}
 use Rattle.image_index.specs.declared.indexes.Entry.{Entry}
 use Rattle.image_index.specs.declared.indexes.Listed.{Listed}
-use Rattle.image_index.specs.declared.access.Numbers.{Numbers}
+use Rattle.image_index.specs.declared.indexes.Numbers.{Numbers}
 
 abbrev pub ItemOf : Kind → Type 0
 ItemOf Constants = Constant

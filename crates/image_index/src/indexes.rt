@@ -10,6 +10,15 @@ ghost use Rattle.image_index.specs.Lists.{mostOf, leastOf, EntryAt, Item
 use edition::Edition;
 use varint::Taken;
 
+// The numbers of an instruction: its code, the depth before it, and its first and second number, 0 where the code names
+// none.
+pub struct Numbers {
+    pub code: u64,
+    pub depth: u64,
+    pub first: u64,
+    pub second: u64,
+}
+
 // What the items of a list are.
 pub enum Kind {
     Constants,

@@ -1,13 +1,8 @@
-// What is where in an image: its texts, constants and instructions, and an index of each list.
-mod access;
+// An index of each list of an image: its constants, EREs and instructions.
 mod indexes;
 
-pub use access::Numbers;
-pub use access::constant;
-pub use access::constant_bytes;
-pub use access::ere_bytes;
-pub use access::instruction;
 pub use indexes::IMAGE_BYTES;
 pub use indexes::Kind;
 pub use indexes::Listed;
+pub use indexes::Numbers;
 pub use indexes::list_at;

@@ -13,7 +13,7 @@ use Rattle.edition.specs.Limits.{operandDepth}
 use Rattle.image_format.specs.Codes.{codeOf}
 use Rattle.opcodes.specs.Rows.{rowIn, isKnown}
 use Rattle.image_index.specs.Lists.{numbersOf}
-use Rattle.image_index.specs.declared.access.Numbers.{Numbers}
+use Rattle.image_index.specs.declared.indexes.Numbers.{Numbers}
 use Rattle.image_instructions.specs.Judge.{terminatesOf, popsOf, existsOf, allowedOf, placedOf, leadsOf, hasDepth, judgedAt}
 use Rattle.image_instructions.specs.declared.context.Context.{Context}
 

@@ -99,7 +99,7 @@ fn has_depth(index: &[u32], count: usize, m: u64, depth: u64) -> bool
     if count as u64 <= m {
         return false;
     }
-    let j = image_index::instruction(index, m as usize);
+    let j = image_access::instruction(index, m as usize);
     j.depth == depth
 }
 
@@ -136,7 +136,7 @@ fn check_instruction(index: &[u32], context: Context, count: usize, n: usize) ->
     requires { ⌜ (count ≤ length (now index)) × (n < count) × (context .users ≤ userNames) ⌝ }
     ensures { λ r. ⌜ r ≡ judgedAt context (now (index .entry)) count n ⌝ }
 {
-    let j = image_index::instruction(index, n);
+    let j = image_access::instruction(index, n);
     let code = j.code;
     if !opcodes::known_code(context.edition, code) {
         return false;

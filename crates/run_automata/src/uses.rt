@@ -31,7 +31,7 @@ pub fn note_all(program: &[u32], asked: &mut [u8])
 {
     let mut k = 0;
     while k < program.len() {
-        let i = image_index::instruction(program, k);
+        let i = image_access::instruction(program, k);
         note(asked, i.code, i.first as usize);
         k += 1;
     }

@@ -18,7 +18,7 @@ fn word_of(image: &[u8], index: &[u32], k: usize) -> u64
     ensures { λ r. ⌜ ((xs : List Constant) (a : Constant) → Listed (now (image .entry)) (now (index .entry)) xs
         → nth xs k ≡ some a → Decoded (now (image .entry)) r a) ⌝ }
 {
-    let c = image_index::constant(image, index, k);
+    let c = image_access::constant(image, index, k);
     if c.kind == 0 {
         return number::ZERO + c.value;
     }

@@ -16,7 +16,7 @@ pub fn compile(image: &[u8], index: &[u32], edition: Edition, n: usize, table: &
         × ((xs : List (List ℕ)) × (Readable (edition .number) (now image) (now index) xs) × (n < length xs)) ⌝ }
     ensures { λ _. ⌜ Compiled (edition .number) (now (image .entry)) (now (index .entry)) n (now (table .exit)) ⌝ }
 {
-    ere::compile(image_index::ere_bytes(image, index, n), edition, table);
+    ere::compile(image_access::ere_bytes(image, index, n), edition, table);
 }
 
 // Compiles ERE n, unless the table is that of it already; `last` is the ERE of the table, and so is the answer.

@@ -1,10 +1,10 @@
 -- `constant_bytes` meets its contract: the constant that is at the entry's place is the one that the entry tells.
 use lib.ListN.{getD}
 use Rattle.buffer.specs.Parts.{part}
-use Rattle.image_index.proofs.Reaching.{is-part, constant-reached}
+use Rattle.image_access.proofs.Reaching.{is-part, constant-reached}
 use borrow.Author.Needs.{needs}
-use Rattle.image_index.proofs.access.constant_bytes.Statement.{statement}
-use Rattle.image_index.proofs.access.constant_bytes.Tie as tie
+use Rattle.image_access.proofs.access.constant_bytes.Statement.{statement}
+use Rattle.image_access.proofs.access.constant_bytes.Tie as tie
 
 mul-constant-at : tie.Need-mul-constant-at
 mul-constant-at c = search needs

@@ -5,18 +5,10 @@ ghost use mathlib.Core.List.{List};
 ghost use lib.ListN.{length, getD};
 ghost use Rattle.image_format.specs.Image.{text};
 ghost use Rattle.image_items.specs.Stands.{ConstantAt};
 ghost use Rattle.image_index.specs.Lists.{numbersOf, TellsOf, IsPart};
 ghost use Rattle.image_index.specs.declared.indexes.Kind.the-variants.{Constants, Eres};
+use image_index::Numbers;
 use image_items::Found;
-
-// The numbers of an instruction: its code, the depth before it, and its first and second number, 0 where the code names
-// none.
-pub struct Numbers {
-    pub code: u64,
-    pub depth: u64,
-    pub first: u64,
-    pub second: u64,
-}
 
 // Returns the instruction whose entry has the number n.
 pub fn instruction(index: &[u32], n: usize) -> Numbers

@@ -1,8 +1,8 @@
 -- `instruction` meets its contract: the entry's numbers are those of the definition.
 use native.Mathlib.Omega.{arith}
 use borrow.Author.Needs.{needs}
-use Rattle.image_index.proofs.access.instruction.Statement.{statement}
-use Rattle.image_index.proofs.access.instruction.Tie as tie
+use Rattle.image_access.proofs.access.instruction.Statement.{statement}
+use Rattle.image_access.proofs.access.instruction.Tie as tie
 
 mul-w : tie.Need-mul-w
 mul-w c = search needs

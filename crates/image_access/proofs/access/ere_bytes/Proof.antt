@@ -1,10 +1,10 @@
 -- `ere_bytes` meets its contract: the text that is at the entry's place is the one that the entry tells.
 use lib.ListN.{getD}
 use Rattle.buffer.specs.Parts.{part}
-use Rattle.image_index.proofs.Reaching.{is-part, text-reached}
+use Rattle.image_access.proofs.Reaching.{is-part, text-reached}
 use borrow.Author.Needs.{needs}
-use Rattle.image_index.proofs.access.ere_bytes.Statement.{statement}
-use Rattle.image_index.proofs.access.ere_bytes.Tie as tie
+use Rattle.image_access.proofs.access.ere_bytes.Statement.{statement}
+use Rattle.image_access.proofs.access.ere_bytes.Tie as tie
 
 mul-text-at : tie.Need-mul-text-at
 mul-text-at c = search needs

@@ -1,0 +1,2 @@
+-- The laws on what an index reaches.
+pub mod Reaching
