@@ -27,12 +27,12 @@ use Rattle.program_parser.specs.declared.read.Read.{Read}
 use Rattle.program_parser.specs.Meaning.{Denotes, nameAt}
 use Rattle.program_parser.specs.Reading.{formOf, Good, Ready, ReadExpression, Reading}
 use Rattle.program_parser.proofs.Codes.{decoded-back}
-use Rattle.program_expressions.specs.Parts.{Suffixed, ContinuesFrom}
-use Rattle.program_expressions.proofs.Readings.{good-earlier, after-operand}
-use Rattle.program_expressions.proofs.Written.{wrote-nothing, halved, reading-over}
-use Rattle.program_expressions.proofs.Suffixes.{Ends, suffix-read}
-use Rattle.program_expressions.proofs.Primaries.{fits}
-use Rattle.program_expressions.proofs.Matching.{token-of}
+use Rattle.program_operations.specs.Parts.{Suffixed, ContinuesFrom}
+use Rattle.program_operations.proofs.Readings.{good-earlier, after-operand}
+use Rattle.program_operations.proofs.Written.{wrote-nothing, halved, reading-over}
+use Rattle.program_operations.proofs.Suffixes.{Ends, suffix-read}
+use Rattle.program_operations.proofs.Primaries.{fits}
+use Rattle.program_operations.proofs.Matching.{token-of}
 
 -- what a tree is, as a left side
 data Target (edition : ℕ) (e : Expression) : Type 0 where

@@ -29,7 +29,7 @@ use Rattle.program_lexer.proofs.Coding.{rank-of}
 use Rattle.program_words.specs.Words.{Fits, word}
 use Rattle.program_parser.specs.declared.read.Read.{Read}
 use Rattle.program_parser.specs.declared.calls.Function.{Function as Coding}
-use Rattle.program_expressions.specs.declared.expressions.PendingCall.{PendingCall}
+use Rattle.program_operations.specs.declared.parts.PendingCall.{PendingCall}
 use Rattle.program_parser.specs.Tables.{functionAction, shapeCode, shapesCode, described}
 use Rattle.program_parser.specs.Meaning.{Denotes, Wrote}
 use Rattle.program_parser.specs.Reading.{success, answered, refusal, refusedBy, closedOf, formOf, Good, Ready, ReadExpression, Reading}
@@ -38,11 +38,11 @@ use Rattle.program_parser.proofs.Codes.{decoded-back}
 use Rattle.program_parser.proofs.Others.{coded-function, no-function}
 use Rattle.program_parser.proofs.Spelling.{wrote-after}
 use Rattle.program_parser.proofs.Places.{ere-placed}
-use Rattle.program_expressions.specs.Parts.{suffixed, Suffixed, pending, Completed, Completes, Calling, Calls, argumentsLeft}
-use Rattle.program_expressions.proofs.Readings.{good-earlier, after-operand, after-line, ready-at, refused-token, failed}
-use Rattle.program_expressions.proofs.Written.{wrote-nothing, wrote-one}
-use Rattle.program_expressions.proofs.Primaries.{fits, kind-is, begun}
-use Rattle.program_expressions.proofs.Turns.{code-small}
+use Rattle.program_operations.specs.Parts.{suffixed, Suffixed, pending, Completed, Completes, Calling, Calls, argumentsLeft}
+use Rattle.program_operations.proofs.Readings.{good-earlier, after-operand, after-line, ready-at, refused-token, failed}
+use Rattle.program_operations.proofs.Written.{wrote-nothing, wrote-one}
+use Rattle.program_operations.proofs.Primaries.{fits, kind-is, begun}
+use Rattle.program_operations.proofs.Turns.{code-small}
 
 -- ---- how many arguments are left
 

@@ -13,11 +13,12 @@ ghost use Rattle.program_reader.specs.Operators.{expressions};
 ghost use Rattle.program_reader.specs.Expressions.{turns, calling, primary as primaryOf, fieldForm, prefixForm, assignment as assignmentOf, more as moreOf, tier as tierOf, inside as insideOf};
 ghost use Rattle.program_lexer.specs.Coded.{decoded, kindOf};
 ghost use Rattle.program_parser.specs.Reading.{Ready, Reading};
-ghost use Rattle.program_expressions.specs.Parts.{Continues, ContinuesFrom, pending, Calls, argumentsLeft};
-use crate::operations;
-use crate::parts;
+ghost use Rattle.program_operations.specs.Parts.{Continues, ContinuesFrom, pending, Calls, argumentsLeft};
 use edition::Edition;
 use program_lexer::Token;
+use program_operations::operations;
+use program_operations::parts;
+use program_operations::parts::PendingCall;
 use program_operators::operators;
 use program_operators::operators::EXPRESSIONS;
 use program_operators::operators::FIELDS;
@@ -75,15 +76,6 @@ fn nested(
 {
     let k = EXPRESSIONS;
     inside(s, section, edition, opener, t, n, depth, levels, printed, k)
-}
-
-// A call of which arguments are left: its code, the shapes of those that are left, as in `calls`, the place of an ERE
-// among those before, and its `(`.
-pub struct PendingCall {
-    pub op: u64,
-    pub shapes: u64,
-    pub operand: u64,
-    pub opener: Token,
 }
 
 // Returns what is left of a call after an argument.

@@ -18,7 +18,7 @@ use Rattle.program_grammar.specs.Sets.{names}
 use Rattle.program_numbering.specs.Names.{usersAmong, namesInProgram}
 use Rattle.program_parser.specs.Reading.{Good}
 use Rattle.program_parser.proofs.Tokens.{choose, good-at, good-after, good-operand}
-use Rattle.program_expressions.proofs.Names.{name-word}
+use Rattle.program_operations.proofs.Names.{name-word}
 use Rattle.program_names.specs.Walk.{spannedBy, spanned, openAfter, ereFollows, nextIn, namesFrom, NamesInOrder}
 use Rattle.program_names.proofs.Walks.{own, Walks, here, pass}
 use Rattle.program_names.proofs.Programs.{GoodProgram, program-good}

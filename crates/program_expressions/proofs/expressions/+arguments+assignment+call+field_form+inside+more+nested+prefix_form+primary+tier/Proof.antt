@@ -12,15 +12,15 @@ use Rattle.program_lexer.specs.Coded.{decoded, kindOf, kindCount}
 use Rattle.program_parser.specs.declared.read.Read.{Read}
 use Rattle.program_parser.specs.declared.calls.Function.{Function}
 use Rattle.program_parser.specs.Reading.{closedOf, Ready}
-use Rattle.program_expressions.specs.declared.expressions.PendingCall.{PendingCall}
-use Rattle.program_expressions.specs.Parts.{Suffixed, pending, Calls, argumentsLeft}
-use Rattle.program_expressions.proofs.Readings.{ready-next, ready-operand, ready-fewer, refused-level, reading-fits, reading-ready}
-use Rattle.program_expressions.proofs.Written.{reading-some}
-use Rattle.program_expressions.proofs.Primaries.{fits, begun, prefix-small, primary-constant, primary-ere, primary-name, primary-called, primary-paren, field-read, field-other, prefix-read, prefix-other}
+use Rattle.program_operations.specs.declared.parts.PendingCall.{PendingCall}
+use Rattle.program_operations.specs.Parts.{Suffixed, pending, Calls, argumentsLeft}
+use Rattle.program_operations.proofs.Readings.{ready-next, ready-operand, ready-fewer, refused-level, reading-fits, reading-ready}
+use Rattle.program_operations.proofs.Written.{reading-some}
+use Rattle.program_operations.proofs.Primaries.{fits, begun, prefix-small, primary-constant, primary-ere, primary-name, primary-called, primary-paren, field-read, field-other, prefix-read, prefix-other}
 use Rattle.program_expressions.proofs.Assignments.{assign-none, assign-name, assign-to-field}
 use Rattle.program_expressions.proofs.Calls.{left-few, left-falls, function-fits, function-completes, function-begun, call-none, call-refused, call-read, closed-count, calls-end, calls-comma, start-ready, calls-failed, calls-next, calls-no-ere, calls-ere}
-use Rattle.program_expressions.proofs.Turns.{between-few, depth-few, right-ready, next-ready, next-further, Turning, turning-first, turning-stop, turning-failed, turning-single, turning-again}
-use Rattle.program_expressions.proofs.Tiers.{inside-none, inside-read, read-fields, read-prefixed, tier-failed, read-matched, read-assigned, read-more}
+use Rattle.program_operations.proofs.Turns.{between-few, depth-few, right-ready, next-ready, next-further, Turning, turning-first, turning-stop, turning-failed, turning-single, turning-again}
+use Rattle.program_operations.proofs.Tiers.{inside-none, inside-read, read-fields, read-prefixed, tier-failed, read-matched, read-assigned, read-more}
 use borrow.Fn.Kinds.{In}
 use borrow.Fn.PlainCycle.{Measures, is, falls, and}
 use Rattle.program_expressions.proofs.expressions.arguments.Reads as arguments
@@ -54,14 +54,14 @@ use Rattle.program_expressions.proofs.expressions.tier.Reads as tier
 use Rattle.program_expressions.proofs.expressions.tier.Kinds as tier-kinds
 use Rattle.program_expressions.proofs.expressions.+arguments+assignment+call+field_form+inside+more+nested+prefix_form+primary+tier.Lts-tier as tier-lts
 use Rattle.program_expressions.proofs.expressions.after_argument.Reads as after-argument-reads
-use Rattle.program_expressions.proofs.operations.apply.Reads as apply-reads
-use Rattle.program_expressions.proofs.operations.argument_after.Reads as argument-after-reads
-use Rattle.program_expressions.proofs.operations.right_of.Reads as right-of-reads
-use Rattle.program_expressions.proofs.parts.ere.Reads as ere-reads
-use Rattle.program_expressions.proofs.parts.leaf.Reads as leaf-reads
-use Rattle.program_expressions.proofs.parts.matching.Reads as matching-reads
-use Rattle.program_expressions.proofs.parts.name_form.Reads as name-form-reads
-use Rattle.program_expressions.proofs.parts.suffix.Reads as suffix-reads
+use Rattle.program_operations.proofs.operations.apply.Reads as apply-reads
+use Rattle.program_operations.proofs.operations.argument_after.Reads as argument-after-reads
+use Rattle.program_operations.proofs.operations.right_of.Reads as right-of-reads
+use Rattle.program_operations.proofs.parts.ere.Reads as ere-reads
+use Rattle.program_operations.proofs.parts.leaf.Reads as leaf-reads
+use Rattle.program_operations.proofs.parts.matching.Reads as matching-reads
+use Rattle.program_operations.proofs.parts.name_form.Reads as name-form-reads
+use Rattle.program_operations.proofs.parts.suffix.Reads as suffix-reads
 use Rattle.program_lexer.proofs.token_after.Reads as token-after-reads
 use Rattle.program_parser.proofs.calls.function_of.Reads as function-of-reads
 use Rattle.program_parser.proofs.kinds.is_name.Reads as is-name-reads

@@ -1,0 +1,2 @@
+-- What the contracts on expressions cite.
+pub mod Parts
