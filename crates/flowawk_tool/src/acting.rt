@@ -1,9 +1,9 @@
 // What the words of the command line ask for.
+use front_actions::Action;
+use front_actions::actions;
 use front_files::Filled;
-use front_options::Action;
 use front_options::Budget;
 use front_options::Options;
-use front_options::actions;
 use front_options::options;
 use front_runs::Made;
 use libc::STDERR_FILENO;
@@ -178,7 +178,7 @@ fn act(
     work: &mut [u8],
 ) -> u64 {
     let o = front_options::read_options(block);
-    let a = front_options::asked_action(o, last_word());
+    let a = front_actions::asked_action(o, last_word());
     let given = o.given;
     match a {
         Action::Usage => refuse_words(block, o),

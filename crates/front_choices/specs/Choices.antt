@@ -5,8 +5,8 @@ use Prim.Native.Nat.{ℕ, zero, suc, _+_}
 use lib.Dec.{eqb, ltb}
 use Rattle.front_words.specs.Words.{wordIn}
 use Rattle.front_options.specs.Budgets.{MOST, budgetOf}
-use Rattle.front_options.specs.declared.actions.Action.{Action}
-use Rattle.front_options.specs.declared.actions.Action.the-variants.{Usage, Help, Version, Check, Content, TranslateText, TranslateFile, RunText, RunFile, RunImage}
+use Rattle.front_actions.specs.declared.actions.Action.{Action}
+use Rattle.front_actions.specs.declared.actions.Action.the-variants.{Usage, Help, Version, Check, Content, TranslateText, TranslateFile, RunText, RunFile, RunImage}
 use Rattle.front_options.specs.declared.budgets.Budget.{Budget}
 use Rattle.front_options.specs.declared.budgets.Budget.the-variants.{Steps}
 

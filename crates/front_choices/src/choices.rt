@@ -2,7 +2,7 @@
 ghost use mathlib.Core.Path.{_≡_};
 ghost use Rattle.front_words.specs.Words.{wordsOf};
 ghost use Rattle.front_choices.specs.Choices.{wordNumber, budgetFor, firstFile, after as Choices·after};
-use front_options::Action;
+use front_actions::Action;
 use front_options::Budget;
 
 // The steps of a run where -b is not given.

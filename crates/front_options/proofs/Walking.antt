@@ -15,7 +15,7 @@ use Rattle.front_words.specs.Walk.{Ends}
 use Rattle.front_words.specs.declared.words.WordEnd.{WordEnd}
 use Rattle.front_options.specs.Kinds.{optionWords, numberIn, kindOf}
 use Rattle.front_options.specs.Reading.{stepOf, readFrom}
-use Rattle.front_options.specs.Actions.{one, givenCount}
+use Rattle.front_options.specs.Given.{one, givenCount}
 use Rattle.front_options.specs.Budgets.{MOST, withDigit, further, digitsFrom, budgetOf}
 use Rattle.front_options.specs.declared.options.Options.{Options}
 use Rattle.front_options.specs.declared.budgets.Budget.{Budget}

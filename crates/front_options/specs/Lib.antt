@@ -1,5 +1,5 @@
 -- What the contracts on options cite.
 pub mod Kinds
 pub mod Reading
-pub mod Actions
+pub mod Given
 pub mod Budgets

@@ -3,7 +3,7 @@
 // Payload: the stage, the action's number, the number of the first operand or of the refused word, 2 bytes, the numbers
 // of the words of the ten options, 2 bytes each, how many words there are, 2 bytes, and the words, each with a NUL
 // after it.
-use front_options::Action;
+use front_actions::Action;
 use front_options::Options;
 
 // Returns the payload's number of an action.
@@ -47,7 +47,7 @@ fn answers(p: &[u8], o: Options) -> bool {
         return false;
     }
     if vectors_frames::byte(p, 1)
-        != number_of(front_options::asked_action(o, vectors_frames::short(p, 24)))
+        != number_of(front_actions::asked_action(o, vectors_frames::short(p, 24)))
     {
         return false;
     }

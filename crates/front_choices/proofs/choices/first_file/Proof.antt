@@ -5,9 +5,9 @@ use mathlib.Core.List.{List, [], _∷_}
 use Prim.Native.Nat.{ℕ}
 use types.Run.{OneOf, miss}
 use denote.Enum.Declared.{tagOf}
-use Rattle.front_options.specs.declared.actions.Action.{Action}
-use Rattle.front_options.specs.declared.actions.Action.the-variants.{Usage, Help, Version, Check, Content, TranslateText, TranslateFile, RunText, RunFile, RunImage}
-use Rattle.front_options.proofs.actions.Action.{the-type}
+use Rattle.front_actions.specs.declared.actions.Action.{Action}
+use Rattle.front_actions.specs.declared.actions.Action.the-variants.{Usage, Help, Version, Check, Content, TranslateText, TranslateFile, RunText, RunFile, RunImage}
+use Rattle.front_actions.proofs.actions.Action.{the-type}
 use Rattle.front_choices.specs.Choices.{after, firstFile}
 use Rattle.front_choices.proofs.choices.first_file.Statement.{statement}
 use Rattle.front_choices.proofs.choices.first_file.Tie as tie

@@ -2,8 +2,9 @@
 ghost use mathlib.Core.Path.{_≡_};
 ghost use Prim.Native.Nat.{_≤_};
 ghost use lib.ListN.{length};
-ghost use Rattle.front_options.specs.Actions.{givenCount, one, imageAction, writeAction, runAction, actionOf};
-use crate::options;
+ghost use Rattle.front_options.specs.Given.{givenCount, one};
+ghost use Rattle.front_actions.specs.Actions.{imageAction, writeAction, runAction, actionOf};
+use front_options::options;
 use options::Options;
 
 // What is to be done; what `Usage` means is that the words ask for nothing that there is.

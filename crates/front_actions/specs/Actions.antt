@@ -6,18 +6,11 @@ use mathlib.Core.List.{List, [], _∷_}
 use Prim.Native.Nat.{ℕ, _+_}
 use lib.Dec.{eqb, ltb}
 use lib.ListN.{getD}
+use Rattle.front_options.specs.Given.{one, givenCount}
 use Rattle.front_options.specs.Reading.{READY, REFUSED}
 use Rattle.front_options.specs.declared.options.Options.{Options}
-use Rattle.front_options.specs.declared.actions.Action.{Action}
-use Rattle.front_options.specs.declared.actions.Action.the-variants.{Usage, Help, Version, Check, Content, TranslateText, TranslateFile, RunText, RunFile, RunImage}
-
-abbrev pub one : ℕ → ℕ
-one n = cond (eqb n 0) 0 1
-
--- how many options are given
-unfoldable pub givenCount : List ℕ → ℕ
-givenCount [] = 0
-givenCount (n ∷ l) = one n + givenCount l
+use Rattle.front_actions.specs.declared.actions.Action.{Action}
+use Rattle.front_actions.specs.declared.actions.Action.the-variants.{Usage, Help, Version, Check, Content, TranslateText, TranslateFile, RunText, RunFile, RunImage}
 
 -- --check and --content stand alone
 abbrev pub imageAction : ℕ → ℕ → Action → Action

@@ -4,11 +4,11 @@ use mathlib.Core.Path.{ap, _∙_}
 use Prim.Native.Nat.{ℕ}
 use borrow.Author.Tests.{eq-eqb, ne-eqb, lt-ltb, le-ltb}
 use lib.ListN.{getD}
-use Rattle.front_options.specs.Actions.{imageAction, writeAction, actionOf}
-use Rattle.front_options.specs.declared.actions.Action.the-variants.{Check, Content}
+use Rattle.front_actions.specs.Actions.{imageAction, writeAction, actionOf}
+use Rattle.front_actions.specs.declared.actions.Action.the-variants.{Check, Content}
 use borrow.Author.Needs.{needs}
-use Rattle.front_options.proofs.actions.asked_action.Statement.{statement}
-use Rattle.front_options.proofs.actions.asked_action.Tie as tie
+use Rattle.front_actions.proofs.actions.asked_action.Statement.{statement}
+use Rattle.front_actions.proofs.actions.asked_action.Tie as tie
 
 returns : tie.Need-returns
 unfolding actionOf

@@ -1,7 +1,7 @@
 -- `write_action`, by its tests.
 use borrow.Author.Tests.{eq-eqb, ne-eqb}
-use Rattle.front_options.proofs.actions.write_action.Statement.{statement}
-use Rattle.front_options.proofs.actions.write_action.Tie as tie
+use Rattle.front_actions.proofs.actions.write_action.Statement.{statement}
+use Rattle.front_actions.proofs.actions.write_action.Tie as tie
 
 returns : tie.Need-returns
 returns c = simp (ne-eqb _ _ (c .before .if1 .taken), ne-eqb _ _ (c .if2 .taken))

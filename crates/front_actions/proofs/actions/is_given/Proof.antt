@@ -1,8 +1,8 @@
 -- `is_given`, by its test.
 use native.Mathlib.Omega.{arith}
 use borrow.Author.Tests.{eq-eqb, ne-eqb}
-use Rattle.front_options.proofs.actions.is_given.Statement.{statement}
-use Rattle.front_options.proofs.actions.is_given.Tie as tie
+use Rattle.front_actions.proofs.actions.is_given.Statement.{statement}
+use Rattle.front_actions.proofs.actions.is_given.Tie as tie
 
 returns : tie.Need-returns
 returns c = (simp (eq-eqb _ _ (c .if1 .taken)), omega arith)

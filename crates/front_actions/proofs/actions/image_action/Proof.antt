@@ -1,7 +1,7 @@
 -- `image_action`, by its tests.
 use borrow.Author.Tests.{eq-eqb, ne-eqb}
-use Rattle.front_options.proofs.actions.image_action.Statement.{statement}
-use Rattle.front_options.proofs.actions.image_action.Tie as tie
+use Rattle.front_actions.proofs.actions.image_action.Statement.{statement}
+use Rattle.front_actions.proofs.actions.image_action.Tie as tie
 
 returns : tie.Need-returns
 returns c = simp (ne-eqb _ _ (c .if1 .taken))

@@ -4,10 +4,10 @@ use native.Mathlib.Omega.{arith}
 use mathlib.Core.Path.{_≡_}
 use Prim.Native.Nat.{_+_, _-_, _≤_}
 use lib.ListN.{length, drop}
-use Rattle.front_options.specs.Actions.{givenCount}
+use Rattle.front_options.specs.Given.{givenCount}
 use Rattle.front_options.proofs.Walking.{given-next, given-end}
-use Rattle.front_options.proofs.actions.given_count.Statement.{statement}
-use Rattle.front_options.proofs.actions.given_count.Tie as tie
+use Rattle.front_actions.proofs.actions.given_count.Statement.{statement}
+use Rattle.front_actions.proofs.actions.given_count.Tie as tie
 
 abbrev Inv-loop : tie.InvT-loop
 Inv-loop given n₀ i₀ n i = (i ≤ length given) × (n ≤ i) × (givenCount given ≡ n + givenCount (drop i given))

@@ -1,0 +1,2 @@
+-- What the contracts on actions cite.
+pub mod Actions
