@@ -9,9 +9,5 @@ pub extern "C" fn flowawk_match(ere: &[u8], text: &[u8], rstart: &mut u64, rleng
     ensures { λ r. ⌜ matching r (now (rstart .exit)) (now (rlength .exit))
         ≡ searchOf firstEdition (now (ere .entry)) (now (text .entry)) ⌝ }
 {
-    let n = capi_numbers::match_numbers(ere::search(ere, text));
-    let length = n.rlength;
-    *rstart = n.rstart;
-    *rlength = length;
-    n.outcome
+    capi_texts::match_text(ere, text, rstart, rlength)
 }

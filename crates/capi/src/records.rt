@@ -10,9 +10,7 @@ pub extern "C" fn flowawk_split(record: &[u8], fs: &[u8], count: &mut u64) -> u6
     ensures { λ r. ⌜ counting r (now (count .exit))
         ≡ countOf (splitOf firstEdition (now (fs .entry)) (now («record» .entry))) ⌝ }
 {
-    let s = fields::split(record, fs);
-    *count = capi_numbers::split_count(s);
-    capi_numbers::split_outcome(s)
+    capi_texts::split_record(record, fs, count)
 }
 
 // Finds field k of a record, by the first edition: the outcome of splitting it, and the field's place and length.
@@ -28,9 +26,5 @@ pub extern "C" fn flowawk_field(
         × (span (now (start .exit)) (now (length .exit))
         ≡ fieldOf firstEdition (now (fs .entry)) (now («record» .entry)) k) ⌝ }
 {
-    let f = fields::locate(record, fs, k as usize);
-    let s = f.splitting;
-    *start = f.start as u64;
-    *length = f.size as u64;
-    capi_numbers::split_outcome(s)
+    capi_texts::find_field(record, fs, k, start, length)
 }

@@ -21,9 +21,5 @@ pub extern "C" fn flowawk_run(
         (record { outcome = r; steps = now (steps .exit); records = now (records .exit); bytes = now (bytes .exit) })
         (now (output .exit)) (now (work .entry)) (now (work .exit)) ⌝ }
 {
-    let a = runner::run(image, lines, output, work, budget);
-    *steps = a.steps;
-    *records = a.records;
-    *bytes = a.bytes;
-    a.outcome
+    capi_runs::run_image(image, lines, output, work, budget, steps, records, bytes)
 }

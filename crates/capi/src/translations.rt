@@ -9,7 +9,5 @@ pub extern "C" fn flowawk_translate(text: &[u8], image: &mut [u8], place: &mut u
     ensures { λ r. ⌜ record { outcome = r; place = now (place .exit); room = now (image .exit) }
         ≡ translateOf firstEdition (now (text .entry)) (now (image .entry)) ⌝ }
 {
-    let t = translator::translate(text, image);
-    *place = t.place as u64;
-    t.outcome
+    capi_translations::translate_text(text, image, place)
 }

@@ -1,4 +1,4 @@
--- `flowawk_match`: the numbers of the search's answer, stored.
+-- `match_text`: the numbers of the search's answer, stored.
 use mathlib.Core.Path.{subst⁻¹, ap, _∙_}
 use lib.IntN.{ℤ}
 use mir.Syntax.{w64}
@@ -8,8 +8,8 @@ use Rattle.ere.specs.Answer.{matching}
 use Rattle.capi_numbers.specs.Match.{Within}
 use Rattle.capi_numbers.proofs.Within.{search-within}
 use borrow.Author.Needs.{needs}
-use Rattle.capi.proofs.matching.flowawk_match.Statement.{statement}
-use Rattle.capi.proofs.matching.flowawk_match.Tie as tie
+use Rattle.capi_texts.proofs.matching.match_text.Statement.{statement}
+use Rattle.capi_texts.proofs.matching.match_text.Tie as tie
 
 search-requires : tie.Need-search-requires
 search-requires c κs = search needs
@@ -25,5 +25,5 @@ returns c =
     ∙ (c .before .match-numbers .ensures
     ∙ c .before .before .search .ensures)
 
-pub flowawk-match-spec : {M : Type 1} → statement M
-flowawk-match-spec = tie.close (tie.spec search-requires match-numbers-requires returns)
+pub match-text-spec : {M : Type 1} → statement M
+match-text-spec = tie.close (tie.spec search-requires match-numbers-requires returns)

@@ -1,9 +1,9 @@
--- `flowawk_field`: the numbers of what `locate` answers.
+-- `find_field`: the numbers of what `locate` answers.
 use mathlib.Core.Path.{ap, _∙_}
 use Rattle.splitting.specs.Splitting.{Counting}
 use borrow.Author.Needs.{needs}
-use Rattle.capi.proofs.records.flowawk_field.Statement.{statement}
-use Rattle.capi.proofs.records.flowawk_field.Tie as tie
+use Rattle.capi_texts.proofs.records.find_field.Statement.{statement}
+use Rattle.capi_texts.proofs.records.find_field.Tie as tie
 
 locate-requires : tie.Need-locate-requires
 locate-requires c κs = search needs
@@ -16,5 +16,5 @@ returns c =
     let e = c .before .locate .ensures in
     (c .split-outcome .ensures ∙ ap (λ (x : Counting). x .outcome) (e .0), e .1)
 
-pub flowawk-field-spec : {M : Type 1} → statement M
-flowawk-field-spec = tie.close (tie.spec locate-requires split-outcome-requires returns)
+pub find-field-spec : {M : Type 1} → statement M
+find-field-spec = tie.close (tie.spec locate-requires split-outcome-requires returns)
