@@ -1,5 +1,5 @@
 /*
- * The host of the program `flowawk`: lends memory to the crate flowawk_main and returns its status. All else is proved there.
+ * The host of the program `flowawk`: lends memory to the crate flowawk_tool and returns its status. All else is proved there.
  *
  * Lines and output have a room of 1 GiB each, or as much as the system lends; what isn't touched takes no memory. A pipe that nobody reads any more
  * is an error of the write, which the program says, and not the end of the process by a signal.

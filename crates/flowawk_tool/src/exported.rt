@@ -1,4 +1,5 @@
-// The program for a host that lends its memory.
+// The program, as a C function for a host that lends its memory.
+use crate::acting;
 
 // Does what the command line asks for, and returns the exit status.
 #[no_mangle]
@@ -11,5 +12,5 @@ pub extern "C" fn flowawk_main(
     output: &mut [u8],
     work: &mut [u8],
 ) -> u64 {
-    flowawk_tool::tool(words, text, image, content, lines, output, work)
+    acting::tool(words, text, image, content, lines, output, work)
 }
