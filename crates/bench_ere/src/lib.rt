@@ -1,4 +1,6 @@
 // An ERE compiled once for many texts, for C: what `bench/match` measures.
+#![tactic(auto)]
+
 ghost use Rattle.bench_ere.specs.Answer.{Prepares, Searches, Tells};
 
 mod derived;

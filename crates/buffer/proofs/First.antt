@@ -11,7 +11,7 @@ use borrow.Author.Tests.{eq-eqb, ne_eqb}
 use Rattle.buffer.specs.Parts.{part}
 use Rattle.buffer.specs.Order.{equal_bytes}
 use Rattle.buffer.specs.First.{first_byte, starts_with, further, first_part, Stands, FirstAt, IsFirst}
-use Rattle.buffer.proofs.Order.{equal-same, same-equal, unless}
+use Rattle.buffer.proofs.Ordering.{equal-same, same-equal, unless}
 
 -- ---- the first place of a byte
 
@@ -78,9 +78,9 @@ further-right : (t s : List ℕ) (x : ℕ) (o : Option ℕ) → (Stands t (x ∷
 further-right t s x (some k) n w =
     record {
       stands = stands_on t s x k w.stands;
-      least = λ j. elim j [ zero ↦ λ v. absurd (n v) | suc j ↦ λ v. omega (arith, w.least j (stands-back t s x j v)) ];
+      least = λ j. elim j as (λ i. Stands t (x ∷ s) i → suc k ≤ i) [ zero ↦ λ v. absurd (n v) | suc j ↦ λ v. omega (arith, w.least j (stands-back t s x j v)) ];
     }
-further-right t s x none n w = λ j. elim j [ zero ↦ n | suc j ↦ λ v. w j (stands-back t s x j v) ]
+further-right t s x none n w = λ j. elim j as (λ k. Stands t (x ∷ s) k → ⊥) [ zero ↦ n | suc j ↦ λ v. w j (stands-back t s x j v) ]
 
 -- the answer is right
 pub first-part-right : (t s : List ℕ) → IsFirst t s (first_part t s)

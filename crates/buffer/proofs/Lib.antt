@@ -1,5 +1,5 @@
 -- The laws on parts, lent parts, order and search.
 pub mod Parts
 pub mod Lent
-pub mod Order
+pub mod Ordering
 pub mod First

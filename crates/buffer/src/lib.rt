@@ -1,4 +1,6 @@
 // Bytes in slices: copies, comparison, search.
+#![tactic(auto)]
+
 mod copies;
 mod search;
 

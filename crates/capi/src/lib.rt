@@ -1,4 +1,6 @@
 // The C functions of `include/flowawk.h`, over the public entries of the other crates.
+#![tactic(auto)]
+
 mod images;
 mod matching;
 mod records;

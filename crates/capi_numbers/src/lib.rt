@@ -1,4 +1,6 @@
 // Document 01's numbers of what the public entries answer, as the C functions give them back.
+#![tactic(auto)]
+
 mod copies;
 mod matches;
 mod splits;

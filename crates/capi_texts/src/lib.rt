@@ -1,4 +1,6 @@
 // What the C functions on EREs and records do.
+#![tactic(auto)]
+
 mod matching;
 mod records;
 

@@ -1,4 +1,6 @@
 // Document 01's sizes and outcome numbers: their one home in code.
+#![tactic(auto)]
+
 ghost use Rattle.std.specs.Prelude.{◌≡◌};
 ghost use Rattle.edition.specs.Limits.{limits as limits_limits};
 ghost use Rattle.edition.specs.Outcomes.{outcomes};

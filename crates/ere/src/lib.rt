@@ -1,4 +1,6 @@
 // EREs: `compile`, and the match of an ERE in a text.
+#![tactic(auto)]
+
 mod matching;
 
 pub use matching::{Matched, compile, search};

@@ -1,4 +1,6 @@
 // Whether an ERE has a match in a text, by a finite automaton that is made once from the ERE's table.
+#![tactic(auto)]
+
 mod any;
 mod blocks;
 mod layout;

@@ -1,5 +1,7 @@
 // What an automaton has of its bytes, from the table of an ERE: the class of each, and the ranges of a match's first
 // two bytes.
+#![tactic(auto)]
+
 mod classes;
 mod hull;
 mod layout;

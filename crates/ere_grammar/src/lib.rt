@@ -1,4 +1,6 @@
 // The grammar of EREs: what a byte of an ERE stands for.
+#![tactic(auto)]
+
 ghost use Rattle.std.specs.Prelude.{◌≡◌};
 ghost use Rattle.lists.specs.Elements.{one_of};
 ghost use Rattle.ere_grammar.specs.Bytes.{marks, lookup, string_escapes, escape_of, is_plain};

@@ -1,4 +1,6 @@
 // The pieces of an ERE, put together in its table as they are read.
+#![tactic(auto)]
+
 mod rows;
 mod turns;
 

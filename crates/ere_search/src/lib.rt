@@ -1,6 +1,8 @@
 // The leftmost longest match of an ERE in a text: a simulation of its position (Glushkov) automaton on bit sets. The
 // live set has the places that may come next; a step on a byte takes it to the union of the follow sets of those places
 // that accept the byte.
+#![tactic(auto)]
+
 mod search;
 mod words;
 

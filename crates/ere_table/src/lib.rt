@@ -2,6 +2,8 @@
 // are its first sets, of a match that starts at the text's start and of one that starts elsewhere, and row p + 2 is the
 // follow set of place p: bit sets, with accept bits where the automaton may stop. Each place has a class, the set of
 // the bytes that it accepts. Here is what is where, and how the parser builds it.
+#![tactic(auto)]
+
 mod build;
 mod layout;
 

@@ -1,4 +1,6 @@
 // The spans of all fields of a record.
+#![tactic(auto)]
+
 mod spans;
 
 pub use spans::split_into;

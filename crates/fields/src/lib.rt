@@ -1,4 +1,6 @@
 // The fields of a record.
+#![tactic(auto)]
+
 mod entries;
 
 pub use entries::{Located, Splitting, field, locate, split};

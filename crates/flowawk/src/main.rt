@@ -1,4 +1,6 @@
 // The program with rooms of its own, for the gate. Such a program has no exit status, so the status is printed last.
+#![tactic(auto)]
+
 ghost use Rattle.std.specs.Prelude.{◌≡◌, length};
 ghost use Rattle.edition.specs.Limits.{working_room};
 

@@ -1,4 +1,6 @@
 // The program over rooms that are lent: its answer is an exit status, for a host that can give one.
+#![tactic(auto)]
+
 mod acting;
 mod exported;
 

@@ -1,4 +1,6 @@
 // What the options of a command line ask for.
+#![tactic(auto)]
+
 pub mod actions;
 
 pub use actions::{Action, asked_action};

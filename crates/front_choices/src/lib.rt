@@ -1,5 +1,7 @@
 // What follows from the words of a command line once its action is chosen: words by number, the budget, the first file,
 // and the exit status of an outcome.
+#![tactic(auto)]
+
 mod choices;
 mod statuses;
 

@@ -2,6 +2,8 @@
 //
 // What the system's calls do is assumed, as the kit says. No contract can say which bytes a read gives; those here say
 // that they lie inside the room, and that what the room had before them stays.
+#![tactic(auto)]
+
 mod joining;
 mod reading;
 mod words;

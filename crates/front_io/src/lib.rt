@@ -1,4 +1,6 @@
 // Input and output of the program: files by name, what is printed, and what is said.
+#![tactic(auto)]
+
 mod loading;
 mod saying;
 

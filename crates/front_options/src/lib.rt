@@ -1,4 +1,6 @@
 // The words of a command line: which options are given, with which words.
+#![tactic(auto)]
+
 mod budgets;
 pub mod options;
 

@@ -1,4 +1,6 @@
 // Places of a text as a person is told them: line, column, and the part of the line that is shown.
+#![tactic(auto)]
+
 mod place;
 mod shown;
 

@@ -1,4 +1,6 @@
 // Images made, checked, written and printed, and their runs, each with an exit status as its answer.
+#![tactic(auto)]
+
 mod contents;
 mod images;
 mod running;

@@ -1,4 +1,6 @@
 // Images: reading one to its content words, and what reader and writer answer.
+#![tactic(auto)]
+
 mod copied;
 mod passed;
 mod reading;

@@ -1,4 +1,6 @@
 // The checker of images: the verifier of their bytecode.
+#![tactic(auto)]
+
 mod checking;
 
 pub use checking::{Verdict, check};

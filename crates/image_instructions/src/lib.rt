@@ -1,4 +1,6 @@
 // The check of the instructions of a section, each by its numbers.
+#![tactic(auto)]
+
 mod context;
 mod instructions;
 

@@ -1,4 +1,6 @@
 // What is where in an image: its header, texts, constants and instructions, read from its bytes.
+#![tactic(auto)]
+
 mod header;
 mod items;
 

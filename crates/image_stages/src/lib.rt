@@ -1,4 +1,6 @@
 // The form of an image as a state machine: where a walk over it is, and where it goes by each number and text byte.
+#![tactic(auto)]
+
 mod stages;
 
 pub use stages::{BYTE, END, Next, State, after, start};

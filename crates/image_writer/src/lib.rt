@@ -1,4 +1,6 @@
 // Writing an image from its content words.
+#![tactic(auto)]
+
 mod writing;
 
 pub use writing::write;

@@ -1,4 +1,6 @@
 // Bytes in slices, many at a time: the first place of a byte, of one of two, or of a part.
+#![tactic(auto)]
+
 mod blocks;
 mod pairs;
 mod parts;

@@ -2,6 +2,8 @@
 //
 // Between functions and crates a number is a u64, its distance from the least number: `unbias` of `specs/` says which
 // number a u64 stands for.
+#![tactic(auto)]
+
 mod arithmetic;
 mod signed;
 

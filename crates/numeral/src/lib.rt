@@ -1,4 +1,6 @@
 // Texts as numbers.
+#![tactic(auto)]
+
 mod digits;
 mod prefix;
 mod reading;

@@ -1,4 +1,6 @@
 // The instruction set: the table of codes (opcodes) and the special variables.
+#![tactic(auto)]
+
 mod codes;
 mod variables;
 

@@ -1,4 +1,6 @@
 // What the operands of a program's words name, as entries of tables; and the variables of a text by first appearance.
+#![tactic(auto)]
+
 mod entries;
 mod variables;
 

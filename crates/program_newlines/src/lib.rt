@@ -1,2 +1,4 @@
 // Newlines, passed where the grammar has them.
+#![tactic(auto)]
+
 pub mod newlines;

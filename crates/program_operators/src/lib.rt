@@ -1,2 +1,4 @@
 // The operators of the tiers.
+#![tactic(auto)]
+
 pub mod operators;

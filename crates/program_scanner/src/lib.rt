@@ -1,4 +1,6 @@
 // The bytes of a token: words, digits, operators by their spelling, and where a string or an ERE closes.
+#![tactic(auto)]
+
 mod bytes;
 mod closings;
 mod kinds;

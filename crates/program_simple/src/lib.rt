@@ -1,3 +1,5 @@
 // The reader of simple statements and of conditions.
+#![tactic(auto)]
+
 pub mod conditions;
 pub mod simple;

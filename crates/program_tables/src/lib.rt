@@ -1,4 +1,6 @@
 // What the words of a program name: constants, variables and EREs, in tables, each once.
+#![tactic(auto)]
+
 mod tables;
 mod texts;
 

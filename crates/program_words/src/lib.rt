@@ -1,4 +1,6 @@
 // An instruction as a word.
+#![tactic(auto)]
+
 pub mod words;
 
 pub use words::{

@@ -1,4 +1,6 @@
 // The image of a program whose words are numbered, written if it fits.
+#![tactic(auto)]
+
 mod writing;
 
 pub use writing::{Translation, write_fitting};

@@ -1,4 +1,6 @@
 // Finite automata of an image's EREs, made for the instructions that ask for them.
+#![tactic(auto)]
+
 mod automata;
 mod uses;
 

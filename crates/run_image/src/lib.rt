@@ -1,4 +1,6 @@
 // What a run keeps of its image: its constants, each decoded into a word, and the table that its EREs share.
+#![tactic(auto)]
+
 mod constants;
 mod table;
 

@@ -1,4 +1,6 @@
 // Constants and variables: got, and set.
+#![tactic(auto)]
+
 mod constants;
 mod variables;
 

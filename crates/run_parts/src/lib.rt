@@ -1,4 +1,6 @@
 // All fields of the record measured, and joined into the other record.
+#![tactic(auto)]
+
 mod bounding;
 mod joining;
 mod measuring;

@@ -1,4 +1,6 @@
 // Print: values with OFS between them, then ORS, whole or not at all.
+#![tactic(auto)]
+
 mod printing;
 
 pub use printing::{Printed, print};

@@ -1,4 +1,6 @@
 // The record in the working room: its fields got, and `$0` assigned.
+#![tactic(auto)]
+
 mod getting;
 mod replacing;
 

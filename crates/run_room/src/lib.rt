@@ -1,4 +1,6 @@
 // The working room: values in slots of bytes, the record, and its fields. Document 01 leaves its layout open.
+#![tactic(auto)]
+
 mod blocks;
 mod entries;
 mod layout;

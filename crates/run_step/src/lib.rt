@@ -1,4 +1,6 @@
 // One step of a run: what a run carries by value, and what an instruction does to it and to the working room.
+#![tactic(auto)]
+
 mod arms;
 mod machine;
 mod stepping;

@@ -1,5 +1,7 @@
 // Operations on the values of operands. Each takes its operands from slot `a` on, leaves its value in slot `a`, and
 // returns 0 or the outcome that it stops with; a stop leaves all values as they were.
+#![tactic(auto)]
+
 mod arithmetic;
 mod numbers;
 

@@ -1,4 +1,6 @@
 // What separates fields, and the step from one field to the next.
+#![tactic(auto)]
+
 mod kinds;
 mod steps;
 

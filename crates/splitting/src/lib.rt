@@ -1,1 +1,2 @@
 // The fields of a record: definitions and theorems, no code.
+#![tactic(auto)]

@@ -1,4 +1,6 @@
 // The translator: a filter's text to the bytes of its image.
+#![tactic(auto)]
+
 mod numbering;
 mod translating;
 

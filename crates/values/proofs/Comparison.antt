@@ -5,7 +5,7 @@ use mathlib.Core.Bool.{true, ◌&&◌}
 use lib.IntN.{ℤ}
 use Rattle.lists.proofs.Tests.{clash, and-true, and-of}
 use Rattle.buffer.specs.Order.{Before}
-use Rattle.buffer.proofs.Order.{unless}
+use Rattle.buffer.proofs.Ordering.{unless}
 use Rattle.numeral.proofs.Look.{looks-true, true-looks}
 use Rattle.image_format.specs.Codes.{Comparison}
 use Rattle.values.specs.Value.{Value, unset, number, text, field_text, Stop, gives, stops, text_of, number_of}

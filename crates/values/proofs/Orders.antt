@@ -11,8 +11,8 @@ use borrow.Author.Tests.{ne_eqb}
 use Rattle.buffer.specs.Order.{ordering, swapped, Before}
 use Rattle.buffer.specs.declared.search.Order.{Order}
 use Rattle.buffer.specs.declared.search.Order.TheVariants.{Less, Equal, Greater}
-use Rattle.buffer.proofs.Order.{less-not-equal, more-not-equal, more-not-less, ordering-same, same-ordering}
-use Rattle.buffer.proofs.Order.{ordering-swap, less-before, before-less}
+use Rattle.buffer.proofs.Ordering.{less-not-equal, more-not-equal, more-not-less, ordering-same, same-ordering}
+use Rattle.buffer.proofs.Ordering.{ordering-swap, less-before, before-less}
 use Rattle.image_format.specs.Codes.{Comparison, less, at-most, equal, different, greater, at-least}
 use Rattle.values.specs.Value.{gives, truth_value}
 use Rattle.values.specs.Operations.{order_of, holds, at_most}

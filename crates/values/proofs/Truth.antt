@@ -8,7 +8,7 @@ use native.Mathlib.Omega.{arith}
 use lib.IntN.{ℤ, pos, negsuc, nat_abs, pos-ne-negsuc}
 use lib.ListN.{length}
 use borrow.Author.Tests.{ne_eqb}
-use Rattle.buffer.proofs.Order.{unless}
+use Rattle.buffer.proofs.Ordering.{unless}
 use Rattle.number.specs.Arithmetic.{is_zero}
 use Rattle.numeral.specs.Form.{looks_numeric, Looks}
 use Rattle.numeral.proofs.Look.{looks-true, true-looks}

@@ -1,1 +1,2 @@
 // Values and the operations on them. Definitions and theorems, no code.
+#![tactic(auto)]

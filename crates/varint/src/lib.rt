@@ -1,4 +1,6 @@
 // The numbers of an image, as LEB128 without needless groups: seven bits a byte, the low group first.
+#![tactic(auto)]
+
 mod numbers;
 mod room;
 

@@ -4,6 +4,8 @@
 // A group is a module of a crate `vectors_..`, whose function `passes` judges one case; its variant and its arm in
 // groups.rt; its line of `main`; and a function of tests/vectors.py or tests/program_cases.py, which makes the group's
 // file. The judges are in crates of their own, so that no check takes long.
+#![tactic(auto)]
+
 mod groups;
 mod walk;
 

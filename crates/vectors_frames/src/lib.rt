@@ -9,6 +9,8 @@
 //     }
 //
 // where `look` reads the next frame by `vectors_frames::next` and judges its payload.
+#![tactic(auto)]
+
 mod frames;
 mod lines;
 mod payload;

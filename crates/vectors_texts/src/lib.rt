@@ -1,5 +1,7 @@
 // What judges the cases on EREs and records. A group is a module, whose function `passes` says whether the case in a
 // payload passes; a payload that is not of the group's layout does not.
+#![tactic(auto)]
+
 pub mod field;
 pub mod matching;
 pub mod split;

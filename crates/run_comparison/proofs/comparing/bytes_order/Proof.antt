@@ -5,7 +5,7 @@ use mathlib.Core.Path.{◌≡◌, refl, sym, ap₂, ◌∙◌}
 use lib.ListN.{length, drop, drop_of_length-le}
 use Rattle.buffer.specs.Order.{ordering}
 use Rattle.buffer.proofs.Parts.{drop-next}
-use Rattle.buffer.proofs.Order.{less-at, more-at, same_at}
+use Rattle.buffer.proofs.Ordering.{less-at, more-at, same_at}
 use borrow.Author.Rules.{rules}
 use Rattle.run_comparison.proofs.comparing.bytes_order.Statement.{statement}
 use Rattle.run_comparison.proofs.comparing.bytes_order.Tie as tie

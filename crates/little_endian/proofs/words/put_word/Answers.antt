@@ -1,0 +1,35 @@
+-- `put_word` meets its contract: its stores put the eight bytes.
+use Prim.Native.Nat.{◌/◌, ◌%◌}
+use native.Mathlib.Omega.{arith}
+use lib.ListN.{length-set}
+use Rattle.little_endian.specs.Words.{le_bytes}
+use Rattle.buffer.proofs.Parts.{put-stores}
+use borrow.Author.Rules.{rules}
+use Rattle.little_endian.proofs.words.put_word.Goals as goal
+
+pub bounds-s-at-2 : goal.bounds-s-at-2
+bounds-s-at-2 c = simp length-set (omega arith)
+
+pub bounds-s-at-3 : goal.bounds-s-at-3
+bounds-s-at-3 c = simp length-set (omega arith)
+
+pub bounds-s-at-4 : goal.bounds-s-at-4
+bounds-s-at-4 c = simp length-set (omega arith)
+
+pub bounds-s-at-5 : goal.bounds-s-at-5
+bounds-s-at-5 c = simp length-set (omega arith)
+
+pub bounds-s-at-6 : goal.bounds-s-at-6
+bounds-s-at-6 c = simp length-set (omega arith)
+
+pub bounds-s-at-7 : goal.bounds-s-at-7
+bounds-s-at-7 c = simp length-set (omega arith)
+
+pub bounds-s-at-8 : goal.bounds-s-at-8
+bounds-s-at-8 c = simp length-set (omega arith)
+
+pub shape_of-s : goal.shape_of-s
+shape_of-s c = simp length-set (omega arith)
+
+pub returns : goal.returns
+returns c = put-stores (c.args.w % 256) (le_bytes 7 (c.args.w / 256)) c.args.s.now c.args.at c.requires

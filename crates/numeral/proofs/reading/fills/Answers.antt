@@ -1,0 +1,10 @@
+-- `fills`: by the test of the length.
+use borrow.Author.Tests.{eq-eqb, ne_eqb}
+use borrow.Author.Rules.{rules}
+use Rattle.numeral.proofs.reading.fills.Goals as goal
+
+pub returns-then-length-eq0 : goal.returns-then-length-eq0
+returns-then-length-eq0 c = simp (eq-eqb _ _ c.if-length-eq0.true)
+
+pub returns : goal.returns
+returns c = simp (ne_eqb _ _ c.if-length-eq0.false)
