@@ -11,7 +11,7 @@ pub data Arithmetic : Type 0 where
   add subtract multiply divide remainder : Arithmetic
 
 pub data Comparison : Type 0 where
-  less at_most equal different greater at_least_lem : Comparison
+  less at-most equal different greater at-least : Comparison
 
 -- what goes on with values
 pub data Action : Type 0 where
@@ -64,11 +64,11 @@ codes =
     ∷ code (action to_number) 1 1 []
     ∷ code (action negation) 1 1 []
     ∷ code (action (compare less)) 2 1 []
-    ∷ code (action (compare at_most)) 2 1 []
+    ∷ code (action (compare at-most)) 2 1 []
     ∷ code (action (compare equal)) 2 1 []
     ∷ code (action (compare different)) 2 1 []
     ∷ code (action (compare greater)) 2 1 []
-    ∷ code (action (compare at_least_lem)) 2 1 []
+    ∷ code (action (compare at-least)) 2 1 []
     ∷ code (action join) 2 1 []
     ∷ code (action matches) 1 1 (an_ere ∷ [])
     ∷ code (action match) 1 1 (an_ere ∷ [])
