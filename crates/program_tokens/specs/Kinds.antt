@@ -22,7 +22,7 @@ pub data Kind : Type 0 where
   -- `+ - * / % ^ ! > < | ? : ~ $ =`
   plus minus star slash percent caret bang greater less bar question colon tilde dollar assign : Kind
   -- `|| && !~ == <= >= !=`
-  or_or and_and no_match equal at_most at_least_lem different : Kind
+  or_or and_and no_match equal at-most at-least different : Kind
   -- `+= -= *= /= %= ^= ++ -- >>`
   add_assign sub_assign mul_assign div_assign mod_assign pow_assign increment decrement append : Kind
 
@@ -92,8 +92,8 @@ rank or_or = 60
 rank and_and = 61
 rank no_match = 62
 rank equal = 63
-rank at_most = 64
-rank at_least_lem = 65
+rank at-most = 64
+rank at-least = 65
 rank different = 66
 rank add_assign = 67
 rank sub_assign = 68
@@ -113,7 +113,7 @@ kinds =
     ∷ IN ∷ PRINTF ∷ RETURN ∷ LENGTH ∷ INDEX ∷ SUBSTR ∷ MATCH ∷ SUB ∷ GSUB ∷ other_function ∷ open_brace ∷ close_brace
     ∷ open_paren ∷ close_paren ∷ open_bracket ∷ close_bracket ∷ comma ∷ semicolon ∷ call_paren ∷ plus ∷ minus ∷ star
     ∷ slash ∷ percent ∷ caret ∷ bang ∷ greater ∷ less ∷ bar ∷ question ∷ colon ∷ tilde ∷ dollar ∷ assign ∷ or_or
-    ∷ and_and ∷ no_match ∷ equal ∷ at_most ∷ at_least_lem ∷ different ∷ add_assign ∷ sub_assign ∷ mul_assign ∷ div_assign
+    ∷ and_and ∷ no_match ∷ equal ∷ at-most ∷ at-least ∷ different ∷ add_assign ∷ sub_assign ∷ mul_assign ∷ div_assign
     ∷ mod_assign ∷ pow_assign ∷ increment ∷ decrement ∷ append ∷ []
 
 -- whether two kinds are the same

@@ -1,0 +1,15 @@
+use mathlib.Core.Path.{◌≡◌}
+use Prim.Native.Nat.{ℕ, suc, ◌+◌}
+use native.Mathlib.Omega.{arith}
+use borrow.Author.Rules.{rules}
+use Rattle.program_emitter.proofs.runs.emit_on_record.Reads as reads
+use Rattle.program_emitter.proofs.runs.emit_on_record.Lts as lts
+use Rattle.program_emitter.proofs.runs.emit.Reads as emit-reads
+use Rattle.program_emitter.proofs.runs.emit_on_record.Goals as goal
+
+pub returns : goal.returns
+returns c =
+    let n : ℕ = c.args.n in
+    let n1 : n + 1 ≡ suc (n) = omega arith in
+    let n2 : n + 2 ≡ suc (suc (n)) = omega arith in
+    (omega (arith, c.emit-3.ensures.0), cc (n1, n2))
