@@ -6,7 +6,7 @@ ghost use Rattle.edition.specs.Limits.{limits as limits_limits};
 ghost use Rattle.edition.specs.Outcomes.{outcomes};
 
 // An edition of the rules, by its number. Rules that a later edition changes take it by value.
-#[derive(Drop)]
+#[derive(Clone, Copy)]
 pub struct Edition {
     pub number: u64,
 }
