@@ -46,55 +46,55 @@ ENTRIES = [
 # computed definition (crate, file, name): what explains it (crate, file, names), and the theorems that say so. An explanation is a relation, which is
 # counted in its place, or a notion that every reader has (equality, a length); it is never longer than what it explains.
 EXPLAINED = {
-    ('ere_grammar', 'Read', 'readEre'): (('ere_grammar', 'Grammar', ['Reads']), 'read-sound read-complete refused-exactly'),
-    ('ere_meaning', 'Search', 'bestOf'): (('ere_meaning', 'Meaning', ['Best']), 'best best-one nowhere-exactly'),
-    ('ere_meaning', 'Search', 'bestFrom'): (('ere_meaning', 'Meaning', ['BestFrom']), 'best-from from-nowhere-exactly'),
-    ('splitting', 'Field', 'fieldsOf'): (('splitting', 'Meaning', ['ByteSplit', 'BlankSplit', 'EreSplit']), 'byte-split blank-split ere-split'),
+    ('ere_grammar', 'Read', 'read_ere'): (('ere_grammar', 'Grammar', ['Reads']), 'read-sound read-complete refused-exactly'),
+    ('ere_meaning', 'Search', 'best_of'): (('ere_meaning', 'Meaning', ['Best']), 'best best-one nowhere-exactly'),
+    ('ere_meaning', 'Search', 'best_from'): (('ere_meaning', 'Meaning', ['BestFrom']), 'best-from from-nowhere-exactly'),
+    ('splitting', 'Field', 'fields_of'): (('splitting', 'Meaning', ['ByteSplit', 'BlankSplit', 'EreSplit']), 'byte_split blank-split ere-split'),
     ('semantics', 'Check', 'check'): (('semantics', 'Checked', ['Checked']), 'check-exactly'),
     ('semantics', 'Run', 'run'): (('semantics', 'Run', ['Ends']), 'ends-exactly'),
-    ('number', 'Arithmetic', 'quotientOf'): (('number', 'Arithmetic', ['Division']), 'divide-exact divide-inexact divide-by-zero'),
-    ('number', 'Arithmetic', 'remainderOf'): (('number', 'Arithmetic', ['Division']), 'remainder-is remainder-by-zero'),
+    ('number', 'Arithmetic', 'quotient_of'): (('number', 'Arithmetic', ['Division']), 'divide-exact divide-inexact divide-by-zero'),
+    ('number', 'Arithmetic', 'remainder_of'): (('number', 'Arithmetic', ['Division']), 'remainder_is remainder-by-zero'),
     ('buffer', 'Order', 'ordering'): (('buffer', 'Order', ['Before']), 'less-before before-less same-ordering'),
-    ('buffer', 'First', 'firstPart'): (('buffer', 'First', ['FirstAt']), 'first-part-some first-part-none'),
-    ('numeral', 'Form', 'looksNumeric'): (('numeral', 'Form', ['Looks']), 'looks-true true-looks'),
-    ('numeral', 'Form', 'prefixLength'): (('numeral', 'Form', ['Numeral']), 'prefix-numeral prefix-longest none-taken'),
-    ('decimals', 'Decimal', 'decimalDigits'): (('decimals', 'Decimal', ['Spells']), 'digits-spelled'),
-    ('image_format', 'Reading', 'readImage'): (('image_format', 'Formed', ['Formed']), 'read-written read-only'),
-    ('values', 'Operations', 'compareOf'): (('values', 'Explained', ['Numeric', 'Says', 'Below', 'OneIf']),
+    ('buffer', 'First', 'first_part'): (('buffer', 'First', ['FirstAt']), 'first-part-some first-part-none'),
+    ('numeral', 'Form', 'looks_numeric'): (('numeral', 'Form', ['Looks']), 'looks-true true-looks'),
+    ('numeral', 'Form', 'prefix_length'): (('numeral', 'Form', ['Numeral']), 'prefix-numeral prefix-longest none-taken'),
+    ('decimals', 'Decimal', 'decimal_digits'): (('decimals', 'Decimal', ['Spells']), 'digits-spelled'),
+    ('image_format', 'Reading', 'read_image'): (('image_format', 'Formed', ['Formed']), 'read-written read_only'),
+    ('values', 'Operations', 'compare_of'): (('values', 'Explained', ['Numeric', 'Says', 'Below', 'OneIf']),
                                             'compare-numbers compare-texts compare-stops-left compare-stops-right'),
-    ('values', 'Value', 'truthOf'): (('values', 'Explained', ['TrueIf']), 'truth-unset truth-number truth-text truth-plain truth-look truth-look-stops'),
-    ('values', 'Operations', 'substrOf'): (('values', 'Explained', ['Selects', 'Position']), 'substr-is substr-stops-left substr-stops-right'),
-    ('values', 'Operations', 'indexOf'): (('values', 'Explained', ['Index']), 'index-is index-one'),
+    ('values', 'Value', 'truth_of'): (('values', 'Explained', ['TrueIf']), 'truth-unset truth-number truth-text truth-plain truth-look truth-look-stops'),
+    ('values', 'Operations', 'substr_of'): (('values', 'Explained', ['Selects', 'Position']), 'substr-is substr-stops-left substr-stops-right'),
+    ('values', 'Operations', 'index_of'): (('values', 'Explained', ['Index']), 'index_is index-one'),
     ('image_format', 'Numbers', 'coded'): (('image_format', 'Numbers', ['Coded']), 'coded-is coded-one'),
-    ('image_format', 'Numbers', 'takeNumber'): (('image_format', 'Numbers', ['Coded']), 'number-back number-only'),
-    # what a source reads is what is written: `bytesOf` from bytes, `contentOf` from words, of a well-formed image and of nothing else
-    ('image_format', 'Reading', 'fromBytes'): (('image_format', 'Writing', ['bytesOf']), 'read-written read-only reading-back'),
-    ('image_format', 'Reading', 'fromWords'): (('image_format', 'Writing', ['contentOf']), 'read-written read-only writing-back'),
+    ('image_format', 'Numbers', 'take_number'): (('image_format', 'Numbers', ['Coded']), 'number-back number-only'),
+    # what a source reads is what is written: `bytes_of` from bytes, `content_of` from words, of a well-formed image and of nothing else
+    ('image_format', 'Reading', 'from_bytes'): (('image_format', 'Writing', ['bytes_of']), 'read-written read_only reading-back'),
+    ('image_format', 'Reading', 'from_words'): (('image_format', 'Writing', ['content_of']), 'read-written read_only writing-back'),
     # of numbers in range, as all values of a run are: + - * by what is in range, / and % by the one division there is
-    ('values', 'Operations', 'arithmeticOf'): (('values', 'Explained', ['Ranged']),
-                                               'add-is subtract-is multiply-is quotient-exact quotient-inexact quotient-by-zero remainder-gives remainder-zero '
+    ('values', 'Operations', 'arithmetic_of'): (('values', 'Explained', ['Ranged']),
+                                               'add_is subtract-is multiply-is quotient-exact quotient-inexact quotient-by-zero remainder-gives remainder-zero '
                                                'arithmetic-stops-left arithmetic-stops-right'),
-    ('values', 'Operations', 'negateOf'): (('values', 'Explained', []), 'negate-is negate-stops'),
-    ('values', 'Operations', 'toNumberOf'): (('values', 'Explained', []), 'to-number-is to-number-stops'),
-    ('values', 'Operations', 'joinOf'): (('values', 'Explained', []), 'join-gives join-stops'),
+    ('values', 'Operations', 'negate_of'): (('values', 'Explained', []), 'negate-is negate-stops'),
+    ('values', 'Operations', 'to_number_of'): (('values', 'Explained', []), 'to-number-is to-number-stops'),
+    ('values', 'Operations', 'join_of'): (('values', 'Explained', []), 'join-gives join-stops'),
     # tests of equality, by equality itself
-    ('program_tokens', 'Kinds', 'same'): (('program_tokens', 'Kinds', ['Kind']), 'same-is is-same'),
-    ('program_tokens', 'Words', 'sameBytes'): (('program_tokens', 'Words', []), 'bytes-same same-equal'),
+    ('program_tokens', 'Kinds', 'same'): (('program_tokens', 'Kinds', ['Kind']), 'same-is is_same'),
+    ('program_tokens', 'Words', 'same_bytes'): (('program_tokens', 'Words', []), 'bytes_same same-equal'),
     # how many instructions a tree has, by the length of its code
     ('program_code', 'Expressions', 'size'): (('program_code', 'Expressions', ['compile']), 'size-length'),
-    ('program_code', 'Sections', 'sizeAll'): (('program_code', 'Sections', ['compileAll']), 'all-length'),
-    ('program_code', 'Sections', 'sizeOf'): (('program_code', 'Sections', ['compileStatement']), 'statement-length'),
+    ('program_code', 'Sections', 'size_all'): (('program_code', 'Sections', ['compile_all']), 'all-length'),
+    ('program_code', 'Sections', 'size_of'): (('program_code', 'Sections', ['compile_statement']), 'statement-length'),
     # the tree that is read is the one that each derivation says (`trees-exactly`); a refusal is 4 exactly at the first token that can't go on, and 6
     # exactly at the one that opens level 17
-    ('program_reader', 'Programs', 'readProgram'): (('program_says', 'Trees', ['saidBy']), 'trees-exactly refused-exactly level-exactly'),
+    ('program_reader', 'Programs', 'read_program'): (('program_says', 'Trees', ['said_by']), 'trees-exactly refused-exactly level-exactly'),
     # the tree of two operands, by the table without tiers
-    ('program_reader', 'Operators', 'treeOf'): (('program_reader', 'Operators', ['trees', 'treeAmong']), 'tree-listed'),
+    ('program_reader', 'Operators', 'tree_of'): (('program_reader', 'Operators', ['trees', 'tree_among']), 'tree-listed'),
     # the code of an operation, by the table, which has it there and nowhere else
-    ('program_code', 'Emitted', 'opcode'): (('image_format', 'Codes', ['codeOf']), 'opcode-operation operation-opcode'),
-    ('program_numbering', 'Numbering', 'sameConstant'): (('program_numbering', 'Numbering', []), 'constant-same constant-equal'),
+    ('program_code', 'Emitted', 'opcode'): (('image_format', 'Codes', ['code_of']), 'opcode-operation operation-opcode'),
+    ('program_numbering', 'Numbering', 'same_constant'): (('program_numbering', 'Numbering', []), 'constant-same constant-equal'),
     # To switch on, as a matter of taste:
     # 17: the names of a tree, by a walk over the text's tokens (proved; it is a matter of taste which of the two is easier to believe):
-    # ('program_numbering', 'Names', 'namesInProgram'): (('program_names', 'Walk', ['namesInText']), 'names-in-order'),
+    # ('program_numbering', 'Names', 'names_in_program'): (('program_names', 'Walk', ['names_in_text']), 'names-in-order'),
 }
 
 # the chapters of the book: a title, what a reader should know, and the files (crate, names) in reading order

@@ -30,7 +30,7 @@ def source(crate, module):
 KINDS = re.findall(r'^rank (\S+) = ', source('program_tokens', 'Kinds'), re.M)
 SETS = dict(re.findall(r'^(\w+) = ((?:[\w-]+ ∷ )+\[\])$', source('program_grammar', 'Sets'), re.M))
 FUNCTIONS = {k: tuple(x.strip() for x in s.split('∷')[:-1]) for k, s in re.findall(r'kind = (\w+); shapes = ([^;]*);', source('program_tree', 'Functions'))}
-VALUES = {'Place': ['in-print', 'elsewhere'], 'End': ['needs-end', 'ended'], 'Else': ['takes-else', 'whole']}
+VALUES = {'Place': ['in_print', 'elsewhere'], 'End': ['needs_end', 'ended'], 'Else': ['takes_else', 'whole']}
 
 
 def kinds_of(text):
@@ -167,7 +167,7 @@ def productions(key, first):
         parts = split_top(sig, '→')
         target, shape = last_argument(parts[-1])
         env = {n: None for n, t in types.items() if t not in ('Kind', 'List Kind', 'Function')}
-        env['inMain'] = None
+        env['in_main'] = None
         env = unify(term(target), key, env)
         if env is None:
             continue
@@ -177,7 +177,7 @@ def productions(key, first):
             envs = [dict(e, **{n: v}) for e in envs for v in VALUES[types[n]]]
         for e in envs:
             options = [e]
-            if 'functionOf' in sig:
+            if 'function_of' in sig:
                 options = [dict(e, **{'f-kind': k, 'f-shapes': s}) for k, s in FUNCTIONS.items()]
             for o in options:
                 made = expand(parts[:-1], shape, o, types)
@@ -208,11 +208,11 @@ def expand(premises, shape, env, types):
         elif p.startswith('among ') and p.endswith(' k ≡ false'):
             kinds['k'] -= kinds_of(p[6:-len(' k ≡ false')])
         elif p.startswith('Compares '):
-            kinds['k'] &= kinds_of('comparisons') - (frozenset(['greater']) if env['p'] == 'in-print' else frozenset())
-        elif p.startswith('functionOf '):
+            kinds['k'] &= kinds_of('comparisons') - (frozenset(['greater']) if env['p'] == 'in_print' else frozenset())
+        elif p.startswith('function_of '):
             kinds['k'] &= frozenset([env['f-kind']])
-        elif p == 'inMain ≡ true':
-            if env['inMain'] != 'true':
+        elif p == 'in_main ≡ true':
+            if env['in_main'] != 'true':
                 return None
         else:
             head, what = last_argument(p)
@@ -328,20 +328,20 @@ def judged(ref, text):
     e = Earley()
     at = 0
     while True:
-        after_user = e.tokens[-1:] == ['user-name']
+        after_user = e.tokens[-1:] == ['user_name']
         if after_user and text[at:at + 1] == b'(':
-            return 4, at, e.tokens                    # call-paren: no rule has it
+            return 4, at, e.tokens                    # call_paren: no rule has it
         try:
             ere = e.takes('ERE')
             t = ref._lex(text, at, ere)
         except ref.Refusal as r:
             return r.outcome, r.place, e.tokens
         spelled = text[t.start:t.end].decode('latin1')
-        kind = {'EOF': 'text-end', 'NEWLINE': 'newline', 'NUMBER': 'NUMBER', 'STRING': 'STRING', 'ERE': 'ERE'}.get(t.kind) or WORDS.get(spelled, 'user-name')
+        kind = {'EOF': 'text_end', 'NEWLINE': 'newline', 'NUMBER': 'NUMBER', 'STRING': 'STRING', 'ERE': 'ERE'}.get(t.kind) or WORDS.get(spelled, 'user_name')
         if not e.takes(kind):
             return 4, t.start, e.tokens
         e.push(kind)
-        if kind == 'text-end':
+        if kind == 'text_end':
             assert e.done()
             return 0, len(text), e.tokens
         at = t.end

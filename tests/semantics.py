@@ -69,7 +69,7 @@ def image_value(parts):
 
 def reading(source, data, outcome, image):
     """What bytes or words are read as: the case, and the image's value, or None if they are refused. The image's own bytes tell the value."""
-    left = 'readImage %s %s' % (source, numbers(data))
+    left = 'read_image %s %s' % (source, numbers(data))
     value = None if outcome else image_value(ref._parse_image(image)[0])
     return (left, 'some ' + value if value else 'none'), value
 
@@ -77,20 +77,20 @@ def reading(source, data, outcome, image):
 def from_bytes(image):
     """What an image's bytes are read as; and if they are read, the content and the bytes of that."""
     outcome, content = ref.read_image(image)
-    case, value = reading('fromBytes', image, outcome, image)
+    case, value = reading('from_bytes', image, outcome, image)
     yield case
     if value:
-        yield 'contentOf ' + value, numbers(content)
+        yield 'content_of ' + value, numbers(content)
         yield from from_words(content)
 
 
 def from_words(content):
     """What content words are read as; and if they are read, the bytes of that."""
     outcome, image = ref.write_image(content)
-    case, value = reading('fromWords', content, outcome, image)
+    case, value = reading('from_words', content, outcome, image)
     yield case
     if value:
-        yield 'bytesOf ' + value, numbers(image)
+        yield 'bytes_of ' + value, numbers(image)
 
 
 def small_image(r):
@@ -111,12 +111,12 @@ use mathlib.Core.List.{List, [], _∷_}
 use mathlib.Core.Option.{Option, some, none}
 use Rattle·lists.specs.Elements.{nth}
 use Rattle·lists.specs.Parsing.{many}
-use Rattle·image_format·specs.specs.Codes.{codes, codeCount, codeOf}
-use Rattle·image_format·specs.specs.Image.{number, text, Instruction, Image}
-use Rattle·image_format·specs.specs.Numbers.{coded, takeGroups, takeNumber}
-use Rattle·image_format·specs.specs.Reading.{fromBytes, fromWords, readImage}
-use Rattle·image_format·specs.specs.Writing.{all, written, bytesOf, contentOf}''',
-       'nth codes codeCount codeOf coded takeGroups takeNumber many readImage all written')
+use Rattle.image_format.specs.Codes.{codes, code_count, code_of}
+use Rattle.image_format.specs.Image.{number, text, Instruction, Image}
+use Rattle.image_format.specs.Numbers.{coded, take_groups, take_number}
+use Rattle.image_format.specs.Reading.{from_bytes, from_words, read_image}
+use Rattle.image_format.specs.Writing.{all, written, bytes_of, content_of}''',
+       'nth codes code_count code_of coded take_groups take_number many read_image all written')
 def images(r, count):
     for image in image_cases.formed_images():
         yield from from_bytes(image)
@@ -156,9 +156,9 @@ use mathlib.Core.Bool.{true, false}
 use mathlib.Core.List.{List, [], _∷_}
 use mathlib.Core.Option.{Option, some, none}
 use Rattle·image_format.specs.Image.{number, text, Instruction, Image}
-use Rattle·semantics·specs.specs.Feed.{oneFeed}
-use Rattle·semantics·specs.specs.Check.{check}
-use Rattle·semantics·specs.specs.Run.{Answer, answerOf, run}
+use Rattle.semantics.specs.Feed.{one_feed}
+use Rattle.semantics.specs.Check.{check}
+use Rattle.semantics.specs.Run.{Answer, answer_of, run}
 ''' + RUN_USES
 
 
@@ -217,7 +217,7 @@ def run_case(image, text, room, budget):
     o, steps, records, output = ref.run(image, text, room, budget)
     SHOWN.add('outcome %d' % o)
     SHOWN.update('code %d' % i[0] for section in ref._parse_image(image)[0][3] for i in section)
-    return ('answerOf (run %s %d (oneFeed %s) %d)' % (image_value(ref._parse_image(image)[0]), budget, numbers(text), room),
+    return ('answer_of (run %s %d (one_feed %s) %d)' % (image_value(ref._parse_image(image)[0]), budget, numbers(text), room),
             'some ' + record(outcome=str(o), steps=str(steps), records=str(records), output=numbers(output)))
 
 

@@ -57,19 +57,19 @@ def source(module):
 RANKS = {k: int(n) for k, n in re.findall(r'^rank (\S+) = (\d+)', source('Kinds'), re.M)}
 WORDS = dict(re.findall(r'word "([^"]*)" ([\w-]+)', source('Words')))
 # what the reference calls a word of each kind; each other word of the table is one that 01 leaves out
-CALLED = {'FUNC': ('LENGTH', 'INDEX', 'SUBSTR', 'MATCH'), 'NAME': ('user-name', 'variable', 'fixed-variable')}
+CALLED = {'FUNC': ('LENGTH', 'INDEX', 'SUBSTR', 'MATCH'), 'NAME': ('user_name', 'variable', 'fixed_variable')}
 
 
 def expected(ref, text, after, stop, ere):
     """Kind, start and stop of a token; the stop of a refused one is left open."""
-    if after == RANKS['user-name'] and text[stop:stop + 1] == b'(':
-        return RANKS['call-paren'], stop, stop + 1
+    if after == RANKS['user_name'] and text[stop:stop + 1] == b'(':
+        return RANKS['call_paren'], stop, stop + 1
     try:
         t = ref._lex(text, stop, ere)
     except ref.Refusal as r:
         return RANKS['bad' if r.outcome == 3 else 'bad-ere'], r.place, None
-    plain = {'EOF': 'text-end', 'NEWLINE': 'newline', 'NUMBER': 'NUMBER', 'STRING': 'STRING', 'ERE': 'ERE'}.get(t.kind)
-    kind = plain or WORDS.get(text[t.start:t.end].decode('latin1'), 'user-name')
+    plain = {'EOF': 'text_end', 'NEWLINE': 'newline', 'NUMBER': 'NUMBER', 'STRING': 'STRING', 'ERE': 'ERE'}.get(t.kind)
+    kind = plain or WORDS.get(text[t.start:t.end].decode('latin1'), 'user_name')
     if t.kind in CALLED:
         assert kind in CALLED[t.kind], (t.kind, kind)
     return RANKS[kind], t.start, t.end
@@ -129,7 +129,7 @@ def main():
                     wrong += 1
                     print('DIFFERS', text, 'token', i, 'operand', operand, 'lexer', got, 'reference', want)
             kind, _, stop = numbers[6 * i + 3 * (choices >> i % 32 & 1):][:3]
-        if kind not in (RANKS['text-end'], RANKS['bad'], RANKS['bad-ere']):
+        if kind not in (RANKS['text_end'], RANKS['bad'], RANKS['bad-ere']):
             wrong += 1
             print('NO END', text)
     missing = sorted(k for k, n in RANKS.items() if n not in seen)

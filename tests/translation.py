@@ -1,12 +1,12 @@
 #!/usr/bin/env python3
-"""Compares `translateOf` with the reference's `translate`, by theorems that the checker computes (as tests/semantics.py does for images and runs).
+"""Compares `translate_of` with the reference's `translate`, by theorems that the checker computes (as tests/semantics.py does for images and runs).
 
     tests/translation.py [--reference DIR] [--cases N] [--seed S] [--only hand|random|cut|all] [--from I] [--to J] [--each K]
                          [--longest BYTES]
 
 DIR has reference.py and gen.py (default: tests/reference). `hand` are the texts of filter_cases.py, `random` are N texts of the
 generator, valid and damaged ones, `cut` are N valid texts, each cut off at each of its tokens; I and J take a part of the texts.
-A case is a theorem `translateOf 1 text room ≡ answer`, proved by `refl`. The theorems are in modules of K cases each, in a copy
+A case is a theorem `translate_of 1 text room ≡ answer`, proved by `refl`. The theorems are in modules of K cases each, in a copy
 of the repository. A false theorem goes along with each module, and has to be refused.
 """
 import argparse
@@ -53,7 +53,7 @@ def case(ref, r, text, room=None):
     outcome, place, image = ref.translate(text, room)
     old = [9] * room
     new = list(image) + old[len(image):] if outcome == 0 else old
-    return outcome, 'translateOf 1 %s %s' % (numbers(text), numbers(old)), 'record { outcome = %d; place = %d; room = %s }' % (outcome, place, numbers(new))
+    return outcome, 'translate_of 1 %s %s' % (numbers(text), numbers(old)), 'record { outcome = %d; place = %d; room = %s }' % (outcome, place, numbers(new))
 
 
 def cut_off(text):
@@ -107,7 +107,7 @@ def main():
 use mathlib.Core.Path.{_≡_, refl}
 use mathlib.Core.List.{List, [], _∷_}
 use Prim.Native.Nat.{ℕ}
-use Rattle·translation·specs.specs.Translation.{Translation, translateOf}
+use Rattle.translation.specs.Translation.{Translation, translate_of}
 '''
     with open(os.path.join(specs, 'Lib.antt'), 'a') as lib:
         for k in range(0, len(cases), options.each):

@@ -25,30 +25,30 @@ PROGRAMS = ('program_reader', 'Programs.antt')
 WRONG = [
     # ---- the relation
     ('grammar: no lone `;`', GRAMMAR,
-     [('empty : Statement inMain ended whole (semicolon ∷ [])',
-       'empty : Statement inMain ended whole (semicolon ∷ semicolon ∷ [])')]),
-    ('grammar: `next` in BEGIN and END', GRAMMAR, [('next : inMain ≡ true →', 'next : inMain ≡ inMain →')]),
+     [('empty : Statement in_main ended whole (semicolon ∷ [])',
+       'empty : Statement in_main ended whole (semicolon ∷ semicolon ∷ [])')]),
+    ('grammar: `next` in BEGIN and END', GRAMMAR, [('next : in_main ≡ true →', 'next : in_main ≡ in_main →')]),
     ('grammar: a chain of comparisons', GRAMMAR,
      [('Form concatenation l → Compares p k → Form concatenation r',
        'Form (comparison p) l → Compares p k → Form concatenation r')]),
     ('grammar: an `else` of the outer `if`', GRAMMAR,
-     [('→ Statement inMain e whole a → BeforeElse e b', '→ Statement inMain e takes-else a → BeforeElse e b')]),
+     [('→ Statement in_main e whole a → BeforeElse e b', '→ Statement in_main e takes_else a → BeforeElse e b')]),
     # ---- the reader
     ('reader: no pattern before a newline', PROGRAMS,
-     [('isOneOf (text-end ∷ enders) t', 'isOneOf (text-end ∷ []) t')]),
-    ('reader: `next` in BEGIN and END', STATEMENTS, [('(cond (is NEXT t && inMain)', '(cond (is NEXT t && true)')]),
+     [('is_one_of (text_end ∷ enders) t', 'is_one_of (text_end ∷ []) t')]),
+    ('reader: `next` in BEGIN and END', STATEMENTS, [('(cond (is NEXT t && in_main)', '(cond (is NEXT t && true)')]),
     ('reader: a chain of comparisons', EXPRESSIONS,
      [('turns s tier = cond (eqb tier compared) 1 (length s)', 'turns s tier = cond (eqb tier compared) 2 (length s)')]),
     ('reader: `%` with `+` and `-`', OPERATORS, [('operator percent products', 'operator percent sums')]),
     ('reader: an `else` after two `;`', STATEMENTS,
      [('(cond (is semicolon t && not semicolons) mark', '(cond (is semicolon t && not false) mark')]),
     ('reader: an `else` of the outer `if`', STATEMENTS,
-     [('elseAt c a t none = ok (if c a) t',
-       'elseAt c a t none = ok (elim a as (λ _. Statement) [ | expression e ↦ if c a | print es ↦ if c a | if e x ↦ if c a '
+     [('else_at c a t none = ok (if c a) t',
+       'else_at c a t none = ok (elim a as (λ _. Statement) [ | expression e ↦ if c a | print es ↦ if c a | if e x ↦ if c a '
        '| if-else e x y ↦ if-else c (if e x) y | while e x ↦ if c a | block x ↦ if c a | next ↦ if c a | exit ↦ if c a '
        '| empty ↦ if c a | sequence x y ↦ if c a ]) t')]),
     ('reader: the parts of an `if` turned', STATEMENTS,
-     [('map (if-else c a) (bodyAt u)', 'map (λ b. if-else c b a) (bodyAt u)')]),
+     [('map (if-else c a) (body_at u)', 'map (λ b. if-else c b a) (body_at u)')]),
 ]
 
 
