@@ -75,7 +75,7 @@ def counts(crate, believes):
 
     source = list(code(lines(files('src', '**', '*.rt'), '//')))
     functions = [line for line in source if re.match(r'(pub )?(extern "C" )?fn ', line)]
-    return [len(source), antt(files('specs', '**', '*.antt')), believes[crate], antt(files('proofs', '*.antt')), antt(files('proofs', '*', '**', 'Proof.antt')),
+    return [len(source), antt(files('specs', '**', '*.antt')), believes[crate], antt(files('proofs', '*.antt')), antt(files('proofs', '*', '**', 'Invariants.antt') + files('proofs', '*', '**', 'Answers.antt') + files('proofs', '*', '**', 'Proof.antt')),
             len(functions), len(files('must-fail', '*.edit'))]
 
 
