@@ -8,7 +8,7 @@ use crate::{sizes, writing};
 use edition::Edition;
 
 // How many instructions each section has.
-#[derive(Drop)]
+#[derive(Clone, Copy)]
 pub struct Sections {
     pub begin: usize,
     pub main: usize,
@@ -16,7 +16,7 @@ pub struct Sections {
 }
 
 // How many variables, constants and EREs a program has.
-#[derive(Drop)]
+#[derive(Clone, Copy)]
 pub struct Counts {
     pub variables: usize,
     pub constants: usize,

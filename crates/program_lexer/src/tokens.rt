@@ -19,7 +19,7 @@ use edition::Edition;
 use program_scanner::Close;
 
 // A token: where it starts, the number of its kind, and the place after it.
-#[derive(Drop)]
+#[derive(Clone, Copy)]
 pub struct Token {
     pub start: usize,
     pub kind: u64,

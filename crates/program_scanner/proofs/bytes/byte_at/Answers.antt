@@ -1,0 +1,8 @@
+-- `byte_at`: a byte of the text, or 0.
+use mathlib.Core.Path.{sym}
+use lib.ListN.{get_or-eq_default}
+use borrow.Author.Rules.{rules}
+use Rattle.program_scanner.proofs.bytes.byte_at.Goals as goal
+
+pub returns : goal.returns
+returns c = sym (get_or-eq_default c.args.s.now 0 c.if-i-s.false)

@@ -1,0 +1,16 @@
+-- `kind_in`: what is left of the table says what the whole does.
+use mathlib.Core.Path.{◌≡◌, refl, sym, ◌∙◌}
+use Prim.Native.Nat.{◌*◌, ◌-◌, ◌≤◌}
+use native.Mathlib.Omega.{arith}
+use lib.ListN.{length, drop, length-drop}
+use Rattle.program_scanner.specs.Spellings.{rank_in}
+use Rattle.program_scanner.proofs.Packing.{row-found, row-passed, rows_end}
+use Rattle.program_scanner.proofs.spellings.kind_in.Given as goal
+
+abbrev pub invariant-loop-i : goal.invariant-loop-i
+invariant-loop-i l =
+    (2 * l.i ≤ length l.table)
+    × (rank_in l.edition.number l.other l.spelling l.table ≡ rank_in l.edition.number l.other l.spelling (drop (2 * l.i) l.table))
+
+abbrev pub decreases-loop-i : goal.decreases-loop-i
+decreases-loop-i l = length l.table - l.i
