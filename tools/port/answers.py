@@ -70,6 +70,9 @@ class Names:
             place = self.parent[place]
         return best[1] if best else None
 
+    def here(self, place, name):
+        return norm(self.step[place][0]) == norm(name)
+
     def field(self, place, name):
         """The new name of a field that is found at a place or above it."""
         if name in ("args", "requires", "ranges"):
@@ -299,10 +302,13 @@ def resolve(names, variables, word, rest, lost):
     while up < len(parts) and parts[up] == "before":
         up += 1
     at = names.up(place, up)
-    if at is None:
+    if at is None and up == len(parts):
         return None
     if up == len(parts):
         return ("place", at)
+    # a place of the older kit may be gone, so that there are fewer steps: the field's name tells
+    if at is None or parts[up] not in ("args", "requires", "ranges") and not names.here(at, parts[up]):
+        at = place
     arm = names.arm(place, parts[up], parts[up + 1:])
     if arm:
         return ("path", ".".join(["c"] + [respelled(t) for t in arm]))
@@ -326,7 +332,7 @@ def paths(text, names, variables, renames, goal, lemmas, lost):
         if v in variables:
             at = names.up(variables[v], rest.count(".before"))
             if at is None:
-                continue
+                at = variables[v]
             variables[a] = at
             text = re.sub(rf"[ \t]*\blet {re.escape(a)} = {re.escape(v)}{re.escape(rest)} in[ \t]*\n?", "", text, count=1)
 

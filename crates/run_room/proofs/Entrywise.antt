@@ -4,16 +4,16 @@ use mathlib.Core.List.{List, [], ◌∷◌, ◌++◌}
 use Prim.Native.Nat.{ℕ, zero, suc, ◌+◌, ◌-◌, ◌*◌, ◌/◌, ◌%◌, ◌≤◌, ◌<◌, ◌^◌, min}
 use native.Mathlib.Omega.{arith}
 use native.Mathlib.Decide.{dec_lt}
-use lib.ListN.{length, take, drop, get_or, length-append, length-take, length-drop, get_or-append, drop_of_length-le}
+use lib.ListN.{length, take, drop, get_or, length-append, length-drop, get_or-append, drop_of_length-le}
 use lib.Seq.{get_or_at, take_all, take-nil}
 use Rattle.buffer.specs.Parts.{part, put}
 use Rattle.little_endian.specs.Words.{le_bytes, le_value}
-use Rattle.buffer.proofs.Parts.{length_part, length-put, part-part, part-put-same, part-put-below, part-put-above}
-use Rattle.little_endian.proofs.Numbers.{le-put, length-le_bytes}
-use Rattle.values.specs.Value.{Value, unset, field_text}
+use Rattle.buffer.proofs.Parts.{length_part, length-put, part-put-below}
+use Rattle.little_endian.proofs.Numbers.{le-put}
+use Rattle.values.specs.Value.{Value, unset}
 use Rattle.run_room.specs.Layout.{entry_bytes, entries_start, record_start, base_end}
 use Rattle.run_room.specs.Room.{word_at, value_by, line_of, entry_at, entries_to, Placed, Outside}
-use Rattle.run_room.specs.Held.{Entered, Reads}
+use Rattle.run_room.specs.Held.{Entered}
 use Rattle.run_room.specs.declared.lines.Line.{Line}
 use Rattle.run_room.specs.declared.entries.Entry.{Entry}
 use Rattle.run_room.proofs.Kept.{fresh-entry}

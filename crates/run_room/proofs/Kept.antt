@@ -1,8 +1,7 @@
 -- The laws that open what slots and entries keep beside their values. Nothing is kept yet, so each is at hand.
 use mathlib.Core.Path.{◌≡◌}
 use mathlib.Core.List.{List}
-use Prim.Native.Nat.{ℕ, ◌+◌, ◌*◌, ◌≤◌}
-use lib.ListN.{length}
+use Prim.Native.Nat.{ℕ, ◌+◌, ◌*◌}
 use Rattle.buffer.specs.Parts.{part}
 use Rattle.run_room.specs.Layout.{head_size, slot_bytes, entry_bytes, entries_start}
 use Rattle.run_room.specs.Room.{word_at, size_in}

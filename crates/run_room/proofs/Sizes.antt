@@ -1,9 +1,9 @@
 -- The layout in numbers, and that it fits.
 use mathlib.Core.Path.{◌≡◌, refl}
-use Prim.Native.Nat.{ℕ, ◌≤◌}
+use Prim.Native.Nat.{◌≤◌}
 use native.Mathlib.Omega.{arith}
 use Rattle.edition.specs.Limits.{working_room}
-use Rattle.run_room.specs.Layout.{slot_bytes, slot_count, slots_end, record_start, entries_start, base_end}
+use Rattle.run_room.specs.Layout.{slot_bytes, slot_count, record_start, entries_start, base_end}
 
 pub slot-bytes : slot_bytes ≡ 544
 slot-bytes = refl

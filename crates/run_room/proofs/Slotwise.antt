@@ -5,16 +5,15 @@ use Prim.Native.Nat.{ℕ, zero, suc, ◌+◌, ◌*◌, ◌/◌, ◌%◌, ◌≤�
 use native.Mathlib.Omega.{arith}
 use native.Mathlib.Decide.{ℕ_discrete, dec_le}
 use lib.ListN.{length, take, drop, get_or, set, length-set, length-append}
-use lib.Seq.{take-take, ext_get_or, get_or-set_same, get_or-set_other, take_at, drop_at}
+use lib.Seq.{take-take, ext_get_or, get_or-set_same, get_or-set_other}
 use Rattle.buffer.specs.Parts.{part, put}
 use Rattle.little_endian.specs.Words.{le_bytes, le_value}
 use Rattle.buffer.proofs.Parts.{length_part, length-put, put-append, part-part, part-put-same, part-put-above, part-put-below}
-use Rattle.little_endian.proofs.Numbers.{le-round, length-le_bytes}
+use Rattle.little_endian.proofs.Numbers.{le-round}
 use mathlib.Core.Bool.{true, false, true≢false, false≢true}
 use Rattle.values.specs.Value.{Value, unset, number, text, field_text, text_of}
 use Rattle.decimals.specs.Decimal.{decimal_text}
 use Rattle.edition.specs.Limits.{text_bytes}
-use Rattle.block_copy.specs.Rounded.{blocks}
 use Rattle.run_room.specs.Layout.{block_size, head_size, slot_bytes}
 use Rattle.run_room.specs.Room.{word_at, value_by, head_of, size_in, slot_at, slots_from, kind_of, is_number, Outside, Numbered, Texted}
 use Rattle.run_room.specs.Held.{SlotHeld, Slotted, Shown}

@@ -1,17 +1,17 @@
 -- The frame: what the whole room stands for after a part of it has changed, and what is kept stays true.
 use mathlib.Core.Path.{◌≡◌, refl, sym, ap, ap₂, subst, ◌∙◌}
 use mathlib.Core.List.{List, [], ◌∷◌, ◌++◌}
-use Prim.Native.Nat.{ℕ, zero, suc, ◌+◌, ◌-◌, ◌*◌, ◌≤◌, ◌<◌}
+use Prim.Native.Nat.{ℕ, suc, ◌+◌, ◌*◌, ◌≤◌, ◌<◌}
 use native.Mathlib.Omega.{arith}
 use native.Mathlib.Decide.{ℕ_discrete, dec_lt}
-use lib.ListN.{length, drop, set}
+use lib.ListN.{drop}
 use Rattle.edition.specs.Limits.{text_bytes, field_count}
 use Rattle.buffer.specs.Parts.{part}
 use Rattle.splitting.specs.Separator.{Separator}
 use Rattle.values.specs.Value.{Value}
-use Rattle.run_room.specs.Layout.{head_size, slot_bytes, slot_count, slots_end, record_start, entry_bytes, entries_start, base_end}
-use Rattle.run_room.specs.Room.{word_at, value_by, size_in, slot_at, slots_from, line_of, entry_at, entries_to, pending_of, fields_of, Placed, Store, store_of, with_slot, Outside}
-use Rattle.run_room.specs.Held.{SlotHeld, EntryHeld, Held, Did, Slotted, Shown, Entered}
+use Rattle.run_room.specs.Layout.{head_size, slot_bytes, slot_count, record_start, entry_bytes, entries_start, base_end}
+use Rattle.run_room.specs.Room.{word_at, value_by, size_in, slots_from, line_of, entries_to, pending_of, fields_of, Placed, store_of, with_slot, Outside}
+use Rattle.run_room.specs.Held.{SlotHeld, EntryHeld, Held, Did, Slotted, Entered}
 use Rattle.run_room.specs.declared.lines.Line.{Line}
 use Rattle.run_room.specs.declared.entries.Entry.{Entry}
 use Rattle.run_room.proofs.Kept.{copied-slot, kept_entry}
