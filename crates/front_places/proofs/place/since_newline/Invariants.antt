@@ -1,0 +1,15 @@
+-- `since_newline`: with what is counted, what is left gives the same as the text.
+use borrow.Author.Rules.{rules}
+use native.Mathlib.Omega.{arith}
+use mathlib.Core.Path.{◌≡◌, ap, ◌∙◌}
+use Prim.Native.Nat.{ℕ, ◌+◌, ◌-◌, ◌≤◌}
+use lib.ListN.{length, drop}
+use Rattle.front_places.specs.Places.{since_newline}
+use Rattle.front_places.proofs.Counting.{since-next, since-end}
+use Rattle.front_places.proofs.place.since_newline.Given as goal
+
+abbrev pub invariant-loop-i : goal.invariant-loop-i
+invariant-loop-i l = (l.i ≤ length l.s) × (l.n ≤ l.i) × (since_newline 0 l.s ≡ since_newline l.n (drop l.i l.s))
+
+abbrev pub decreases-loop-i : goal.decreases-loop-i
+decreases-loop-i l = length l.s - l.i
