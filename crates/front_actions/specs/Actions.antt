@@ -1,8 +1,8 @@
 -- Internal: cited by private contracts only. What options ask for.      flowawk [-b N] [-s] 'FILTER' [FILE..]
 -- flowawk [-b N] [-s] -f FILTERFILE [FILE..]     flowawk [-b N] [-s] -i IMAGE [FILE..]          flowawk -o IMAGE
 -- 'FILTER' | -o IMAGE -f FILTERFILE     flowawk --check IMAGE | --content IMAGE        flowawk -h | -V
-use Rattle.std.specs.Prelude.{cond, List, [], ◌∷◌, ℕ, ◌+◌, eqb, ltb, get_or}
-use Rattle.front_options.specs.Given.{one, given_count}
+use Rattle.std.specs.Prelude.{cond, ℕ, eqb, ltb, get_or}
+use Rattle.front_options.specs.Given.{given_count}
 use Rattle.front_options.specs.Reading.{READY, REFUSED}
 use Rattle.front_options.specs.declared.options.Options.{Options}
 use Rattle.front_actions.specs.declared.actions.Action.{Action}

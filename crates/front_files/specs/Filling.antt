@@ -12,13 +12,13 @@ use Rattle.front_files.specs.declared.writing.WriteStep.TheVariants.{More as Tak
 abbrev pub FilledTo : ℕ → ℕ → Filled → Type 0
 FilledTo from size (To n) = (from ≤ n) × (n ≤ size)
 FilledTo from size Full = Unit {0}
-FilledTo from size Failed = Unit {0}
+FilledTo from size (Failed e) = Unit {0}
 
 abbrev pub ReadFrom : ℕ → ℕ → ReadStep → Type 0
 ReadFrom at size (More n) = at + n ≤ size
 ReadFrom at size End = Unit {0}
-ReadFrom at size Stop = Unit {0}
+ReadFrom at size (Stop e) = Unit {0}
 
 abbrev pub WrittenFrom : ℕ → ℕ → WriteStep → Type 0
 WrittenFrom at size (Taken n) = at + n ≤ size
-WrittenFrom at size Stopped = Unit {0}
+WrittenFrom at size (Stopped e) = Unit {0}

@@ -1,6 +1,6 @@
 -- Internal: cited by private contracts only. "Files are joined, with a newline where one that isn't empty lacks its
 -- last."
-use Rattle.std.specs.Prelude.{Bool, cond, not, ◌&&◌, List, ℕ, ◌+◌, ◌-◌, eqb, ltb, length, get_or, set}
+use Rattle.std.specs.Prelude.{cond, List, ℕ, ◌+◌, ◌-◌, eqb, ltb, length, get_or, set}
 use Rattle.front_files.specs.declared.reading.Filled.{Filled}
 use Rattle.front_files.specs.declared.reading.Filled.TheVariants.{To, Full}
 

@@ -1,7 +1,7 @@
 // Files and the command line: what is read goes after what a room already has, and what is written is written whole.
 //
-// What the system's calls do is assumed, as the kit says. No contract can say which bytes a read gives; those here say
-// that they lie inside the room, and that what the room had before them stays.
+// What the system's calls do is assumed, as the library says. No contract can say which bytes a read gives; those here
+// say that they lie inside the room, and that what the room had before them stays.
 #![tactic(auto)]
 
 mod joining;

@@ -2,12 +2,14 @@
 ghost use Rattle.std.specs.Prelude.{◌≡◌, ◌+◌, ◌≤◌, length, take};
 ghost use Rattle.front_files.specs.Filling.{FilledTo, ReadFrom};
 
-// How far the room is filled: by this many bytes; or the file has more than fits; or a call failed, and errno says why.
+use std::io::{Error, ErrorKind, Read};
+
+// How far the room is filled: by this many bytes; or the file has more than fits; or a call failed, and why.
 #[derive(Drop)]
 pub enum Filled {
     To(usize),
     Full,
-    Failed,
+    Failed(Error),
 }
 
 // What one read did: it gave this many bytes, or the file has ended, or the call failed.
@@ -15,33 +17,30 @@ pub enum Filled {
 enum ReadStep {
     More(usize),
     End,
-    Stop,
+    Stop(Error),
 }
 
 // Reads once, after the first `at` bytes. A call that a signal interrupts is made again.
-fn read_once(fd: i32, room: &mut [u8], at: usize) -> ReadStep
+fn read_once<R: Read>(file: &mut R, room: &mut [u8], at: usize) -> ReadStep
     requires { at ≤ length room.old }
     ensures { ReadFrom at (length room.old) result
         × (take at room.new ≡ take at room.old) }
 {
-    let rest = &mut room[at..];
-    let got = libc::read(fd, rest);
-    let n = io::count(got, rest);
-    if got < 0 {
-        if os::errno() == libc::EINTR {
-            return ReadStep::More(0);
+    match file.read(&mut room[at..]) {
+        Ok(0) => ReadStep::End,
+        Ok(n) => ReadStep::More(n),
+        Err(e) => {
+            if e.kind() == ErrorKind::Interrupted {
+                return ReadStep::More(0);
+            }
+            ReadStep::Stop(e)
         }
-        return ReadStep::Stop;
     }
-    if n == 0 {
-        return ReadStep::End;
-    }
-    ReadStep::More(n)
 }
 
 // Reads until the file ends. A room that is full is not enough: one byte more than the file has is asked for, so that
 // the end is seen.
-pub fn fill(fd: i32, room: &mut [u8], from: usize) -> Filled
+pub fn fill<R: Read>(file: &mut R, room: &mut [u8], from: usize) -> Filled
     ensures { FilledTo from (length room.old) result
         × (take from room.new ≡ take from room.old) }
 {
@@ -52,14 +51,14 @@ pub fn fill(fd: i32, room: &mut [u8], from: usize) -> Filled
         if size <= at {
             return Filled::Full;
         }
-        match read_once(fd, room, at) {
+        match read_once(file, room, at) {
             ReadStep::More(n) => {
                 at += n;
             }
             ReadStep::End => return Filled::To(at),
-            ReadStep::Stop => return Filled::Failed,
+            ReadStep::Stop(e) => return Filled::Failed(e),
         }
         turns -= 1;
     }
-    Filled::Failed
+    Filled::Failed(Error::from(ErrorKind::TimedOut))
 }

@@ -2,61 +2,62 @@
 ghost use Rattle.std.specs.Prelude.{◌≤◌, length};
 ghost use Rattle.front_files.specs.Filling.{WrittenFrom};
 
+use std::io::{Error, ErrorKind, Result, Write};
+use std::thread;
+
 // What one write did: it took this many bytes, or the call failed.
 #[derive(Drop)]
 enum WriteStep {
     More(usize),
-    Stop,
+    Stop(Error),
 }
 
 // Tells whether a call that failed is to be made again: a signal interrupted it, or a descriptor that does not block
 // takes nothing yet. In the second case another process is let run first: there is no call that waits.
-fn again() -> bool {
-    let error = os::errno();
-    if error == libc::EINTR {
+fn again(error: &Error) -> bool {
+    let kind = error.kind();
+    if kind == ErrorKind::Interrupted {
         return true;
     }
-    if error == libc::EAGAIN {
-        libc::sched_yield();
+    if kind == ErrorKind::WouldBlock {
+        thread::yield_now();
         return true;
     }
     false
 }
 
 // Writes once, from byte `at` on.
-fn write_once(fd: i32, bytes: &[u8], at: usize) -> WriteStep
+fn write_once<W: Write>(file: &mut W, bytes: &[u8], at: usize) -> WriteStep
     requires { at ≤ length bytes.now }
     ensures { WrittenFrom at (length bytes.now) result }
 {
-    let rest = &bytes[at..];
-    let got = libc::write(fd, rest);
-    let n = io::count(got, rest);
-    if got < 0 {
-        if again() {
-            return WriteStep::More(0);
+    match file.write(&bytes[at..]) {
+        Ok(0) => WriteStep::Stop(Error::from(ErrorKind::WriteZero)),
+        Ok(n) => WriteStep::More(n),
+        Err(e) => {
+            if again(&e) {
+                return WriteStep::More(0);
+            }
+            WriteStep::Stop(e)
         }
-        return WriteStep::Stop;
     }
-    if n == 0 {
-        return WriteStep::Stop;
-    }
-    WriteStep::More(n)
 }
 
-// Writes all bytes; false where a call failed, and errno says why.
-pub fn write_whole(fd: i32, bytes: &[u8]) -> bool {
+// Writes all bytes; an error where a call failed.
+pub fn write_whole<W: Write>(file: &mut W, bytes: &[u8]) -> Result<()> {
     let mut at: usize = 0;
     let mut turns = u64::MAX;
     while turns > 0 {
         if bytes.len() <= at {
-            return true;
+            return Ok(());
         }
-        let s = write_once(fd, bytes, at);
-        let WriteStep::More(n) = s else {
-            return false;
-        };
-        at += n;
+        match write_once(file, bytes, at) {
+            WriteStep::More(n) => {
+                at += n;
+            }
+            WriteStep::Stop(e) => return Err(e),
+        }
         turns -= 1;
     }
-    false
+    Err(Error::from(ErrorKind::TimedOut))
 }

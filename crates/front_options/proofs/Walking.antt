@@ -1,10 +1,9 @@
 -- Words from left to right.
-use mathlib.Core.Path.{◌≡◌, refl, sym, ap, ap₂, ◌∙◌}
-use mathlib.Core.Bool.{Bool, true, false, cond}
+use mathlib.Core.Path.{◌≡◌, refl, sym, ap, ◌∙◌}
+use mathlib.Core.Bool.{Bool, true, false}
 use mathlib.Core.List.{List, [], ◌∷◌, ◌++◌}
-use Prim.Native.Nat.{ℕ, suc, ◌+◌, ◌-◌, ◌*◌, ◌≤◌, ◌<◌}
+use Prim.Native.Nat.{ℕ, suc, ◌+◌, ◌-◌, ◌≤◌, ◌<◌}
 use native.Mathlib.Omega.{arith}
-use lib.Dec.{eqb, leb}
 use lib.ListN.{length, take, drop, get_or, drop_of_length-le}
 use borrow.Author.Tests.{lt-ltb, le-ltb, eq-eqb, ne_eqb}
 use Rattle.buffer.specs.Order.{equal_bytes}
@@ -16,7 +15,7 @@ use Rattle.front_words.specs.declared.words.WordEnd.{WordEnd}
 use Rattle.front_options.specs.Kinds.{option_words, number_in, kind_of}
 use Rattle.front_options.specs.Reading.{step_of, read_from}
 use Rattle.front_options.specs.Given.{one, given_count}
-use Rattle.front_options.specs.Budgets.{MOST, with_digit, further, digits_from, budget_of}
+use Rattle.front_options.specs.Budgets.{with_digit, further, digits_from, budget_of}
 use Rattle.front_options.specs.declared.options.Options.{Options}
 use Rattle.front_options.specs.declared.budgets.Budget.{Budget}
 use Rattle.front_options.specs.declared.budgets.Budget.TheVariants.{Steps, Bad}

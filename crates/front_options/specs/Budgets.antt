@@ -1,5 +1,5 @@
 -- Internal: cited by private contracts only. The argument of -b: digits alone, at least one; the number is below 2^64.
-use Rattle.std.specs.Prelude.{cond, ◌&&◌, List, [], ◌∷◌, ℕ, ◌+◌, ◌-◌, ◌*◌, leb}
+use Rattle.std.specs.Prelude.{cond, List, [], ◌∷◌, ℕ, ◌+◌, ◌-◌, ◌*◌, leb}
 use Rattle.front_options.specs.declared.budgets.Budget.{Budget}
 use Rattle.front_options.specs.declared.budgets.Budget.TheVariants.{Steps, Bad}
 

@@ -1,5 +1,5 @@
 -- Internal: cited by private contracts only. The words that are options.
-use Rattle.std.specs.Prelude.{Bool, cond, ◌&&◌, List, [], ◌∷◌, ℕ, suc, eqb, ltb, length, get_or}
+use Rattle.std.specs.Prelude.{cond, List, [], ◌∷◌, ℕ, suc, eqb, ltb, length, get_or}
 use Prim.Native.Char.{code}
 use Prim.Native.String.{String, [] as end-of-text, ◌∷◌ as ◌before◌}
 use Rattle.buffer.specs.Order.{equal_bytes}

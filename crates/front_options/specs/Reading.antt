@@ -1,6 +1,6 @@
 -- Internal: cited by private contracts only. The options that words give, read from left to right. "`--` ends
 -- options"; `-` is an operand; the first operand ends them too.
-use Rattle.std.specs.Prelude.{cond, not, List, [], ◌∷◌, ℕ, ◌+◌, eqb, ltb, get_or, set}
+use Rattle.std.specs.Prelude.{cond, List, [], ◌∷◌, ℕ, ◌+◌, eqb, ltb, get_or, set}
 use Rattle.front_options.specs.Kinds.{OPERAND, UNKNOWN, kind_of}
 use Rattle.front_options.specs.declared.options.Options.{Options}
 

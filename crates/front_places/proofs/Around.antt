@@ -1,5 +1,5 @@
 -- The part of a text that is shown around a place, by its ends.
-use mathlib.Core.Path.{◌≡◌, refl, sym, ap, ap₂, ◌∙◌}
+use mathlib.Core.Path.{◌≡◌, sym, ap, ap₂, ◌∙◌}
 use mathlib.Core.List.{List, [], ◌∷◌}
 use Prim.Native.Nat.{ℕ, zero, suc, ◌+◌, ◌-◌, ◌≤◌}
 use native.Mathlib.Omega.{arith}
@@ -11,7 +11,6 @@ use Rattle.buffer.proofs.First.{first-byte-most}
 use Rattle.front_places.specs.Places.{NEWLINE, newlines, since_newline, line_at, column_at, line_before, line_behind}
 use Rattle.front_places.specs.Shown.{COLUMNS, columns_of, fitting, omitted, shown_before, shown_behind}
 use Rattle.front_places.specs.Window.{Shows}
-use Rattle.front_places.specs.declared.shown.Window.{Window}
 
 -- ---- parts that start at 0, and parts that go to the end
 

@@ -1,5 +1,5 @@
 -- Internal: cited by private contracts only. Places of a text: the line and the column of a byte, both from 1.
-use Rattle.std.specs.Prelude.{ℕ, suc, ◌+◌, ◌-◌, cond, List, [], ◌∷◌, take, drop, eqb}
+use Rattle.std.specs.Prelude.{ℕ, ◌+◌, ◌-◌, cond, List, [], ◌∷◌, take, drop, eqb}
 use Rattle.buffer.specs.First.{first_byte}
 use Rattle.buffer.specs.Parts.{part}
 

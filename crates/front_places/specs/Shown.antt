@@ -1,6 +1,6 @@
 -- Internal: cited by private contracts only. A line as it is shown to a person: bytes that print, and tabs, as they
 -- are, any other as a backslash and three octal digits; of a long line the part around a place.
-use Rattle.std.specs.Prelude.{ℕ, suc, ◌+◌, ◌-◌, ◌/◌, ◌%◌, Bool, cond, ◌||◌, ◌&&◌, List, [], ◌∷◌, ◌++◌, length, take, drop, eqb, leb}
+use Rattle.std.specs.Prelude.{ℕ, suc, ◌+◌, ◌-◌, ◌/◌, ◌%◌, Bool, cond, ◌||◌, ◌&&◌, List, [], ◌∷◌, ◌++◌, take, drop, eqb, leb}
 use Rattle.front_places.specs.Places.{line_before, line_behind}
 
 abbrev pub TAB : ℕ

@@ -4,14 +4,13 @@ use mathlib.Core.Bool.{Bool, true, false, cond}
 use mathlib.Core.List.{List, [], ◌∷◌}
 use Prim.Native.Nat.{ℕ, zero, suc, ◌+◌, ◌-◌, ◌≤◌, ◌<◌}
 use native.Mathlib.Omega.{arith}
-use native.Mathlib.Numerals.{add-one}
-use lib.ListN.{length, take, drop, length-take, length-drop, drop_of_length-le}
+use lib.ListN.{length, take, drop, length-drop, drop_of_length-le}
 use lib.Seq.{take_all, drop-drop}
 use lib.Dec.{eqb}
 use Rattle.buffer.specs.First.{first_byte}
 use Rattle.buffer.specs.Parts.{part}
 use Rattle.buffer.proofs.First.{first-byte-most}
-use Rattle.front_words.specs.Words.{lengthened, with_byte, words_of, word_in}
+use Rattle.front_words.specs.Words.{lengthened, words_of, word_in}
 use Rattle.front_words.specs.Walk.{Ends, SpanOf}
 use Rattle.front_words.specs.declared.words.WordEnd.{WordEnd}
 use Rattle.front_words.specs.declared.words.Span.{Span}

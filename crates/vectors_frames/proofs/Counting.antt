@@ -1,6 +1,6 @@
 -- A law on tallies, by which a walk through a file ends.
 use mathlib.Core.Path.{◌≡◌, ap}
-use Prim.Native.Nat.{ℕ, ◌<◌}
+use Prim.Native.Nat.{◌<◌}
 use native.Mathlib.Omega.{arith}
 use Rattle.vectors_frames.specs.declared.tally.Tally.{Tally}
 use Rattle.vectors_frames.specs.declared.tally.Verdict.{Verdict}

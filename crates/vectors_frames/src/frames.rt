@@ -4,6 +4,8 @@
 ghost use Rattle.std.specs.Prelude.{◌≤◌, length};
 ghost use Rattle.vectors_frames.specs.Frames.{size_of};
 
+use std::io::Read;
+
 // What a look for the next frame finds: a payload, by its size, at the front of the room; a frame that the end of
 // the file cuts, or that is longer than the room; or the end of the file.
 #[derive(Drop)]
@@ -13,14 +15,29 @@ pub enum Frame {
     End,
 }
 
+// Reads until a room is full, the file ends or a read fails. Returns how many bytes were put at the front.
+fn read_full<R: Read>(file: &mut R, room: &mut [u8]) -> usize
+    ensures { result ≤ length room.old }
+{
+    let mut at: usize = 0;
+    while at < room.len() {
+        match file.read(&mut room[at..]) {
+            Ok(0) => return at,
+            Ok(n) => at += n,
+            Err(_) => return at,
+        }
+    }
+    at
+}
+
 // Reads a payload of n bytes into the room.
-fn payload(fd: i32, room: &mut [u8], n: usize) -> Frame
+fn payload<R: Read>(file: &mut R, room: &mut [u8], n: usize) -> Frame
     ensures { size_of result ≤ length room.old }
 {
     if room.len() < n {
         return Frame::Cut;
     }
-    let got = io::read_full(fd, &mut room[0..n]);
+    let got = read_full(file, &mut room[0..n]);
     if got < n {
         return Frame::Cut;
     }
@@ -28,16 +45,16 @@ fn payload(fd: i32, room: &mut [u8], n: usize) -> Frame
 }
 
 // Reads the next frame. No payload is longer than a room of 65536 bytes, as `io::large_buffer` gives.
-pub fn next(fd: i32, room: &mut [u8]) -> Frame
+pub fn next<R: Read>(file: &mut R, room: &mut [u8]) -> Frame
     ensures { size_of result ≤ length room.old }
 {
     let mut head = [0u8; 2];
-    let got = io::read_full(fd, &mut head);
+    let got = read_full(file, &mut head);
     if got == 0 {
         return Frame::End;
     }
     if got < 2 {
         return Frame::Cut;
     }
-    payload(fd, room, crate::payload::short(&head, 0))
+    payload(file, room, crate::payload::short(&head, 0))
 }

@@ -5,7 +5,7 @@
 //
 //     let mut tally = vectors_frames::start();
 //     while 0 < tally.left {
-//         tally = vectors_frames::counted(tally, look(group, fd, room));
+//         tally = vectors_frames::counted(tally, look(group, file, room));
 //     }
 //
 // where `look` reads the next frame by `vectors_frames::next` and judges its payload.

@@ -1,10 +1,6 @@
 -- `read_budget`: the number so far, and the digits that are left.
-use borrow.Author.Rules.{rules}
 use native.Mathlib.Omega.{arith}
-use mathlib.Core.Path.{◌≡◌, sym, ◌∙◌}
-use Prim.Native.Nat.{◌-◌, ◌≤◌}
-use lib.ListN.{length, drop}
-use Rattle.front_options.specs.Budgets.{digits_from, budget_of}
+use mathlib.Core.Path.{sym, ◌∙◌}
 use Rattle.front_options.proofs.Walking.{budget-none, budget-some, digit-bad, digit-on, digit-end}
 use Rattle.front_options.proofs.budgets.read_budget.Goals as goal
 
@@ -29,12 +25,11 @@ pub loop-i-smaller : goal.loop-i-smaller
 loop-i-smaller c = omega arith
 
 pub loop-i-preserved : goal.loop-i-preserved
-loop-i-preserved c =
-    (
-      omega arith,
-      digit-on c.args.word.now c.loop-i.i c.loop-i-test.true c.loop-i.value c.loop-i.invariant.1
-          (sym c.in-Steps.is ∙ c.with_digit-s.ensures),
-    )
+loop-i-preserved c = (
+  omega arith,
+  digit-on c.args.word.now c.loop-i.i c.loop-i-test.true c.loop-i.value c.loop-i.invariant.1
+      (sym c.in-Steps.is ∙ c.with_digit-s.ensures),
+)
 
 pub returns : goal.returns
 returns c = digit-end c.args.word.now c.loop-i.i c.loop-i.value c.loop-i-test.false c.loop-i.invariant.1

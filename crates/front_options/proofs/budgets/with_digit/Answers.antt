@@ -1,10 +1,8 @@
 -- `with_digit`, by its tests.
-use borrow.Author.Rules.{rules}
 use native.Mathlib.Omega.{arith}
 use Prim.Native.Nat.{◌+◌, ◌-◌, ◌*◌}
 use borrow.Author.Tests.{le-leb, lt-leb}
 use Rattle.front_options.specs.Budgets.{MOST, with_digit}
-use borrow.Author.Rules.{rules}
 use Rattle.front_options.proofs.budgets.with_digit.Goals as goal
 
 pub returns-then-b-lt48 : goal.returns-then-b-lt48

@@ -1,8 +1,6 @@
 -- `kind_of`, by its tests.
-use borrow.Author.Rules.{rules}
 use native.Mathlib.Omega.{arith}
 use Rattle.front_options.proofs.Walking.{kind-option, kind-short, kind-unknown, kind-plain}
-use borrow.Author.Rules.{rules}
 use Rattle.front_options.proofs.options.kind_of.Goals as goal
 
 pub returns-then-n-lt-OPERAND : goal.returns-then-n-lt-OPERAND

@@ -1,7 +1,5 @@
 -- `known`, by its tests.
-use borrow.Author.Rules.{rules}
 use borrow.Author.Tests.{eq-eqb, ne_eqb, lt-ltb, le-ltb}
-use borrow.Author.Rules.{rules}
 use Rattle.front_options.proofs.options.known.Goals as goal
 
 pub returns-then-given-option-ne0 : goal.returns-then-given-option-ne0

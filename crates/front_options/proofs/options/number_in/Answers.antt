@@ -1,11 +1,5 @@
 -- `number_in`: what was passed, and the number among the words that are left.
-use borrow.Author.Rules.{rules}
 use native.Mathlib.Omega.{arith}
-use mathlib.Core.Path.{◌≡◌}
-use Prim.Native.Nat.{◌+◌, ◌-◌, ◌≤◌}
-use lib.ListN.{length, drop}
-use Rattle.front_words.specs.Words.{words_of}
-use Rattle.front_options.specs.Kinds.{number_in}
 use Rattle.front_options.proofs.Walking.{number-here, number-on, number-end}
 use Rattle.front_options.proofs.options.number_in.Goals as goal
 

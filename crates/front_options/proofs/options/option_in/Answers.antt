@@ -1,9 +1,7 @@
 -- `option_in`, by its tests.
-use borrow.Author.Rules.{rules}
 use native.Mathlib.Omega.{arith}
 use borrow.Author.Tests.{eq-eqb, ne_eqb}
 use Rattle.front_options.specs.Reading.{option_in}
-use borrow.Author.Rules.{rules}
 use Rattle.front_options.proofs.options.option_in.Goals as goal
 
 pub returns-then-kind-eq-OPERAND : goal.returns-then-kind-eq-OPERAND

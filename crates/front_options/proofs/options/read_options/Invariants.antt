@@ -1,13 +1,9 @@
 -- `read_options`: what is read so far, and the words that are left.
-use borrow.Author.Rules.{rules}
-use native.Mathlib.Omega.{arith}
-use mathlib.Core.Path.{◌≡◌, sym, ap}
-use Rattle.front_options.specs.declared.options.Options.{Options}
-use Prim.Native.Nat.{◌+◌, ◌-◌, ◌≤◌}
+use mathlib.Core.Path.{◌≡◌}
+use Prim.Native.Nat.{◌-◌, ◌≤◌}
 use lib.ListN.{length, drop}
 use Rattle.front_words.specs.Words.{words_of}
 use Rattle.front_options.specs.Reading.{read_from, options_of}
-use Rattle.front_options.proofs.Walking.{read-on, read-end}
 use Rattle.front_options.proofs.options.read_options.Given as goal
 
 abbrev pub invariant-loop-at : goal.invariant-loop-at

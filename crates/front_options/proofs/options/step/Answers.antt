@@ -1,9 +1,7 @@
 -- `step`, by its tests.
-use borrow.Author.Rules.{rules}
 use mathlib.Core.Path.{ap, ◌∙◌}
 use borrow.Author.Tests.{eq-eqb, ne_eqb, lt-ltb, le-ltb}
 use Rattle.front_options.specs.Reading.{option_in, step_of}
-use borrow.Author.Rules.{rules}
 use Rattle.front_options.proofs.options.step.Goals as goal
 
 pub returns-then-stage-lt-READY : goal.returns-then-stage-lt-READY

@@ -1,5 +1,4 @@
 -- `column_at` meets its contract: it counts the bytes since the last newline before the place.
-use borrow.Author.Rules.{rules}
 use native.Mathlib.Omega.{arith}
 use Rattle.front_places.proofs.Around.{column-is}
 use Rattle.front_places.proofs.place.column_at.Goals as goal

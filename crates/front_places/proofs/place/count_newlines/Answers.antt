@@ -1,10 +1,5 @@
 -- `count_newlines`: what is counted, and the newlines of what is left, are those of the text.
-use borrow.Author.Rules.{rules}
 use native.Mathlib.Omega.{arith}
-use mathlib.Core.Path.{◌≡◌}
-use Prim.Native.Nat.{◌+◌, ◌-◌, ◌≤◌}
-use lib.ListN.{length, drop}
-use Rattle.front_places.specs.Places.{newlines}
 use Rattle.front_places.proofs.Counting.{newlines-next, newlines-end}
 use Rattle.front_places.proofs.place.count_newlines.Goals as goal
 

@@ -1,5 +1,4 @@
 -- `line_at` meets its contract: it counts the newlines before the place.
-use borrow.Author.Rules.{rules}
 use native.Mathlib.Omega.{arith}
 use Rattle.front_places.proofs.Around.{line-is}
 use Rattle.front_places.proofs.place.line_at.Goals as goal

@@ -1,8 +1,6 @@
 -- `since` meets its contract, by its test.
-use borrow.Author.Rules.{rules}
 use native.Mathlib.Omega.{arith}
 use borrow.Author.Tests.{eq-eqb, ne_eqb}
-use borrow.Author.Rules.{rules}
 use Rattle.front_places.proofs.place.since.Goals as goal
 
 pub returns-then-b-eq10 : goal.returns-then-b-eq10

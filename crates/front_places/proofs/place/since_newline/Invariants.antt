@@ -1,11 +1,8 @@
 -- `since_newline`: with what is counted, what is left gives the same as the text.
-use borrow.Author.Rules.{rules}
-use native.Mathlib.Omega.{arith}
-use mathlib.Core.Path.{◌≡◌, ap, ◌∙◌}
-use Prim.Native.Nat.{ℕ, ◌+◌, ◌-◌, ◌≤◌}
+use mathlib.Core.Path.{◌≡◌}
+use Prim.Native.Nat.{◌-◌, ◌≤◌}
 use lib.ListN.{length, drop}
 use Rattle.front_places.specs.Places.{since_newline}
-use Rattle.front_places.proofs.Counting.{since-next, since-end}
 use Rattle.front_places.proofs.place.since_newline.Given as goal
 
 abbrev pub invariant-loop-i : goal.invariant-loop-i

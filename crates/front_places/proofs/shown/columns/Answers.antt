@@ -1,10 +1,5 @@
 -- `columns`: what is counted, and the columns of what is left, are those of the list.
-use borrow.Author.Rules.{rules}
 use native.Mathlib.Omega.{arith}
-use mathlib.Core.Path.{◌≡◌}
-use Prim.Native.Nat.{◌+◌, ◌*◌, ◌-◌, ◌≤◌}
-use lib.ListN.{length, drop}
-use Rattle.front_places.specs.Shown.{columns_of}
 use Rattle.front_places.proofs.Widths.{columns-next, columns-end}
 use Rattle.front_places.proofs.shown.columns.Goals as goal
 

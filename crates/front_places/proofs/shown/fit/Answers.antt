@@ -1,10 +1,5 @@
 -- `fit`: bytes are taken as long as the columns that are left have room for the next.
-use borrow.Author.Rules.{rules}
 use native.Mathlib.Omega.{arith}
-use mathlib.Core.Path.{◌≡◌}
-use Prim.Native.Nat.{◌+◌, ◌-◌, ◌≤◌}
-use lib.ListN.{length, drop}
-use Rattle.front_places.specs.Shown.{fitting}
 use Rattle.front_places.proofs.Widths.{fit-more, fit-stop, fit-end}
 use Rattle.front_places.proofs.shown.fit.Goals as goal
 

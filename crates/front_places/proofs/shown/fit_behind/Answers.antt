@@ -1,6 +1,5 @@
 -- `fit_behind` meets its contract, by those of what it calls.
-use borrow.Author.Rules.{rules}
-use mathlib.Core.Path.{◌≡◌, ap, ◌∙◌}
+use mathlib.Core.Path.{ap, ◌∙◌}
 use Prim.Native.Nat.{ℕ, ◌-◌}
 use Rattle.front_places.specs.Shown.{COLUMNS, fitting}
 use Rattle.front_places.proofs.shown.fit_behind.Goals as goal

@@ -1,10 +1,5 @@
 -- `left_out`: bytes go as long as the rest takes too many columns, which are counted down.
-use borrow.Author.Rules.{rules}
 use native.Mathlib.Omega.{arith}
-use mathlib.Core.Path.{◌≡◌}
-use Prim.Native.Nat.{◌+◌, ◌-◌, ◌≤◌}
-use lib.ListN.{length, drop}
-use Rattle.front_places.specs.Shown.{columns_of, left_out}
 use Rattle.front_places.proofs.Widths.{columns-next, out-next, out-stop, out-end}
 use Rattle.front_places.proofs.shown.left_out.Goals as goal
 

@@ -1,7 +1,5 @@
 -- `omit` meets its contract, by its test.
-use borrow.Author.Rules.{rules}
 use native.Mathlib.Omega.{arith}
-use mathlib.Core.Path.{◌≡◌, sym, ap₂, ◌∙◌}
 use Prim.Native.Nat.{◌+◌}
 use borrow.Author.Tests.{le-leb, lt-leb}
 use Rattle.front_places.specs.Shown.{COLUMNS, columns_of, omitted}

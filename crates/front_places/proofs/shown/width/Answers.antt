@@ -1,9 +1,7 @@
 -- `width` meets its contract, by its test.
-use borrow.Author.Rules.{rules}
 use native.Mathlib.Omega.{arith}
 use mathlib.Core.Path.{sym, ◌∙◌}
 use Rattle.front_places.specs.Shown.{width_of}
-use borrow.Author.Rules.{rules}
 use Rattle.front_places.proofs.shown.width.Goals as goal
 
 pub returns-then-prints : goal.returns-then-prints

@@ -1,9 +1,7 @@
 -- `find_word` meets its contract: word k is the word of what is left of k, from where the walk is.
-use borrow.Author.Rules.{rules}
 use native.Mathlib.Omega.{arith}
 use mathlib.Core.Path.{◌≡◌, refl, ap, ◌∙◌}
-use Prim.Native.Nat.{◌≤◌}
-use lib.ListN.{length, drop}
+use lib.ListN.{drop}
 use Rattle.front_words.specs.Words.{words_of, word_in}
 use Rattle.front_words.proofs.Walking.{span_none, word_next, span_of}
 use Rattle.front_words.proofs.words.find_word.Goals as goal

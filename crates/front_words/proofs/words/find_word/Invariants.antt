@@ -1,11 +1,8 @@
 -- `find_word` meets its contract: word k is the word of what is left of k, from where the walk is.
-use borrow.Author.Rules.{rules}
-use native.Mathlib.Omega.{arith}
-use mathlib.Core.Path.{◌≡◌, refl, ap, ◌∙◌}
+use mathlib.Core.Path.{◌≡◌}
 use Prim.Native.Nat.{◌≤◌}
 use lib.ListN.{length, drop}
 use Rattle.front_words.specs.Words.{words_of, word_in}
-use Rattle.front_words.proofs.Walking.{span_none, word_next, span_of}
 use Rattle.front_words.proofs.words.find_word.Given as goal
 
 abbrev pub invariant-loop-left : goal.invariant-loop-left

@@ -1,8 +1,6 @@
 -- `span_at` meets its contract, by its test.
-use borrow.Author.Rules.{rules}
 use mathlib.Core.Path.{refl}
 use Rattle.front_words.proofs.Walking.{span_none, word_first}
-use borrow.Author.Rules.{rules}
 use Rattle.front_words.proofs.words.span_at.Goals as goal
 
 pub returns-then-block-at : goal.returns-then-block-at

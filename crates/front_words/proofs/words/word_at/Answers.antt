@@ -1,8 +1,6 @@
 -- `word_at` meets its contract: the word goes to the first NUL, or to the block's end.
-use borrow.Author.Rules.{rules}
 use native.Mathlib.Omega.{arith}
 use Rattle.front_words.proofs.Walking.{end-few, ends-before, ends_last}
-use borrow.Author.Rules.{rules}
 use Rattle.front_words.proofs.words.word_at.Goals as goal
 
 pub overflow_add-end : goal.overflow_add-end

@@ -1,0 +1,10 @@
+-- `is_given`, by its test.
+use native.Mathlib.Omega.{arith}
+use borrow.Author.Tests.{eq-eqb, ne_eqb}
+use Rattle.front_actions.proofs.actions.is_given.Goals as goal
+
+pub returns-then-n-eq0 : goal.returns-then-n-eq0
+returns-then-n-eq0 c = (simp (eq-eqb _ _ c.if-n-eq0.true), omega arith)
+
+pub returns-else-n-eq0 : goal.returns-else-n-eq0
+returns-else-n-eq0 c = (simp (ne_eqb _ _ c.if-n-eq0.false), omega arith)

@@ -1,0 +1,9 @@
+-- `write_whole`: the bytes that are taken are some of those that are left.
+use Rattle.std.proofs.Common.{◌≤◌, length}
+use Rattle.front_files.proofs.writing.write_whole.Given as goal
+
+abbrev pub invariant-loop-turns : goal.invariant-loop-turns
+invariant-loop-turns g l = l.at ≤ length l.bytes
+
+abbrev pub decreases-loop-turns : goal.decreases-loop-turns
+decreases-loop-turns g l = l.turns

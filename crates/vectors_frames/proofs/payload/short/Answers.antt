@@ -1,0 +1,13 @@
+-- `short` meets its contract: with too few bytes, with an index too high, and else.
+use native.Mathlib.Omega.{arith}
+use Rattle.vectors_frames.proofs.Bytes.{number_in, number-out}
+use Rattle.vectors_frames.proofs.payload.short.Goals as goal
+
+pub returns-then-p-lt2 : goal.returns-then-p-lt2
+returns-then-p-lt2 c = number-out 2 c.args.at c.args.p.now (omega arith)
+
+pub returns-then-p-at : goal.returns-then-p-at
+returns-then-p-at c = number-out 2 c.args.at c.args.p.now (omega arith)
+
+pub returns : goal.returns
+returns c = number_in 2 c.args.at c.args.p.now (omega arith) c.two.ensures
