@@ -49,6 +49,11 @@ class Names:
         for place in self.parent:
             self.by_norm.setdefault(norm(place), place)
 
+    def calls(self, tested):
+        """Whether a test of `not` is of what a call returned: its fact speaks of the call's result, and not of its `not`."""
+        own = [self.step[p][1] for p, t in self.typed.items() if t]
+        return any(tested == s or tested.startswith(s + "-") and tested[len(s) + 1:].isdigit() for s in own)
+
     def place(self, written):
         return self.by_norm.get(norm(written))
 
@@ -154,7 +159,7 @@ def convert(text, names, module, crate):
     needs, invs, others = {}, {}, []
     for p in parts:
         sig, _ = signature(p)
-        flat = " ".join(sig)
+        flat = " ".join(line for line in sig if not line.startswith("--"))
         m = re.search(rf":\s*tie\.Need-({W}+)", flat)
         v = re.search(rf":\s*tie\.((?:invariant|decreases)-{W}+)", flat)
         if m and named(p) in flat.split(":")[0]:
@@ -341,11 +346,13 @@ def paths(text, names, variables, renames, goal, lemmas, lost):
         if word in renames and not rest:
             return renames[word]
         if word in variables:
+            rest = re.sub(r"(\.if[^.]*\.branch)$", r"\1-raw", rest)
             r = resolve(names, variables, word, rest, lost) if rest else ("place", variables[word])
             if r is None:
                 return m[0]
             if r[0] == "path":
-                if re.search(r"\.if-not-[^.]*\.(true|false)$", r[1]):
+                tested = re.search(r"\.if-not-([^.]*)\.(true|false)$", r[1])
+                if tested and names.calls(tested[1]):
                     return f"(ap not {r[1]})"
                 return r[1]
             if r[1] == goal[1]:

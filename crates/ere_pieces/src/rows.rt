@@ -3,7 +3,7 @@ ghost use Rattle.std.specs.Prelude.{◌≡◌};
 ghost use Rattle.ere_pieces.specs.State.{join_entry, stop_entry};
 
 // What may come next before a part of an ERE: where the text starts, and elsewhere.
-#[derive(Drop)]
+#[derive(Clone, Copy)]
 pub struct Entry {
     pub first: [u64; 3],
     pub later: [u64; 3],

@@ -106,12 +106,12 @@ module _ (t text : List ℕ) (e : Ere ℕ) (T : Tabled t e) (s : ℕ) where
       to-walk n j (go v.0) (omega arith) (rw (ne_eqb (s + n) (length text) (omega arith)) v.1)
       (move (omega arith) v.2 (subst (λ (x : ℕ). after_place t v.0 (eqb x (length text)) r) (add-suc s n) v.3) (rw (add-suc s n) at w))
 
-  to-live : (n j i : ℕ) (r : Next) → i ≡ s + n → L n r → Fr j r i → (m : ℕ) × (j ≡ s + m) × (L m stop)
+  to-live : (j n i : ℕ) (r : Next) → i ≡ s + n → L n r → Fr j r i → (m : ℕ) × (j ≡ s + m) × (L m stop)
   unfolding live_at
-  to-live n j i r h l arrive = (n, h, l)
-  to-live n j i r h l (move {p = p} {r = q} g o a w) =
+  to-live j n i r h l arrive = (n, h, l)
+  to-live j n i r h l (move {p = p} {r = q} g o a w) =
       let next : suc i ≡ s + suc n = ap suc h ∙ sym (add-suc s n) in
-      to-live (suc n) j (suc i) q next
+      to-live j (suc n) (suc i) q next
       (via-out t (live_at t text 0 s n) (get_or text (s + n) 0) (eqb (s + suc n) (length text)) q
       (p, rw (ne_eqb (s + n) (length text) (omega arith)) at l, rw h at o, rw next at a)) w
 
@@ -122,4 +122,4 @@ module _ (t text : List ℕ) (e : Ere ℕ) (T : Tabled t e) (s : ℕ) where
   pub leads-stop : (j : ℕ) → Leads (accepts_at t) text e s j → (m : ℕ) × (j ≡ s + m) × (L m stop)
   leads-stop j h =
       let w = walks (accepts_at t) text (after_place t) e T.wired s j h in
-      to-live zero j s w.0 (sym (add-zero s)) (started w.0 w.1) w.2
+      to-live j zero s w.0 (sym (add-zero s)) (started w.0 w.1) w.2

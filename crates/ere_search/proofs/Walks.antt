@@ -70,7 +70,7 @@ module _ (ok : ℕ → ℕ → Bool) (text : List ℕ) (N : ℕ → Bool → Nex
 
   -- ---- every walk has a span
 
-  from_le : {r : Next} {i j : ℕ} → From j r i → i ≤ j
+  from_le : {j : ℕ} {r : Next} {i : ℕ} → From j r i → i ≤ j
   from_le arrive = le_refl _
   from_le (move h o n w) = let l = from_le w in omega arith
 
