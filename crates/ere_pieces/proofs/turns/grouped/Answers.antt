@@ -8,9 +8,6 @@ use borrow.Author.Rules.{rules}
 use Rattle.ere_pieces.proofs.turns.grouped.Goals as goal
 
 -- `grouped`: by the group's answer and the byte after it.
-refused-requires : tie.Need-refused-requires
-refused-requires c κs = search rules
-
 pub returns-then-not-g : goal.returns-then-not-g
 returns-then-not-g c =
     let a = c.args in
