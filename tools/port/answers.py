@@ -41,6 +41,7 @@ class Names:
             self.parent[place[0]] = place[1]
             self.step[place[0]] = tuple(place[2])
             self.new[place[0]] = new
+        self.called = {p[0]: p[3] for p in row["places"] if isinstance(p[3], str)}
         self.typed = {p[0]: t for p, t in zip(row["places"], row["typed"])}
         self.arms = {p[0]: a for p, a in zip(row["places"], row["arms"]) if a}
         self.raised = set()
@@ -51,7 +52,7 @@ class Names:
 
     def calls(self, tested):
         """Whether a test of `not` is of what a call returned: its fact speaks of the call's result, and not of its `not`."""
-        own = [self.step[p][1] for p, t in self.typed.items() if t]
+        own = [self.step[p][1] for p in self.called]
         return any(tested == s or tested.startswith(s + "-") and tested[len(s) + 1:].isdigit() for s in own)
 
     def place(self, written):
@@ -75,6 +76,18 @@ class Names:
             place = self.parent[place]
         return best[1] if best else None
 
+    def renamed(self, place, name, tail):
+        """What is after a call's field: its parameters are named today, and not numbered."""
+        m = re.fullmatch(r"(auto|new)((?:\.1)*\.0)(.*)", ".".join(tail))
+        while m and place is not None and not (self.step[place][0] and norm(self.step[place][0]) == norm(name)):
+            place = self.parent[place]
+        called = self.called.get(place) if m else None
+        params = parameters(called) if called else None
+        index = m[2].count(".1") if m else 0
+        if not params or index >= len(params):
+            return tail
+        return [m[1], params[index]] + m[3].split(".")[1:]
+
     def here(self, place, name):
         return norm(self.step[place][0]) == norm(name)
 
@@ -89,6 +102,20 @@ class Names:
                 return new
             at = self.parent[at]
         return None
+
+
+def parameters(called):
+    """The names of the parameters of a function of this repository, or None."""
+    crate, *middle, name = called.split("::")
+    for path in sorted(glob.glob(f"crates/{crate}/src/**/*.rt", recursive=True)):
+        with open(path, encoding="utf-8") as f:
+            text = f.read()
+        if middle and os.path.basename(path) not in (middle[-1] + ".rt", "lib.rt", "mod.rt"):
+            continue
+        m = re.search(rf"\bfn {re.escape(name)}\s*(?:<[^>(]*>)?\(([^)]*)\)", text)
+        if m:
+            return re.findall(r"(?:^|,)\s*(?:mut\s+)?(\w+)\s*:", m[1])
+    return None
 
 
 def declarations(text):
@@ -321,7 +348,7 @@ def resolve(names, variables, word, rest, lost):
     if new is None:
         lost.append(f"{word}{rest}")
         return None
-    tail = [respelled(t) for t in parts[up + 1:]]
+    tail = [respelled(t) for t in names.renamed(at, parts[up], parts[up + 1:])]
     return ("path", ".".join(["c", new] + tail))
 
 
@@ -332,6 +359,11 @@ def respelled(field):
 def paths(text, names, variables, renames, goal, lemmas, lost):
     """The text with each path through the facts in the new names; an alias of a place is a variable from there on."""
     variables = dict(variables)
+    for a, path in re.findall(rf"\blet ({W}+) = ({W}+(?:\.{W}+)+\.given) in", text):
+        used = re.sub(rf"\blet {re.escape(a)} = ", "", text)
+        if path.split(".")[0] in variables and not re.search(rf"(?<!{W})(?<!\.){re.escape(a)}(?!{W})(?!\.[01])", used):
+            text = re.sub(rf"[ \t]*\blet {re.escape(a)} = {re.escape(path)} in[ \t]*\n?", "", text, count=1)
+            text = re.sub(rf"(?<!{W})(?<!\.){re.escape(a)}(?=\.[01])", path, text)
     aliases = re.findall(rf"\blet ({W}+) = ({W}+)((?:\.before)+) in", text)
     for a, v, rest in aliases:
         if v in variables:

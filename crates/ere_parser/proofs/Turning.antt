@@ -23,7 +23,7 @@ use Rattle.ere_table.proofs.Rows.{linked-out, row_other, length-linked}
 use Rattle.ere_table.proofs.Parts.{Kept}
 use Rattle.ere_parser.specs.Reading.{rest_from}
 use Rattle.ere_pieces.proofs.Grouping.{inside}
-use Rattle.ere_pieces.specs.State.{entry, join_entry, link_entry, stop_entry, no_alts, no_seq, refused_of, ended_of, bar_of, pushed_of, pushed_table, piece_of, repeated_of, loop_table, repeated_table, leaf_table}
+use Rattle.ere_pieces.specs.State.{join_entry, link_entry, stop_entry, no_alts, no_seq, refused_of, ended_of, bar_of, pushed_of, pushed_table, piece_of, repeated_of, loop_table, repeated_table, leaf_table}
 use Rattle.ere_parser.specs.Built.{Built}
 use Rattle.ere_parser.specs.Standing.{size_of, Base, Refuses, unread, AltsOk, SeqOk, Standing, Closed, Outcome, SameBelow}
 use Rattle.ere_pieces.specs.declared.rows.Entry.{Entry}
