@@ -99,7 +99,7 @@ module _ (source : Source) (write : ℕ → List ℕ) where
 
   text-tells : Tells (a_text source write) (counted source source.byte) (bytes_in write)
   text-tells = seq-tells source.number write (λ n.
-      tells-behind (times-tells {one = a_byte source write} (record { told-as = λ k l. refl }) n)
+      tells-behind (times-tells {one = a_byte source write} {p = source.byte} {w = λ b. b ∷ []} (record { told-as = λ k l. refl }) n)
       (λ l g h. rw (all-bytes g.value, many-length source.byte n l g.value g.rest h)))
 
   -- ---- constants and instructions

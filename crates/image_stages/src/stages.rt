@@ -31,7 +31,7 @@ pub const END: u64 = 7;
 
 // Where a walk is: the stage, the image's edition, and how many lists, items of the list and units of the item come
 // after the present ones. A unit is a number or a text byte.
-#[derive(Drop)]
+#[derive(Clone, Copy)]
 pub struct State {
     pub stage: u64,
     pub edition: u64,

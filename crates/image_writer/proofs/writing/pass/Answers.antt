@@ -1,0 +1,76 @@
+-- `pass` meets its contract: what it comes to is the same after each turn.
+use mathlib.Core.Path.{◌≡◌, sym, subst, ◌∙◌}
+use Prim.Native.Nat.{◌-◌}
+use native.Mathlib.Omega.{arith}
+use lib.ListN.{length}
+use borrow.Author.Rules.{rules}
+use Rattle.image_format.specs.Numbers.{coded}
+use Rattle.image_format.specs.Reading.{from_words}
+use Rattle.image.specs.Pass.{TakesStage}
+use Rattle.image.proofs.Stage.{words-most, bytes-written}
+use Rattle.image.proofs.Passing.{Going, Took, pass-starts, pass-cut, pass-unknown, pass-goes}
+use Rattle.image.proofs.Passing.{pass-followed, pass-whole}
+use Rattle.image_writer.proofs.writing.pass.Goals as goal
+use Rattle.image_writer.proofs.writing.pass.Goals.{In-Number-2}
+
+-- what was taken in a turn
+took : (c : In-Number-2)
+    → let i = c.loop-s in
+    let a = c.args in
+    let g = c.v-1.given.0 in
+    Took from_words coded a.content.now a.bytes.now 8 i.bytes i.s i.at i.k g.0 g.1.0
+took c =
+    let i = c.loop-s in
+    let a = c.args in
+    record {
+      going = i.invariant.0;
+      opens = omega (arith, c.loop-s-test.true);
+      takes =
+          subst (TakesStage from_words a.content.now i.s.stage i.at) c.in-Number.is
+          c.take.ensures;
+    }
+
+pub loop-s-init : goal.loop-s-init
+loop-s-init c = (pass-starts from_words coded _ _ 8 _ c.start-s.ensures, search rules)
+
+pub take-requires : goal.take-requires
+take-requires c = c.loop-s.invariant.0.within
+
+pub returns-in_default : goal.returns-in_default
+returns-in_default c =
+    let going = c.loop-s.invariant.0 in
+    pass-cut going (omega (arith, c.loop-s-test.true)) _
+    c.take.ensures c.in_default.is
+
+pub put-k-requires : goal.put-k-requires
+put-k-requires c =
+    let i = c.loop-s in
+    let t = (took (goal.at.put-k-requires c).In-Number-2).takes in (
+      words-most i.s.stage c.args.content.now i.at c.in-Number.v _ t,
+      omega (arith, t.1, t.2, i.invariant.0.few, e.well-formed.0),
+    )
+
+pub returns-in_default-after : goal.returns-in_default-after
+returns-in_default-after c =
+    let t = took (goal.at.returns-in_default-after c).In-Number-2 in
+    pass-unknown t _ (sym c.after.ensures ∙ c.in_default-after.is)
+
+pub loop-s-smaller : goal.loop-s-smaller
+loop-s-smaller c =
+    let t = (took (goal.at.loop-s-smaller c).In-Number-2).takes in
+    omega (arith, t.1, t.2)
+
+pub loop-s-preserved : goal.loop-s-preserved
+loop-s-preserved c =
+    let i = c.loop-s in
+    let put = c.put-k in (
+      pass-goes (took (goal.at.loop-s-preserved c).In-Number-2) _ _ _ (sym c.after.ensures ∙ c.in-At.is)
+          (bytes-written i.s.stage c.in-Number.v) put.ensures.0 put.ensures.1,
+      search rules,
+    )
+
+pub returns-then-at-content : goal.returns-then-at-content
+returns-then-at-content c = pass-followed c.loop-s.invariant.0 c.loop-s-test.false c.if-at-content.true
+
+pub returns : goal.returns
+returns c = pass-whole c.loop-s.invariant.0 c.loop-s-test.false c.if-at-content.false
