@@ -3,12 +3,12 @@ use front_actions::{Action, actions};
 use front_files::Filled;
 use front_options::{Budget, Options, options};
 use front_runs::Made;
-use libc::{STDERR_FILENO, STDOUT_FILENO};
+use std::io::{Result, Write};
 
-// Writes how the program is called; false where a call failed.
-fn put_usage(fd: i32) -> bool {
+// Writes how the program is called.
+fn put_usage<W: Write>(file: &mut W) -> Result<()> {
     front_files::write_whole(
-        fd,
+        file,
         b"usage: flowawk [-b N] [-s] 'FILTER' [FILE..]\n       flowawk [-b N] [-s] -f FILTERFILE [FILE..]\n\
         \x20      flowawk [-b N] [-s] -i IMAGE [FILE..]\n       flowawk -o IMAGE 'FILTER' | -o IMAGE -f FILTERFILE\n\
         \x20      flowawk --check IMAGE | --content IMAGE\n       flowawk -h | -V\n",
@@ -16,70 +16,82 @@ fn put_usage(fd: i32) -> bool {
 }
 
 // Says what is wrong with a word and how the program is called, and returns the status.
-fn refuse_usage(word: &[u8], reason: &[u8]) -> u64 {
-    front_io::refuse_word(word, reason);
-    put_usage(STDERR_FILENO);
+fn refuse_usage(rt: &HostRuntime, word: &[u8], reason: &[u8]) -> u64 {
+    front_io::refuse_word(rt, word, reason);
+    let _ = put_usage(&mut rt.stderr());
     front_choices::USAGE
 }
 
 // Refuses words that ask for nothing that there is, and returns the status.
-fn refuse_words(block: &[u8], o: Options) -> u64 {
+fn refuse_words(rt: &HostRuntime, block: &[u8], o: Options) -> u64 {
     let stage = o.stage;
     if stage < options::READY {
-        return refuse_usage(b"the last word", b" lacks its argument\n");
+        return refuse_usage(rt, b"the last word", b" lacks its argument\n");
     }
     if stage == options::REFUSED {
         return refuse_usage(
+            rt,
             front_choices::word(block, o.operand),
             b": no such option, or given twice\n",
         );
     }
-    put_usage(STDERR_FILENO);
+    let _ = put_usage(&mut rt.stderr());
     front_choices::USAGE
 }
 
 // Prints how the program is called, and returns the status.
-fn help() -> u64 {
-    if put_usage(STDOUT_FILENO) {
-        return 0;
+fn help(rt: &HostRuntime) -> u64 {
+    match put_usage(&mut rt.stdout()) {
+        Ok(()) => 0,
+        Err(error) => {
+            front_io::fail(rt, b"standard output", &error);
+            front_choices::IO_FAILED
+        }
     }
-    front_io::fail(b"standard output");
-    front_choices::IO_FAILED
 }
 
 // Prints the program's name and edition, and returns the status.
-fn version() -> u64 {
-    if front_io::print(b"flowawk, edition 1\n") {
+fn version(rt: &HostRuntime) -> u64 {
+    if front_io::print(rt, b"flowawk, edition 1\n") {
         return 0;
     }
     front_choices::IO_FAILED
 }
 
 // Makes the image that is to be run or written: of the filter in a word, of a filter file, or of an image file.
-fn make(a: Action, block: &[u8], o: Options, text: &mut [u8], image: &mut [u8]) -> Made {
+fn make(
+    rt: &HostRuntime,
+    a: Action,
+    block: &[u8],
+    o: Options,
+    text: &mut [u8],
+    image: &mut [u8],
+) -> Made {
     let given = o.given;
     let filter = given[actions::FILTER];
     match a {
         Action::RunImage => front_runs::load_checked(
+            rt,
             front_choices::word(block, given[actions::IMAGE]),
             image,
         ),
         Action::RunFile => front_runs::translate_file(
+            rt,
             front_choices::word(block, filter),
             text,
             image,
         ),
         Action::TranslateFile => {
-            front_runs::translate_file(front_choices::word(block, filter), text, image)
+            front_runs::translate_file(rt, front_choices::word(block, filter), text, image)
         }
-        _ => front_runs::translate(b"filter", front_choices::word(block, o.operand), image),
+        _ => front_runs::translate(rt, b"filter", front_choices::word(block, o.operand), image),
     }
 }
 
 // Checks an image file, and returns the status.
-fn check(block: &[u8], o: Options, image: &mut [u8]) -> u64 {
+fn check(rt: &HostRuntime, block: &[u8], o: Options, image: &mut [u8]) -> u64 {
     let given = o.given;
-    let m = front_runs::load_checked(front_choices::word(block, given[actions::CHECK]), image);
+    let m = front_runs::load_checked(rt, front_choices::word(block, given[actions::CHECK]), image);
     match m {
         Made::Image(_) => 0,
         Made::Status(s) => s,
@@ -87,28 +99,37 @@ fn check(block: &[u8], o: Options, image: &mut [u8]) -> u64 {
 }
 
 // Writes the first n bytes of a room to the file that -o names, and returns the status.
-fn write(block: &[u8], o: Options, image: &[u8], n: usize) -> u64 {
+fn write(rt: &HostRuntime, block: &[u8], o: Options, image: &[u8], n: usize) -> u64 {
     if image.len() < n {
         return front_choices::IO_FAILED;
     }
     let given = o.given;
     front_runs::write(
+        rt,
         front_choices::word(block, given[actions::OUTPUT]),
         &image[0..n],
     )
 }
 
 // Translates a filter to an image file, and returns the status.
-fn translate(a: Action, block: &[u8], o: Options, text: &mut [u8], image: &mut [u8]) -> u64 {
-    let m = make(a, block, o, text, image);
+fn translate(
+    rt: &HostRuntime,
+    a: Action,
+    block: &[u8],
+    o: Options,
+    text: &mut [u8],
+    image: &mut [u8],
+) -> u64 {
+    let m = make(rt, a, block, o, text, image);
     match m {
-        Made::Image(n) => write(block, o, image, n),
+        Made::Image(n) => write(rt, block, o, image, n),
         Made::Status(s) => s,
     }
 }
 
 // Runs the image in the first n bytes of a room over the files that the words name, and returns the status.
 fn run_image(
+    rt: &HostRuntime,
     a: Action,
     block: &[u8],
     o: Options,
@@ -125,6 +146,7 @@ fn run_image(
     let given = o.given;
     let first = front_choices::first_file(a, o.operand);
     front_runs::run_files(
+        rt,
         &image[0..n],
         block,
         first,
@@ -138,6 +160,7 @@ fn run_image(
 
 // Runs a filter or an image over the files that the words name, and returns the status.
 fn run(
+    rt: &HostRuntime,
     a: Action,
     block: &[u8],
     o: Options,
@@ -152,19 +175,21 @@ fn run(
     let b = front_choices::budget_for(block, k);
     let Budget::Steps(budget) = b else {
         return refuse_usage(
+            rt,
             front_choices::word(block, k),
             b": no number of steps from 0 to 18446744073709551615\n",
         );
     };
-    let m = make(a, block, o, text, image);
+    let m = make(rt, a, block, o, text, image);
     match m {
-        Made::Image(n) => run_image(a, block, o, image, n, lines, output, work, budget),
+        Made::Image(n) => run_image(rt, a, block, o, image, n, lines, output, work, budget),
         Made::Status(s) => s,
     }
 }
 
 // Does what the words of the command line ask for, and returns the status.
 fn act(
+    rt: &HostRuntime,
     block: &[u8],
     text: &mut [u8],
     image: &mut [u8],
@@ -174,28 +199,29 @@ fn act(
     work: &mut [u8],
 ) -> u64 {
     let o = front_options::read_options(block);
-    let a = front_actions::asked_action(o, last_word());
+    let a = front_actions::asked_action(o, last_word(rt));
     let given = o.given;
     match a {
-        Action::Usage => refuse_words(block, o),
-        Action::Help => help(),
-        Action::Version => version(),
-        Action::Check => check(block, o, image),
+        Action::Usage => refuse_words(rt, block, o),
+        Action::Help => help(rt),
+        Action::Version => version(rt),
+        Action::Check => check(rt, block, o, image),
         Action::Content => front_runs::print_content(
+            rt,
             front_choices::word(block, given[actions::CONTENT]),
             image,
             content,
             output,
         ),
-        Action::TranslateText => translate(a, block, o, text, image),
-        Action::TranslateFile => translate(a, block, o, text, image),
-        _ => run(a, block, o, text, image, lines, output, work),
+        Action::TranslateText => translate(rt, a, block, o, text, image),
+        Action::TranslateFile => translate(rt, a, block, o, text, image),
+        _ => run(rt, a, block, o, text, image, lines, output, work),
     }
 }
 
 // Returns the number of the last word of the command line.
-fn last_word() -> usize {
-    let n = os::arg_count();
+fn last_word(rt: &HostRuntime) -> usize {
+    let n = front_files::word_count(rt);
     if n == 0 { 0 } else { n - 1 }
 }
 
@@ -203,6 +229,7 @@ fn last_word() -> usize {
 // file, and has more bytes than a filter may have, `image` an image, `content` its content, `lines` the input, `output`
 // what is printed; `work` is the working room of a run.
 pub fn tool(
+    rt: &HostRuntime,
     words: &mut [u8],
     text: &mut [u8],
     image: &mut [u8],
@@ -211,13 +238,13 @@ pub fn tool(
     output: &mut [u8],
     work: &mut [u8],
 ) -> u64 {
-    let f = front_files::read_words(words);
+    let f = front_files::read_words(rt, words);
     let Filled::To(n) = f else {
-        front_io::say(b"flowawk: the command line is too long\n");
+        front_io::say(rt, b"flowawk: the command line is too long\n");
         return front_choices::USAGE;
     };
     if words.len() < n {
         return front_choices::IO_FAILED;
     }
-    act(&words[0..n], text, image, content, lines, output, work)
+    act(rt, &words[0..n], text, image, content, lines, output, work)
 }

@@ -11,5 +11,5 @@ mod writing;
 
 pub use joining::separate;
 pub use reading::{Filled, fill};
-pub use words::read_words;
+pub use words::{read_words, word_count};
 pub use writing::write_whole;

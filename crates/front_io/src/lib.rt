@@ -4,7 +4,7 @@
 mod loading;
 mod saying;
 
-pub use loading::{Loaded, load, load_lines};
+pub use loading::{Loaded, load, load_lines, path};
 pub use saying::{
     fail, print, refuse_filter, refuse_image, refuse_size, refuse_word, say, summarize,
 };

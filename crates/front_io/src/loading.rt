@@ -4,7 +4,12 @@ ghost use Rattle.front_io.specs.Loading.{Loads};
 
 use crate::saying;
 use front_files::Filled;
-use libc::STDIN_FILENO;
+use std::fs::File;
+use std::io::{Error, Read, Result};
+use std::{fs, str};
+
+// The system's error for bytes that are no text.
+const EILSEQ: i32 = 84;
 
 // What a room holds: this many bytes; or the files have more than fits; or a status, and what failed is said.
 #[derive(Drop)]
@@ -14,43 +19,55 @@ pub enum Loaded {
     Status(u64),
 }
 
-// Opens a file for reading. Returns its descriptor, below 0 where the call fails.
-fn open(name: &[u8]) -> i32 {
-    if buffer::equal(name, b"-") {
-        return STDIN_FILENO;
+// Returns a file's name as a path, which is text.
+pub fn path(name: &[u8]) -> Result<&str> {
+    match str::from_utf8(name) {
+        Ok(text) => Ok(text),
+        Err(_) => Err(Error::from_raw_os_error(EILSEQ)),
     }
-    os::open_read(name)
 }
 
-// Reads from a descriptor to the end of its file, after the first `from` bytes of a room. What fails is said.
-fn read(fd: i32, name: &[u8], room: &mut [u8], from: usize) -> Loaded
+// Opens a file for reading.
+fn open(rt: &HostRuntime, name: &[u8]) -> Result<File> {
+    let path = path(name)?;
+    fs::open(rt, path)
+}
+
+// Reads a file to its end, after the first `from` bytes of a room. What fails is said.
+fn read<R: Read>(
+    rt: &HostRuntime,
+    file: &mut R,
+    name: &[u8],
+    room: &mut [u8],
+    from: usize,
+) -> Loaded
     ensures { Loads (length room.old) result }
 {
-    let f = front_files::fill(fd, room, from);
+    let f = front_files::fill(file, room, from);
     match f {
         Filled::To(n) => Loaded::To(n),
         Filled::Full => Loaded::Full,
-        Filled::Failed => {
-            saying::fail(name);
+        Filled::Failed(error) => {
+            saying::fail(rt, name, &error);
             Loaded::Status(front_choices::IO_FAILED)
         }
     }
 }
 
 // Reads a file to its end, after the first `from` bytes of a room. What fails is said.
-pub fn load(name: &[u8], room: &mut [u8], from: usize) -> Loaded
+pub fn load(rt: &HostRuntime, name: &[u8], room: &mut [u8], from: usize) -> Loaded
     ensures { Loads (length room.old) result }
 {
-    let fd = open(name);
-    if fd < 0 {
-        saying::fail(name);
-        return Loaded::Status(front_choices::NO_INPUT);
+    if buffer::equal(name, b"-") {
+        return read(rt, &mut rt.stdin(), name, room, from);
     }
-    let r = read(fd, name, room, from);
-    if fd != STDIN_FILENO {
-        libc::close(fd);
+    match open(rt, name) {
+        Ok(mut file) => read(rt, &mut file, name, room, from),
+        Err(error) => {
+            saying::fail(rt, name, &error);
+            Loaded::Status(front_choices::NO_INPUT)
+        }
     }
-    r
 }
 
 // Returns where word k of a block starts, and the block's length for 0 and where there are fewer words.
@@ -63,7 +80,7 @@ fn first_place(block: &[u8], k: usize) -> usize {
 }
 
 // Reads one more file after the first `at` bytes of a room, from a new line on.
-fn join(name: &[u8], room: &mut [u8], at: usize) -> Loaded
+fn join(rt: &HostRuntime, name: &[u8], room: &mut [u8], at: usize) -> Loaded
     ensures { Loads (length room.old) result }
 {
     if room.len() < at {
@@ -73,22 +90,22 @@ fn join(name: &[u8], room: &mut [u8], at: usize) -> Loaded
     let Filled::To(from) = s else {
         return Loaded::Full;
     };
-    load(name, room, from)
+    load(rt, name, room, from)
 }
 
 // Reads the files that the words of a block from number `first` on name, joined; standard input where there are none.
-pub fn load_lines(block: &[u8], first: usize, room: &mut [u8]) -> Loaded
+pub fn load_lines(rt: &HostRuntime, block: &[u8], first: usize, room: &mut [u8]) -> Loaded
     ensures { Loads (length room.old) result }
 {
     let mut place = first_place(block, first);
     if block.len() <= place {
-        return load(b"-", room, 0);
+        return load(rt, b"-", room, 0);
     }
     let mut at: usize = 0;
     while place < block.len() {
         let w = front_words::word_at(block, place);
         let end = w.end;
-        let f = join(&block[place..end], room, at);
+        let f = join(rt, &block[place..end], room, at);
         let Loaded::To(n) = f else {
             return f;
         };

@@ -1,12 +1,11 @@
 -- The columns of bytes as they are shown, and of what is under them.
-use mathlib.Core.Path.{◌≡◌, refl, ap₂, ◌∙◌}
+use mathlib.Core.Path.{◌≡◌, refl}
 use mathlib.Core.Bool.{Bool, true, false, cond}
-use mathlib.Core.List.{List, [], ◌∷◌, ◌++◌}
+use mathlib.Core.List.{List, [], ◌∷◌}
 use Prim.Native.Nat.{ℕ, ◌+◌, ◌*◌, ◌/◌, ◌%◌, ◌≤◌}
 use native.Mathlib.Omega.{arith}
 use lib.ListN.{length, length-append}
 use lib.Dec.{eqb}
-use borrow.Author.Tests.{eqb-true}
 use Rattle.front_places.specs.Shown.{TAB, prints, width_of, columns_of, shown_byte, blank_byte, spelled, shown, blanks}
 
 shown-width : (b : ℕ) → length (shown_byte b) ≡ width_of b

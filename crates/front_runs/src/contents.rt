@@ -26,48 +26,61 @@ fn put_words(room: &mut [u8], words: &[u64]) -> Filled {
 }
 
 // Prints the first n words, by way of a room for their lines, and returns the status.
-fn print_words(words: &[u64], n: usize, lines: &mut [u8]) -> u64 {
+fn print_words(rt: &HostRuntime, words: &[u64], n: usize, lines: &mut [u8]) -> u64 {
     if words.len() < n {
         return front_choices::IO_FAILED;
     }
     let f = put_words(lines, &words[0..n]);
     let Filled::To(end) = f else {
-        front_io::refuse_size(lines.len());
+        front_io::refuse_size(rt, lines.len());
         return front_choices::IO_FAILED;
     };
     if lines.len() < end {
         return front_choices::IO_FAILED;
     }
-    if front_io::print(&lines[0..end]) {
+    if front_io::print(rt, &lines[0..end]) {
         return 0;
     }
     front_choices::IO_FAILED
 }
 
 // Refuses an image with an outcome, which is said, and returns the status.
-fn refuse(name: &[u8], outcome: u64) -> u64 {
-    front_io::refuse_image(name, outcome);
+fn refuse(rt: &HostRuntime, name: &[u8], outcome: u64) -> u64 {
+    front_io::refuse_image(rt, name, outcome);
     front_choices::status_of(outcome)
 }
 
 // Prints the content of an image file, and returns the status. A refusal is said.
-pub fn print_content(name: &[u8], image: &mut [u8], words: &mut [u64], lines: &mut [u8]) -> u64 {
-    let m = images::load(name, image);
+pub fn print_content(
+    rt: &HostRuntime,
+    name: &[u8],
+    image: &mut [u8],
+    words: &mut [u64],
+    lines: &mut [u8],
+) -> u64 {
+    let m = images::load(rt, name, image);
     match m {
         Made::Status(s) => s,
-        Made::Image(n) => print_image(name, image, n, words, lines),
+        Made::Image(n) => print_image(rt, name, image, n, words, lines),
     }
 }
 
 // Prints the content of the image in the first n bytes of a room, and returns the status. A refusal is said.
-fn print_image(name: &[u8], image: &[u8], n: usize, words: &mut [u64], lines: &mut [u8]) -> u64 {
+fn print_image(
+    rt: &HostRuntime,
+    name: &[u8],
+    image: &[u8],
+    n: usize,
+    words: &mut [u64],
+    lines: &mut [u8],
+) -> u64 {
     if image.len() < n {
         return front_choices::IO_FAILED;
     }
     let c = image::read(&image[0..n], words);
     match c {
-        Copied::Written(count) => print_words(words, count, lines),
-        Copied::Malformed => refuse(name, Outcome::IMAGE_MALFORMED),
-        Copied::NoRoom => refuse(name, Outcome::ROOM_TOO_SMALL),
+        Copied::Written(count) => print_words(rt, words, count, lines),
+        Copied::Malformed => refuse(rt, name, Outcome::IMAGE_MALFORMED),
+        Copied::NoRoom => refuse(rt, name, Outcome::ROOM_TOO_SMALL),
     }
 }

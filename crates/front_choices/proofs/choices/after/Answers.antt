@@ -1,6 +1,5 @@
 -- `after`, by its test.
 use borrow.Author.Tests.{lt-ltb, le-ltb}
-use borrow.Author.Rules.{rules}
 use Rattle.front_choices.proofs.choices.after.Goals as goal
 
 pub returns-then-k-lt18446744073709551615 : goal.returns-then-k-lt18446744073709551615

@@ -3,7 +3,6 @@ use borrow.Author.Tests.{eq-eqb, ne_eqb}
 use mathlib.Core.Path.{ap, ◌∙◌}
 use Rattle.front_options.specs.Budgets.{budget_of}
 use Rattle.front_choices.specs.Choices.{budget_for}
-use borrow.Author.Rules.{rules}
 use Rattle.front_choices.proofs.choices.budget_for.Goals as goal
 
 pub returns-then-k-eq0 : goal.returns-then-k-eq0
