@@ -3,7 +3,6 @@ use Rattle.image_items.proofs.Following.{edition-missing, edition-unknown, users
 use Rattle.lists.proofs.Tests.{was-false, was-true}
 use Rattle.varint.specs.Take.{TakesAt}
 use mathlib.Core.Path.{sym, subst}
-use borrow.Author.Rules.{rules}
 use Rattle.image_items.proofs.header.header_of.Goals as goal
 use mathlib.Core.Path.{ap}
 use mathlib.Core.Bool.{not}

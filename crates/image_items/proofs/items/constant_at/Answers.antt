@@ -4,7 +4,6 @@ use Rattle.lists.proofs.Many.{on}
 use Rattle.image_format.specs.Reading.{from_bytes, constant_of}
 use Rattle.varint.specs.Take.{TakesAt}
 use Rattle.image_items.proofs.Standing.{constant-none, kind-unknown, kind-number, kind-text}
-use borrow.Author.Rules.{rules}
 use Rattle.image_items.proofs.items.constant_at.Goals as goal
 
 pub returns-in_default : goal.returns-in_default

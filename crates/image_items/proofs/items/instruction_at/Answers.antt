@@ -3,7 +3,6 @@ use mathlib.Core.Path.{sym, subst, ◌∙◌}
 use borrow.Author.Tests.{not-true, not-false}
 use Rattle.varint.specs.Take.{TakesAt}
 use Rattle.image_items.proofs.Fetching.{instruction-none, code-missing, code-unknown, depth-missing, depth-there}
-use borrow.Author.Rules.{rules}
 use Rattle.image_items.proofs.items.instruction_at.Goals as goal
 use mathlib.Core.Path.{ap}
 use mathlib.Core.Bool.{not}

@@ -2,7 +2,6 @@
 use mathlib.Core.Path.{subst}
 use Rattle.varint.specs.Take.{TakesAt}
 use Rattle.image_items.proofs.Standing.{number-none, number-there}
-use borrow.Author.Rules.{rules}
 use Rattle.image_items.proofs.items.number_at.Goals as goal
 
 pub returns-in_default : goal.returns-in_default

@@ -3,7 +3,6 @@ use mathlib.Core.Path.{subst}
 use Rattle.varint.specs.Take.{TakesAt}
 use Rattle.image_items.proofs.Fetching.{operand-none, operand-missing, operand-there}
 use borrow.Author.Tests.{not-true, not-false}
-use borrow.Author.Rules.{rules}
 use Rattle.image_items.proofs.items.operand_at.Goals as goal
 use mathlib.Core.Path.{ap}
 use mathlib.Core.Bool.{not}

@@ -4,10 +4,7 @@ use Prim.Native.Nat.{ℕ, ◌≤◌}
 use Rattle.opcodes.proofs.Naming.{names-few}
 use Rattle.image_items.proofs.Fetching.{numbers-missing, numbers-there}
 use borrow.Author.Tests.{not-true, not-false}
-use borrow.Author.Rules.{rules}
 use Rattle.image_items.proofs.items.operands_at.Goals as goal
-use mathlib.Core.Path.{ap}
-use mathlib.Core.Bool.{not}
 
 pub returns-then-not-first : goal.returns-then-not-first
 returns-then-not-first c =

@@ -5,7 +5,6 @@ use Rattle.lists.specs.Parsing.{many}
 use Rattle.image_format.specs.Reading.{word_up_to}
 use Rattle.varint.specs.Take.{TakesAt}
 use Rattle.image_items.proofs.Standing.{text-none, text-short, text-there}
-use borrow.Author.Rules.{rules}
 use Rattle.image_items.proofs.items.text_at.Goals as goal
 
 pub returns-in_default : goal.returns-in_default

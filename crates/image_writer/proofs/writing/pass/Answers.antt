@@ -1,24 +1,22 @@
 -- `pass` meets its contract: what it comes to is the same after each turn.
-use mathlib.Core.Path.{◌≡◌, sym, subst, ◌∙◌}
-use Prim.Native.Nat.{◌-◌}
+use mathlib.Core.Path.{sym, subst, ◌∙◌}
 use native.Mathlib.Omega.{arith}
-use lib.ListN.{length}
 use borrow.Author.Rules.{rules}
 use Rattle.image_format.specs.Numbers.{coded}
 use Rattle.image_format.specs.Reading.{from_words}
 use Rattle.image.specs.Pass.{TakesStage}
 use Rattle.image.proofs.Stage.{words-most, bytes-written}
-use Rattle.image.proofs.Passing.{Going, Took, pass-starts, pass-cut, pass-unknown, pass-goes}
+use Rattle.image.proofs.Passing.{Took, pass-starts, pass-cut, pass-unknown, pass-goes}
 use Rattle.image.proofs.Passing.{pass-followed, pass-whole}
 use Rattle.image_writer.proofs.writing.pass.Goals as goal
-use Rattle.image_writer.proofs.writing.pass.Goals.{In-Number-2}
+use Rattle.image_writer.proofs.writing.pass.Goals.{In-Number}
 
 -- what was taken in a turn
-took : (c : In-Number-2)
+took : (c : In-Number)
     → let i = c.loop-s in
     let a = c.args in
-    let g = c.v-1.given.0 in
-    Took from_words coded a.content.now a.bytes.now 8 i.bytes i.s i.at i.k g.0 g.1.0
+    let g = c.in-Number in
+    Took from_words coded a.content.now a.bytes.now 8 i.bytes i.s i.at i.k g.v g.end
 took c =
     let i = c.loop-s in
     let a = c.args in
@@ -45,26 +43,26 @@ returns-in_default c =
 pub put-k-requires : goal.put-k-requires
 put-k-requires c =
     let i = c.loop-s in
-    let t = (took (goal.at.put-k-requires c).In-Number-2).takes in (
+    let t = (took (goal.at.put-k-requires c).In-Number).takes in (
       words-most i.s.stage c.args.content.now i.at c.in-Number.v _ t,
-      omega (arith, t.1, t.2, i.invariant.0.few, e.well-formed.0),
+      omega (arith, t.1, t.2, i.invariant.0.few),
     )
 
 pub returns-in_default-after : goal.returns-in_default-after
 returns-in_default-after c =
-    let t = took (goal.at.returns-in_default-after c).In-Number-2 in
+    let t = took (goal.at.returns-in_default-after c).In-Number in
     pass-unknown t _ (sym c.after.ensures ∙ c.in_default-after.is)
 
 pub loop-s-smaller : goal.loop-s-smaller
 loop-s-smaller c =
-    let t = (took (goal.at.loop-s-smaller c).In-Number-2).takes in
+    let t = (took (goal.at.loop-s-smaller c).In-Number).takes in
     omega (arith, t.1, t.2)
 
 pub loop-s-preserved : goal.loop-s-preserved
 loop-s-preserved c =
     let i = c.loop-s in
     let put = c.put-k in (
-      pass-goes (took (goal.at.loop-s-preserved c).In-Number-2) _ _ _ (sym c.after.ensures ∙ c.in-At.is)
+      pass-goes (took (goal.at.loop-s-preserved c).In-Number) _ _ _ (sym c.after.ensures ∙ c.in-At.is)
           (bytes-written i.s.stage c.in-Number.v) put.ensures.0 put.ensures.1,
       search rules,
     )

@@ -3,7 +3,6 @@ use mathlib.Core.Path.{refl}
 use native.Mathlib.Omega.{arith}
 use borrow.Author.Tests.{eq-eqb, ne_eqb}
 use Rattle.varint.specs.Room.{with_all}
-use borrow.Author.Rules.{rules}
 use Rattle.image_writer.proofs.writing.put.Goals as goal
 
 pub overflow_cast-v : goal.overflow_cast-v

@@ -4,7 +4,6 @@ use native.Mathlib.Omega.{arith}
 use lib.ListN.{drop}
 use Rattle.image_stages.specs.Stages.{most_at}
 use Rattle.image.proofs.Stage.{up-taken, up-over, up-out, words-at}
-use borrow.Author.Rules.{rules}
 use Rattle.image_writer.proofs.writing.take.Goals as goal
 
 pub returns-then-content-at : goal.returns-then-content-at
