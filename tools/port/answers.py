@@ -36,8 +36,9 @@ class Names:
         self.needs = row["needs"]
         self.at = [a[0] for a in row["asked_at"]]
         self.at_new = [a[1] for a in row["asked_at"]]
-        self.parent, self.step, self.new = {}, {}, {}
+        self.parent, self.step, self.new, self.callee = {}, {}, {}, {}
         for place, new in zip(row["places"], row["places_by_name"]):
+            self.callee[place[0]] = place[3]
             self.parent[place[0]] = place[1]
             self.step[place[0]] = tuple(place[2])
             self.new[place[0]] = new
@@ -91,9 +92,18 @@ class Names:
     def here(self, place, name):
         return norm(self.step[place][0]) == norm(name)
 
+    def called(self, place, name):
+        """The parameters of the function that a call's step at or above a place calls."""
+        while place is not None:
+            old = self.step[place][0]
+            if old and norm(old) == norm(name):
+                return self.row["params"].get(self.callee[place])
+            place = self.parent[place]
+        return None
+
     def field(self, place, name):
         """The new name of a field that is found at a place or above it."""
-        if name in ("args", "requires", "ranges"):
+        if name in ("args", "requires", "ranges", "decreases"):
             return name
         at = place
         while at is not None:
@@ -423,12 +433,130 @@ def answer(p, old, names, index, renames, lemmas):
     if new.startswith("shape_of-"):
         return ""
     lost = []
-    body = paths(body, names, {params[0]: place} if params else {}, renames, (new, place), lemmas, lost)
+    if names.row["stem"]:
+        body = measured(body)
+        body = paths(body, names, {params[1]: place} if params[1:] else {}, renames, (new, place), lemmas, lost)
+    else:
+        body = paths(body, names, {params[0]: place} if params else {}, renames, (new, place), lemmas, lost)
     comment = [line for line in sig if line.startswith("--")]
     more = params[1:]
-    lines = comment + [f"pub {new} : goal.{new}"] + ([unfolding.rstrip("\n")] if unfolding else [])
-    lines.append(" ".join([new, "c" if params else ""] + more).rstrip() + " =" + body)
+    head = names.row["stem"] + new
+    if names.row["stem"]:
+        more, params = ["c"] + more[1:], ["t"]
+    if unfolding:
+        unfolding = re.sub(rf"(?<!{W}){re.escape(old)}(?!{W})", head, unfolding)
+    lines = comment + [f"pub {head} : goal.{head}"] + ([unfolding.rstrip("\n")] if unfolding else [])
+    lines.append(" ".join([head, params[0] if names.row["stem"] else "c" if params else ""] + more).rstrip() + " =" + body)
     return "\n".join(lines)
+
+
+def measured(body):
+    """In a cycle the old precondition was a pair, of the measure and of what is required."""
+    for name, path in re.findall(rf"\blet ({W}+) = ({W}+(?:\.before)*\.requires) in", body):
+        body = re.sub(rf"(?<!{W})(?<!\.){re.escape(name)}\.1(?=[.\s)},;])", name, body)
+        body = re.sub(rf"(?<!{W})(?<!\.){re.escape(name)}\.0(?=[.\s)},;])", path[: -len("requires")] + "decreases", body)
+    body = re.sub(r"\.requires\.1(?![0-9])", ".requires", body)
+    return re.sub(r"\.requires\.0(?![0-9])", ".decreases", body)
+
+
+def convert_cycle(text, rows, module, crate):
+    """Turns the proof of a cycle of functions: `rows` has the names of each function's goals by the function's name."""
+    head, parts = declarations(text)
+    uses = [h for h in head if h.startswith(("use ", "pub use"))]
+    text_uses = re.sub(r"\n +", " ", "\n".join(h for h in head if not h.startswith("--")))
+    member = {a: f for f, a in re.findall(rf"\.Lts-({W}+) as\s+({W}+)", text_uses)}
+    if not member:
+        raise Left("no function of a cycle is found")
+    comments = [h for h in head if h.startswith("--")]
+    keep = [u for u in text_uses.split("\n") if u.startswith(("use ", "pub use"))]
+    dropped = r"\.(Reads|Kinds|Lts-" + W + r"+) as\b|\.Tie\.\{|\{\s*statement,?\s*\}|borrow\.Fn\.(PlainCycle|Kinds)\b"
+    keep = [u for u in keep if not re.search(dropped, u)]
+    names = {f: Names(row) for f, row in rows.items()}
+    called = {}
+    for row in rows.values():
+        for f, ps in row["params"].items():
+            called[f.split("::")[-1]] = ps
+    closing = [p for p in parts if any(re.search(r"=\s*close\b", line) for line in ["\n".join(p)])]
+    if len(closing) != 1:
+        raise Left("it has no one closing declaration")
+    parts.remove(closing[0])
+    needs, invs, measures, others = {}, {}, {}, []
+    for p in parts:
+        sig, clauses = signature(p)
+        flat = " ".join(sig)
+        m = re.search(rf":\s*\({W}+\s*:\s*ℕ\)\s*→\s*({W}+)\.Need-({W}+)", flat)
+        v = re.search(rf":\s*({W}+)\.((?:invariant|decreases)-{W}+)", flat)
+        d = re.search(rf":\s*Measures\s+{W}+\s+({W}+)\.ps", flat)
+        if m and m[1] in member:
+            needs[named(p)] = (member[m[1]], m[2], p)
+        elif v and v[1] in member:
+            invs[named(p)] = (member[v[1]], v[2], p)
+        elif d:
+            kinds = re.search(rf"proofs\.(?:{W}+\.)*({W}+)\.Kinds as\s+{re.escape(d[1])}(?!{W})", text_uses)
+            measures[kinds[1]] = p
+        elif re.search(rf":\s*ℕ\s*→\s*(In\b|{W}+\.Claims)", flat):
+            continue
+        else:
+            others.append(p)
+    order = [n for n in re.findall(rf"{W}+", " ".join(closing[0]).split("close", 1)[1]) if n in needs]
+    inv_text, ans_text = [], []
+    for f, p in sorted(measures.items()):
+        _, clauses = signature(p)
+        m = re.match(rf"{W}+\s+{W}+\s+({W}+)\s*=(.*)", "\n".join(clauses), re.S)
+        if not m or f not in called:
+            raise Left(f"the measure of {f}")
+
+        def argument(k, f=f):
+            return "l." + called[f][len(re.findall(r"\.1", k[1]))]
+
+        body = re.sub(rf"(?<!{W})(?<!\.){re.escape(m[1])}((?:\.1)*)\.0(?![0-9])", argument, m[2])
+        inv_text.append(f"abbrev pub decreases-{f} : goal.decreases-{f}\ndecreases-{f} l ={body}")
+    renames = {}
+    for n, (f, kind, p) in invs.items():
+        what, loop = kind.split("-", 1)
+        found = [i for i, row in enumerate(rows[f]["loops"]) if norm(row[0][0]) == norm(loop)]
+        if not found:
+            raise Left(f"no loop {loop} of {f}")
+        (_, new), vars_ = rows[f]["loops"][found[0]]
+        made = f"{f}-{new}"
+        renames[n] = f"{what}-{made}"
+        inv_text.append(invariant(p, what, made, vars_, rows[f]["changed"][found[0]]))
+    helpers = {named(p): p for p in others}
+    used_by_inv, frontier, grown = set(), " ".join(inv_text), True
+    while grown:
+        grown = False
+        for h, p in helpers.items():
+            if h not in used_by_inv and re.search(rf"(?<!{W}){re.escape(h)}(?!{W})", frontier):
+                used_by_inv.add(h)
+                frontier += " ".join(p)
+                grown = True
+    for h, p in helpers.items():
+        if any(f"{alias}." in " ".join(signature(p)[0]) for alias in member):
+            raise Left(f"the lemma {h} speaks of a place")
+        if h not in used_by_inv:
+            ans_text.append("\n".join(p))
+    for f, row in rows.items():
+        wanted = [(n, needs[n][1]) for n in order if needs[n][0] == f]
+        match = align(wanted, names[f])
+        for n, _ in wanted:
+            if n in match:
+                body = answer(needs[n][2], n, names[f], match[n], renames, {})
+                if body:
+                    ans_text.append(body)
+    path = f"Rattle.{crate}.proofs.{module}"
+    out = {}
+    inv_helpers = [pub(helpers[h]) for h in helpers if h in used_by_inv]
+    out["Invariants.antt"] = "\n".join(comments + keep + [f"use {path}.Given as goal", ""] + ["\n\n".join(inv_helpers + inv_text)]) + "\n"
+    more = [f"use {path}.Goals as goal"]
+    for word, home in (("ap", "mathlib.Core.Path"), ("not", "mathlib.Core.Bool")):
+        if "(ap not c." in "".join(ans_text) and not any(re.search(rf"[{{ ]{word}[,}}]", u) for u in keep):
+            more.append(f"use {home}.{{{word}}}")
+    wanted_helpers = [h for h in used_by_inv if re.search(rf"(?<!{W}){re.escape(h)}(?!{W})", " ".join(ans_text))]
+    if wanted_helpers:
+        more.append(f"use {path}.Invariants.{{{', '.join(sorted(wanted_helpers))}}}")
+    if [t for t in ans_text if re.search(r": goal\.", t)]:
+        out["Answers.antt"] = "\n".join(comments + keep + more + ["", "\n\n".join(ans_text)]) + "\n"
+    return out
 
 
 def lemma(p, names, renames, places):
@@ -476,12 +604,17 @@ def main(crates):
             folder = os.path.dirname(path)
             module = os.path.relpath(folder, top).replace("/", ".")
             row = rows.get(f"Rattle-{crate}-proofs.{module}.Lts")
+            stem = f"Rattle-{crate}-proofs.{module}.Lts-"
+            cycle = {key[len(stem):]: r for key, r in rows.items() if key.startswith(stem)}
             with open(path, encoding="utf-8") as f:
                 text = f.read()
             try:
-                if row is None:
+                if cycle:
+                    made = convert_cycle(text, cycle, module, crate)
+                elif row is None:
                     raise Left("no such function is listed")
-                made = convert(text, Names(row), module, crate)
+                else:
+                    made = convert(text, Names(row), module, crate)
             except Left as why:
                 print(f"left: {path}: {why}")
                 continue
