@@ -349,7 +349,7 @@ def resolve(names, variables, word, rest, lost):
     if up == len(parts):
         return ("place", at)
     # a place of the older kit may be gone, so that there are fewer steps: the field's name tells
-    if at is None or parts[up] not in ("args", "requires", "ranges") and not names.here(at, parts[up]):
+    if at is None or parts[up] not in ("args", "requires", "ranges", "decreases") and not names.here(at, parts[up]):
         at = place
     arm = names.arm(place, parts[up], parts[up + 1:])
     if arm:
@@ -453,8 +453,8 @@ def answer(p, old, names, index, renames, lemmas):
 def measured(body):
     """In a cycle the old precondition was a pair, of the measure and of what is required."""
     for name, path in re.findall(rf"\blet ({W}+) = ({W}+(?:\.before)*\.requires) in", body):
-        body = re.sub(rf"(?<!{W})(?<!\.){re.escape(name)}\.1(?=[.\s)},;])", name, body)
-        body = re.sub(rf"(?<!{W})(?<!\.){re.escape(name)}\.0(?=[.\s)},;])", path[: -len("requires")] + "decreases", body)
+        body = re.sub(rf"(?<!{W})(?<!\.){re.escape(name)}\.1(?=[.\s)}},;])", name, body)
+        body = re.sub(rf"(?<!{W})(?<!\.){re.escape(name)}\.0(?=[.\s)}},;])", path[: -len("requires")] + "decreases", body)
     body = re.sub(r"\.requires\.1(?![0-9])", ".requires", body)
     return re.sub(r"\.requires\.0(?![0-9])", ".decreases", body)
 
