@@ -14,7 +14,7 @@ use program_parser::{Read, kinds, read};
 
 // A call of which arguments are left: its code, the shapes of those that are left, as in `calls`, the place of an ERE
 // among those before, and its `(`.
-#[derive(Drop)]
+#[derive(Clone, Copy)]
 pub struct PendingCall {
     pub op: u64,
     pub shapes: u64,
