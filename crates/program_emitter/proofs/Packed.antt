@@ -1,6 +1,6 @@
 -- The numbers of an instruction come back out of its word.
 use mathlib.Core.Path.{◌≡◌}
-use Prim.Native.Nat.{ℕ, ◌+◌, ◌*◌, ◌/◌, ◌%◌, ◌<◌}
+use Prim.Native.Nat.{ℕ, ◌+◌, ◌*◌, ◌/◌}
 use native.Mathlib.Omega.{arith}
 use Rattle.program_words.specs.Words.{packed, Fits, op_in, depth_in, first_in, second_in}
 

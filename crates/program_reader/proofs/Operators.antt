@@ -2,7 +2,7 @@
 use mathlib.Core.Path.{◌≡◌, refl}
 use mathlib.Core.Bool.{Bool, true, false, cond}
 use mathlib.Core.List.{List, [], ◌∷◌}
-use mathlib.Core.Option.{Option, some, none}
+use mathlib.Core.Option.{Option, some}
 use Rattle.program_tokens.specs.Kinds.{Kind, same}
 use Rattle.program_tree.specs.Tree.{Expression}
 use Rattle.program_reader.specs.Operators.{Operator, binary, operator_in, tree_in, tree_of, trees, tree_among}

@@ -1,6 +1,6 @@
 -- Internal: cited by private contracts only. Spellings as numbers, and the table of words and operators as rows of
 -- numbers.
-use Rattle.std.specs.Prelude.{Bool, cond, ◌&&◌, List, [], ◌∷◌, ℕ, ◌+◌, ◌*◌, ◌/◌, ◌%◌, eqb, leb}
+use Rattle.std.specs.Prelude.{cond, ◌&&◌, List, [], ◌∷◌, ℕ, ◌+◌, ◌*◌, ◌/◌, ◌%◌, eqb, leb}
 use Rattle.program_tokens.specs.Kinds.{rank}
 use Rattle.program_tokens.specs.Words.{Word}
 

@@ -1,8 +1,7 @@
 -- Internal: cited by private contracts only. Document 01, "The image": an instruction is "code, depth before it, and
 -- the operand where one is named". Before names, constants and EREs have numbers it is one word; this is the word, and
 -- what it says.
-use Rattle.std.specs.Prelude.{List, [], ◌∷◌, ℕ, suc, ◌+◌, ◌*◌, ◌/◌, ◌%◌, ◌<◌, set}
-use Rattle.std.proofs.lemmas.List.Edits.{sets}
+use Rattle.std.specs.Prelude.{List, [], ◌∷◌, ℕ, ◌+◌, ◌*◌, ◌/◌, ◌%◌, ◌<◌}
 use Rattle.edition.specs.Limits.{filter_text}
 
 -- a code, the depth before it, and two operands

@@ -2,10 +2,6 @@ use mathlib.Core.Path.{◌≡◌}
 use Prim.Native.Nat.{ℕ, suc, ◌+◌}
 use native.Mathlib.Omega.{arith}
 use borrow.Author.Rules.{rules}
-use Rattle.program_emitter.proofs.runs.emit_either.Reads as reads
-use Rattle.program_emitter.proofs.runs.emit_either.Lts as lts
-use Rattle.program_emitter.proofs.runs.emit.Reads as emit-reads
-use Rattle.program_emitter.proofs.runs.emit_nots.Reads as emit-nots-reads
 use Rattle.program_emitter.proofs.runs.emit_either.Goals as goal
 
 pub returns : goal.returns

@@ -1,7 +1,6 @@
 -- `byte_at`: a byte of the text, or 0.
 use mathlib.Core.Path.{sym}
 use lib.ListN.{get_or-eq_default}
-use borrow.Author.Rules.{rules}
 use Rattle.program_scanner.proofs.bytes.byte_at.Goals as goal
 
 pub returns : goal.returns

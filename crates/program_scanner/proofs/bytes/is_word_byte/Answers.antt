@@ -1,5 +1,4 @@
 -- `is_word_byte`: a letter or a digit.
-use borrow.Author.Rules.{rules}
 use Rattle.program_scanner.proofs.bytes.is_word_byte.Goals as goal
 
 pub returns : goal.returns

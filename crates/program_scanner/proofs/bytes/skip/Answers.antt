@@ -1,11 +1,6 @@
 -- `skip`: what is left to skip is what was.
-use mathlib.Core.Path.{◌≡◌, refl}
-use mathlib.Core.Bool.{false}
-use Prim.Native.Nat.{◌+◌, ◌-◌}
+use mathlib.Core.Path.{refl}
 use native.Mathlib.Omega.{arith}
-use lib.ListN.{length, drop}
-use borrow.Author.Rules.{rules}
-use Rattle.program_tokens.specs.Tokens.{skipped}
 use Rattle.program_scanner.proofs.Runs.{skipped-newline, skipped-stop, skipped-more, skipped-end}
 use Rattle.program_scanner.proofs.bytes.skip.Goals as goal
 use mathlib.Core.Path.{ap}

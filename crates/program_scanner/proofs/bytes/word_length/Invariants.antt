@@ -1,12 +1,8 @@
 -- `word_length`: the run is what was passed and what is left of it.
-use mathlib.Core.Path.{◌≡◌, sym, ◌∙◌}
+use mathlib.Core.Path.{◌≡◌}
 use Prim.Native.Nat.{◌+◌, ◌-◌, ◌≤◌}
-use native.Mathlib.Omega.{arith}
 use lib.ListN.{length, drop}
-use borrow.Author.Rules.{rules}
-use borrow.Author.Tests.{not-true, not-false}
 use Rattle.lists.specs.Elements.{leading}
-use Rattle.lists.proofs.Leading.{leading-more, leading-stop, leading_end}
 use Rattle.program_tokens.specs.Tokens.{is_word_byte}
 use Rattle.program_scanner.proofs.bytes.word_length.Given as goal
 

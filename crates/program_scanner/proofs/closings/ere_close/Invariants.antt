@@ -1,13 +1,10 @@
 -- `ere_close`: what is left of the text closes where the whole does.
-use mathlib.Core.Path.{◌≡◌, refl, sym, ◌∙◌}
+use mathlib.Core.Path.{◌≡◌}
 use mathlib.Core.Bool.{false}
 use Prim.Native.Nat.{◌-◌}
-use native.Mathlib.Omega.{arith}
 use lib.ListN.{length, drop}
-use borrow.Author.Rules.{rules}
 use Rattle.program_tokens.specs.Tokens.{ere_length}
 use Rattle.program_scanner.specs.Closings.{ere_close}
-use Rattle.program_scanner.proofs.Closing.{ere-newline, ere-closed, ere-more, ere-end}
 use Rattle.program_scanner.proofs.closings.ere_close.Given as goal
 
 abbrev pub invariant-loop-i : goal.invariant-loop-i

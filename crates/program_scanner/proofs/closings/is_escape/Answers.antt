@@ -5,7 +5,6 @@ use Prim.Native.Nat.{ℕ}
 use Rattle.ere_grammar.specs.Escapes.{escaped_of}
 use Rattle.ere_grammar.specs.declared.Escaped.{Escaped}
 use Rattle.lists.specs.Elements.{is_some}
-use borrow.Author.Rules.{rules}
 use Rattle.program_scanner.proofs.closings.is_escape.Goals as goal
 
 told : {o : Option ℕ} {e f : Escaped} → escaped_of e ≡ o → e ≡ f → is_some (escaped_of f) ≡ is_some o

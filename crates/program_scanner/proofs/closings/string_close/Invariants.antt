@@ -1,13 +1,10 @@
 -- `string_close`: what is left of the text closes where the whole does.
-use mathlib.Core.Path.{◌≡◌, refl, sym, ◌∙◌}
+use mathlib.Core.Path.{◌≡◌}
 use mathlib.Core.Bool.{false}
 use Prim.Native.Nat.{◌-◌}
-use native.Mathlib.Omega.{arith}
 use lib.ListN.{length, drop}
-use borrow.Author.Rules.{rules}
 use Rattle.program_tokens.specs.Tokens.{read_string}
 use Rattle.program_scanner.specs.Closings.{string_close}
-use Rattle.program_scanner.proofs.Closing.{string-refused, string-closed, string-more, string-end}
 use Rattle.program_scanner.proofs.closings.string_close.Given as goal
 
 abbrev pub invariant-loop-i : goal.invariant-loop-i

@@ -1,7 +1,6 @@
 -- `string_turn`: each byte by its case.
 use borrow.Author.Tests.{ne_eqb}
 use Rattle.program_scanner.specs.Closings.{string_turn}
-use borrow.Author.Rules.{rules}
 use Rattle.program_scanner.proofs.closings.string_turn.Goals as goal
 
 pub returns-then-is_escape : goal.returns-then-is_escape

@@ -1,9 +1,8 @@
 -- `kind_in`: what is left of the table says what the whole does.
-use mathlib.Core.Path.{◌≡◌, refl, sym, ◌∙◌}
-use Prim.Native.Nat.{◌*◌, ◌-◌, ◌≤◌}
+use mathlib.Core.Path.{refl, sym, ◌∙◌}
+use Prim.Native.Nat.{◌*◌, ◌≤◌}
 use native.Mathlib.Omega.{arith}
 use lib.ListN.{length, drop, length-drop}
-use Rattle.program_scanner.specs.Spellings.{rank_in}
 use Rattle.program_scanner.proofs.Packing.{row-found, row-passed, rows_end}
 use Rattle.program_scanner.proofs.spellings.kind_in.Goals as goal
 

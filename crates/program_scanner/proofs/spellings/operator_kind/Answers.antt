@@ -6,7 +6,6 @@ use Rattle.program_tokens.specs.Kinds.{rank}
 use Rattle.program_tokens.specs.Words.{operators}
 use Rattle.program_scanner.specs.Spellings.{pack, rows_of, rank_in}
 use Rattle.program_scanner.proofs.Packing.{pack_two, operators-rank}
-use borrow.Author.Rules.{rules}
 use Rattle.program_scanner.proofs.spellings.operator_kind.Goals as goal
 
 pub returns : goal.returns

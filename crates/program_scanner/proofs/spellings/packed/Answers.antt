@@ -1,10 +1,9 @@
 -- `packed`: the bytes that are taken are packed, and there are not too many of them.
-use mathlib.Core.Path.{◌≡◌, ◌∙◌}
-use Prim.Native.Nat.{◌+◌, ◌-◌, ◌≤◌, ◌<◌}
+use mathlib.Core.Path.{◌∙◌}
+use Prim.Native.Nat.{◌+◌, ◌-◌}
 use native.Mathlib.Omega.{arith}
-use lib.ListN.{take, drop}
-use Rattle.program_scanner.specs.Spellings.{pack}
-use Rattle.program_scanner.proofs.Packing.{top, top-turn, top-fits, top_start, pack-none, pack-turn, last_turn}
+use lib.ListN.{drop}
+use Rattle.program_scanner.proofs.Packing.{top-turn, top-fits, top_start, pack-none, pack-turn, last_turn}
 use Rattle.program_scanner.proofs.spellings.packed.Goals as goal
 
 pub loop-i-init : goal.loop-i-init

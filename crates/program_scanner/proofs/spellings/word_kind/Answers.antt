@@ -9,7 +9,6 @@ use Rattle.program_tokens.specs.Words.{words}
 use Rattle.program_tokens.specs.Tokens.{is_word_byte}
 use Rattle.program_scanner.specs.Spellings.{pack, rows_of, rank_in}
 use Rattle.program_scanner.proofs.Packing.{word-taken, word-long, words-rank}
-use borrow.Author.Rules.{rules}
 use Rattle.program_scanner.proofs.spellings.word_kind.Goals as goal
 
 pub returns-then-n-gt8 : goal.returns-then-n-gt8
