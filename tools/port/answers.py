@@ -36,9 +36,8 @@ class Names:
         self.needs = row["needs"]
         self.at = [a[0] for a in row["asked_at"]]
         self.at_new = [a[1] for a in row["asked_at"]]
-        self.parent, self.step, self.new, self.callee = {}, {}, {}, {}
+        self.parent, self.step, self.new = {}, {}, {}
         for place, new in zip(row["places"], row["places_by_name"]):
-            self.callee[place[0]] = place[3]
             self.parent[place[0]] = place[1]
             self.step[place[0]] = tuple(place[2])
             self.new[place[0]] = new
@@ -91,15 +90,6 @@ class Names:
 
     def here(self, place, name):
         return norm(self.step[place][0]) == norm(name)
-
-    def called(self, place, name):
-        """The parameters of the function that a call's step at or above a place calls."""
-        while place is not None:
-            old = self.step[place][0]
-            if old and norm(old) == norm(name):
-                return self.row["params"].get(self.callee[place])
-            place = self.parent[place]
-        return None
 
     def field(self, place, name):
         """The new name of a field that is found at a place or above it."""
