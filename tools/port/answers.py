@@ -364,6 +364,13 @@ def paths(text, names, variables, renames, goal, lemmas, lost):
         if path.split(".")[0] in variables and not re.search(rf"(?<!{W})(?<!\.){re.escape(a)}(?!{W})(?!\.[01])", used):
             text = re.sub(rf"[ \t]*\blet {re.escape(a)} = {re.escape(path)} in[ \t]*\n?", "", text, count=1)
             text = re.sub(rf"(?<!{W})(?<!\.){re.escape(a)}(?=\.[01])", path, text)
+    # a name of what a match found, as in `let end = c.before.end in .. end.given.1`
+    for a, path in re.findall(rf"\blet ({W}+) = ({W}+(?:\.before)*\.{W}+) in", text):
+        used = re.sub(rf"\blet {re.escape(a)} = ", "", text)
+        rests = re.findall(rf"(?<!{W})(?<!\.){re.escape(a)}(?!{W})((?:\.{W}+)*)", used)
+        if path.split(".")[0] in variables and rests and all(r.startswith(".given.") for r in rests):
+            text = re.sub(rf"[ \t]*\blet {re.escape(a)} = {re.escape(path)} in[ \t]*\n?", "", text, count=1)
+            text = re.sub(rf"(?<!{W})(?<!\.){re.escape(a)}(?=\.given\.)", path, text)
     aliases = re.findall(rf"\blet ({W}+) = ({W}+)((?:\.before)+) in", text)
     for a, v, rest in aliases:
         if v in variables:
