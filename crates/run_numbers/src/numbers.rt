@@ -1,7 +1,7 @@
 // The number of a value, and the field number that it is.
 ghost use Rattle.std.specs.Prelude.{◌≡◌, ◌≤◌, ◌<◌, length};
 ghost use Rattle.numeral.specs.Judgement.{number_of as text_number_of};
-ghost use Rattle.values.specs.Value.{result, number_of};
+ghost use Rattle.values.specs.Value.{result as result_of, number_of};
 ghost use Rattle.values.specs.Operations.{field_number};
 ghost use Rattle.run_room.specs.Layout.{slots_end, slot_count};
 ghost use Rattle.run_room.specs.Room.{slot_at};
@@ -26,7 +26,7 @@ pub struct FieldNumber {
 
 // Takes the number of a text.
 fn text_number(text: &[u8]) -> Taken
-    ensures* { λ r. ⌜ TakenBy (result (text_number_of text.now)) r ⌝ }
+    ensures { TakenBy (result_of (text_number_of text.now)) result }
 {
     let r = numeral::read_number(text);
     let v = r.value;
@@ -40,7 +40,7 @@ fn text_number(text: &[u8]) -> Taken
 // Takes the number of a slot's value: 11, 12.
 pub fn take_number(work: &[u8], i: usize) -> Taken
     requires { (slots_end ≤ length work.now) × (i < slot_count) }
-    ensures* { λ r. ⌜ TakenBy (number_of (slot_at work.now i)) r ⌝ }
+    ensures { TakenBy (number_of (slot_at work.now i)) result }
 {
     let k = run_room::slot_kind(work, i);
     if k == run_room::NUMBER {
@@ -61,7 +61,7 @@ pub fn take_number(work: &[u8], i: usize) -> Taken
 // Takes the field number that a slot's value is: 11, 12, then 16.
 pub fn field_number(work: &[u8], i: usize) -> FieldNumber
     requires { (slots_end ≤ length work.now) × (i < slot_count) }
-    ensures* { λ r. ⌜ FieldBy (field_number (slot_at work.now i)) r ⌝ }
+    ensures { FieldBy (field_number (slot_at work.now i)) result }
 {
     let n = take_number(work, i);
     if n.stop != 0 {

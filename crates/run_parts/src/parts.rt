@@ -9,7 +9,7 @@ ghost use Rattle.run_parts.specs.Join.{PartOf, new_field};
 use run_room::Line;
 
 // A value: its kind, its number, and where in the room its text is.
-#[derive(Drop)]
+#[derive(Clone, Copy)]
 pub struct Part {
     pub kind: u8,
     pub word: u64,

@@ -6,7 +6,7 @@ use crate::layout::{HEAD, SLOT, SLOTS};
 
 // The record is in one of two slots. The fields from `known` on are still to be split off, from place `after` of it on;
 // none if that is after its end.
-#[derive(Drop)]
+#[derive(Clone, Copy)]
 pub struct Line {
     pub side: usize,
     pub size: usize,

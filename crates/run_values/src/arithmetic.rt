@@ -4,7 +4,7 @@ ghost use Rattle.run_room.specs.Layout.{slots_end, slot_count};
 ghost use Rattle.run_room.specs.Room.{slot_at};
 ghost use Rattle.number.specs.Range.{unbias, top};
 ghost use Rattle.number.specs.Answers.{answer_of, Bounded, Computes};
-ghost use Rattle.values.specs.Value.{result};
+ghost use Rattle.values.specs.Value.{result as result_of};
 ghost use Rattle.values.specs.Operations.{computed as value_computed, a_number, arithmetic_of, negate_of, to_number_of};
 ghost use Rattle.run_values.specs.Codes.{arithmetic_by};
 ghost use Rattle.run_values.specs.Left.{Left};
@@ -15,7 +15,7 @@ use number::Computed;
 // Computes what a code says.
 fn computed(code: u64, x: u64, y: u64) -> Computed
     requires { (x ≤ top) × (y ≤ top) }
-    ensures* { λ r. ⌜ Computes r (value_computed (arithmetic_by code) (unbias x) (unbias y)) ⌝ }
+    ensures { Computes result (value_computed (arithmetic_by code) (unbias x) (unbias y)) }
 {
     match code {
         opcodes::ADD => number::add(x, y),
@@ -29,7 +29,7 @@ fn computed(code: u64, x: u64, y: u64) -> Computed
 // Sets a slot to a number, or returns why there is none.
 fn put_computed(work: &mut [u8], a: usize, c: Computed) -> u64
     requires { (slots_end ≤ length work.old) × (a < slot_count) × Bounded c }
-    ensures* { λ r. ⌜ Left work.old work.new a r (a_number (result (answer_of c))) ⌝ }
+    ensures { Left work.old work.new a result (a_number (result_of (answer_of c))) }
 {
     match c {
         Computed::Number(w) => {
@@ -45,8 +45,8 @@ fn put_computed(work: &mut [u8], a: usize, c: Computed) -> u64
 // Computes what a code says on the numbers of two values, the left one's first.
 pub fn calculate(work: &mut [u8], a: usize, code: u64) -> u64
     requires { (slots_end ≤ length work.old) × (a + 1 < slot_count) }
-    ensures* { λ r. ⌜ Left work.old work.new a r
-        (arithmetic_of (arithmetic_by code) (slot_at work.old a) (slot_at work.old (a + 1))) ⌝ }
+    ensures { Left work.old work.new a result
+        (arithmetic_of (arithmetic_by code) (slot_at work.old a) (slot_at work.old (a + 1))) }
 {
     let b = a + 1;
     let left = run_numbers::take_number(work, a);
@@ -63,7 +63,7 @@ pub fn calculate(work: &mut [u8], a: usize, code: u64) -> u64
 // Replaces a value by its number with the other sign.
 pub fn negate(work: &mut [u8], a: usize) -> u64
     requires { (slots_end ≤ length work.old) × (a < slot_count) }
-    ensures* { λ r. ⌜ Left work.old work.new a r (negate_of (slot_at work.old a)) ⌝ }
+    ensures { Left work.old work.new a result (negate_of (slot_at work.old a)) }
 {
     let x = run_numbers::take_number(work, a);
     if x.stop != 0 {
@@ -75,7 +75,7 @@ pub fn negate(work: &mut [u8], a: usize) -> u64
 // Replaces a value by its number.
 pub fn to_number(work: &mut [u8], a: usize) -> u64
     requires { (slots_end ≤ length work.old) × (a < slot_count) }
-    ensures* { λ r. ⌜ Left work.old work.new a r (to_number_of (slot_at work.old a)) ⌝ }
+    ensures { Left work.old work.new a result (to_number_of (slot_at work.old a)) }
 {
     let x = run_numbers::take_number(work, a);
     if x.stop != 0 {
