@@ -1,0 +1,28 @@
+-- `set_truth` meets its contract: 1 or 0, as a distance.
+use mathlib.Core.Path.{sym, ap, ◌∙◌}
+use mathlib.Core.Logic.{⊎_elim}
+use mathlib.Core.Bool.{cond}
+use Prim.Native.Nat.{◌+◌}
+use mathlib.Core.Bool.{Bool}
+use native.Mathlib.Omega.{arith}
+use Rattle.edition.specs.Limits.{number_bound}
+use Rattle.run_room.proofs.Slotwise.{slotted-is}
+use Rattle.run_values.proofs.Judging.{truth-word}
+use borrow.Author.Rules.{rules}
+use Rattle.run_values.proofs.numbers.set_truth.Goals as goal
+
+pub set_number-requires : goal.set_number-requires
+set_number-requires c =
+    let pre = c.requires in
+    (pre.0, pre.1, ⊎_elim (λ w. omega (arith, w.1)) (λ w. omega (arith, w.1)) c.if-holds.branch-raw)
+
+pub returns : goal.returns
+returns c =
+    let if1 = c.if-holds in
+    let a = c.args in
+    slotted-is a.work.now _ a.a _ _
+    (truth-word a.holds _
+    (⊎_elim (λ w. w.1 ∙ ap (λ (b : Bool). number_bound + cond b 1 0) (sym w.0.taken))
+    (λ w. w.1 ∙ ap (λ (b : Bool). number_bound + cond b 1 0) (sym w.0.left))
+    if1.branch))
+    c.set_number.ensures
