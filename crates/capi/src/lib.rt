@@ -1,4 +1,5 @@
-// The C functions of `include/flowawk.h`, over the public entries of the other crates.
+// What the C functions of `include/flowawk.h` do, over the public entries of the other crates. The crate `capi_c` exports
+// them to C.
 #![tactic(auto)]
 
 mod images;

@@ -5,8 +5,7 @@ ghost use Rattle.splitting.specs.Field.{span};
 ghost use Rattle.splitting.specs.Splitting.{split_of, counting, count_of, field_of};
 
 // Splits a record, by the first edition.
-#[unsafe(no_mangle)]
-pub extern "C" fn flowawk_split(record: &[u8], fs: &[u8], count: &mut u64) -> u64
+pub fn flowawk_split(record: &[u8], fs: &[u8], count: &mut u64) -> u64
     ensures { counting result count.new
         ≡ count_of (split_of first_edition fs.now «record».now) }
 {
@@ -14,8 +13,7 @@ pub extern "C" fn flowawk_split(record: &[u8], fs: &[u8], count: &mut u64) -> u6
 }
 
 // Finds field k of a record, by the first edition: the outcome of splitting it, and the field's place and length.
-#[unsafe(no_mangle)]
-pub extern "C" fn flowawk_field(
+pub fn flowawk_field(
     record: &[u8],
     fs: &[u8],
     k: u64,

@@ -4,8 +4,7 @@ ghost use Rattle.semantics.specs.Feed.{one_feed};
 ghost use Rattle.runner.specs.Report.{Ran, run_of};
 
 // Runs an image over lines, with an output room, a working room and a budget.
-#[unsafe(no_mangle)]
-pub extern "C" fn flowawk_run(
+pub fn flowawk_run(
     image: &[u8],
     lines: &[u8],
     output: &mut [u8],

@@ -1,5 +1,5 @@
 // The groups, and which function judges a case of each.
-#[derive(Drop)]
+#[derive(Clone, Copy)]
 pub enum Group {
     Limits,
     Arithmetic,

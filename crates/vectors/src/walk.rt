@@ -1,11 +1,15 @@
 // The walk through a group's file.
 use crate::groups;
 use crate::groups::Group;
+use std::io::{Read, Result};
 use vectors_frames::{Frame, Tally, Verdict};
 
+// Bytes of the room of a case's payload.
+const PAYLOAD: usize = 65536;
+
 // Reads the next frame into the room and judges its case.
-fn look(group: Group, fd: i32, room: &mut [u8]) -> Verdict {
-    let frame = vectors_frames::next(fd, room);
+fn look<R: Read>(group: Group, file: &mut R, room: &mut [u8]) -> Verdict {
+    let frame = vectors_frames::next(file, room);
     match frame {
         Frame::Payload(n) => vectors_frames::judged(groups::passes(group, &room[0..n])),
         Frame::Cut => Verdict::Cut,
@@ -14,20 +18,20 @@ fn look(group: Group, fd: i32, room: &mut [u8]) -> Verdict {
 }
 
 // Judges every case of a file.
-fn walk(group: Group, fd: i32, room: &mut [u8]) -> Tally {
+fn walk<R: Read>(group: Group, file: &mut R, room: &mut [u8]) -> Tally {
     let mut tally = vectors_frames::start();
     while 0 < tally.left {
-        tally = vectors_frames::counted(tally, look(group, fd, room));
+        tally = vectors_frames::counted(tally, look(group, file, room));
     }
     tally
 }
 
 // Runs a group, whose file has its name, and writes its line.
-pub fn run(group: Group, name: &[u8]) {
-    let fd = vectors_frames::open(name);
-    if fd < 0 {
-        return;
-    }
-    let mut room = io::large_buffer();
-    vectors_frames::close(fd, walk(group, fd, &mut room));
+pub fn run(rt: &HostRuntime, group: Group, name: &[u8]) -> Result<()> {
+    let Some(mut file) = vectors_frames::open(rt, name)? else {
+        return Ok(());
+    };
+    let mut room = [0u8; PAYLOAD];
+    let tally = walk(group, &mut file, &mut room);
+    vectors_frames::close(rt, file, tally)
 }
