@@ -1,0 +1,14 @@
+use mathlib.Core.Path.{◌≡◌, sym, ◌∙◌}
+use Prim.Native.Nat.{◌-◌}
+use lib.ListN.{length}
+use borrow.Author.Rules.{rules}
+use Rattle.program_lexer.specs.Coded.{kind_of, kind_count}
+use Rattle.program_newlines.specs.Passing.{passing, Passes}
+use Rattle.program_newlines.proofs.Passing.{pass-start, pass-done, pass-nearer, pass-more}
+use Rattle.program_newlines.proofs.newlines.past.Given as goal
+
+abbrev pub invariant-loop-edition : goal.invariant-loop-edition
+invariant-loop-edition l = Passes l.edition.number l.s (passing l.semicolons) l.initial.u l.u
+
+abbrev pub decreases-loop-edition : goal.decreases-loop-edition
+decreases-loop-edition l = length l.s - l.u.start
