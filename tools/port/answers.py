@@ -45,6 +45,7 @@ class Names:
         self.typed = {p[0]: t for p, t in zip(row["places"], row["typed"])}
         self.arms = {p[0]: a for p, a in zip(row["places"], row["arms"]) if a}
         self.raised = set()
+        self.root = None
         self.parameters = bool(row["params"]) + 2 + 2 * len(row["loops"])
         self.by_norm = {}
         for place in self.parent:
@@ -172,6 +173,7 @@ def signature(block):
 
 
 def convert(text, names, module, crate):
+    text = re.sub(rf"(?<=\.)ptr(?!{W})", "ref_ptr", text)
     head, parts = declarations(text)
     uses = [h for h in head if h.startswith(("use ", "pub use"))]
     comments = [h for h in head if h.startswith("--")]
@@ -247,6 +249,8 @@ def convert(text, names, module, crate):
         for word, home in (("ap", "mathlib.Core.Path"), ("not", "mathlib.Core.Bool")):
             if "(ap not c." in "".join(ans_text) and not any(re.search(rf"[{{ ]{word}[,}}]", u) for u in uses):
                 more.append(f"use {home}.{{{word}}}")
+        if "(opened c." in "".join(ans_text):
+            more.append("use borrow.Enum.Refused.{opened}")
         if places:
             more.append(f"use {path}.Goals.{{{', '.join(sorted(places))}}}")
         if names.raised:
@@ -344,7 +348,7 @@ def resolve(names, variables, word, rest, lost):
     arm = names.arm(place, parts[up], parts[up + 1:])
     if arm:
         return ("path", ".".join(["c"] + [respelled(t) for t in arm]))
-    new = names.field(at, parts[up])
+    new = names.field(at, parts[up]) or names.field(names.root or at, parts[up])
     if new is None:
         lost.append(f"{word}{rest}")
         return None
@@ -362,14 +366,14 @@ def paths(text, names, variables, renames, goal, lemmas, lost):
     for a, path in re.findall(rf"\blet ({W}+) = ({W}+(?:\.{W}+)+\.given) in", text):
         used = re.sub(rf"\blet {re.escape(a)} = ", "", text)
         if path.split(".")[0] in variables and not re.search(rf"(?<!{W})(?<!\.){re.escape(a)}(?!{W})(?!\.[01])", used):
-            text = re.sub(rf"[ \t]*\blet {re.escape(a)} = {re.escape(path)} in[ \t]*\n?", "", text, count=1)
+            text = re.sub(rf"([ \t]*)\blet {re.escape(a)} = {re.escape(path)} in[ \t]*(\n?)", lambda k: "" if k[2] else k[1], text, count=1)
             text = re.sub(rf"(?<!{W})(?<!\.){re.escape(a)}(?=\.[01])", path, text)
     # a name of what a match found, as in `let end = c.before.end in .. end.given.1`
     for a, path in re.findall(rf"\blet ({W}+) = ({W}+(?:\.before)*\.{W}+) in", text):
         used = re.sub(rf"\blet {re.escape(a)} = ", "", text)
         rests = re.findall(rf"(?<!{W})(?<!\.){re.escape(a)}(?!{W})((?:\.{W}+)*)", used)
         if path.split(".")[0] in variables and rests and all(r.startswith(".given.") for r in rests):
-            text = re.sub(rf"[ \t]*\blet {re.escape(a)} = {re.escape(path)} in[ \t]*\n?", "", text, count=1)
+            text = re.sub(rf"([ \t]*)\blet {re.escape(a)} = {re.escape(path)} in[ \t]*(\n?)", lambda k: "" if k[2] else k[1], text, count=1)
             text = re.sub(rf"(?<!{W})(?<!\.){re.escape(a)}(?=\.given\.)", path, text)
     aliases = re.findall(rf"\blet ({W}+) = ({W}+)((?:\.before)+) in", text)
     for a, v, rest in aliases:
@@ -378,7 +382,7 @@ def paths(text, names, variables, renames, goal, lemmas, lost):
             if at is None:
                 at = variables[v]
             variables[a] = at
-            text = re.sub(rf"[ \t]*\blet {re.escape(a)} = {re.escape(v)}{re.escape(rest)} in[ \t]*\n?", "", text, count=1)
+            text = re.sub(rf"([ \t]*)\blet {re.escape(a)} = {re.escape(v)}{re.escape(rest)} in[ \t]*(\n?)", lambda k: "" if k[2] else k[1], text, count=1)
 
     def one(m):
         word, rest = m[1], m[2]
@@ -393,6 +397,8 @@ def paths(text, names, variables, renames, goal, lemmas, lost):
                 tested = re.search(r"\.if-not-([^.]*)\.(true|false)$", r[1])
                 if tested and names.calls(tested[1]):
                     return f"(ap not {r[1]})"
+                if re.search(r"-own\.keys\d*$", r[1]):
+                    return f"(opened {r[1]})"
                 return r[1]
             if r[1] == goal[1]:
                 return "c"
@@ -430,6 +436,7 @@ def answer(p, old, names, index, renames, lemmas):
     if new.startswith("shape_of-"):
         return ""
     lost = []
+    names.root = place
     if names.row["stem"]:
         body = measured(body)
         body = paths(body, names, {params[1]: place} if params[1:] else {}, renames, (new, place), lemmas, lost)
@@ -573,6 +580,7 @@ def lemma(p, names, renames, places):
         return f"({m[1]} : {names.new[names.place(m[2])]})"
 
     lost = []
+    names.root = None
     flat = re.sub(rf"\(({W}+) : tie\.({W}+)[^)]*\)", binder, flat)
     goal = (None, None)
     keep = lambda t: paths(t, names, variables, renames, goal, {}, lost)

@@ -1,17 +1,16 @@
 -- The turns of `split_into`: what is written and what is left make all fields.
 use mathlib.Core.Path.{◌≡◌, refl, sym, ap, ◌∙◌}
-use mathlib.Core.Bool.{Bool, true, false, cond, ◌&&◌}
+use mathlib.Core.Bool.{true, false}
 use mathlib.Core.List.{List, [], ◌∷◌}
-use Prim.Native.Nat.{ℕ, zero, suc, ◌+◌, ◌*◌, ◌≤◌, ◌<◌}
+use Prim.Native.Nat.{ℕ, suc, ◌+◌, ◌≤◌, ◌<◌}
 use native.Mathlib.Omega.{arith}
 use native.Mathlib.Nat.{zero-add}
 use native.Mathlib.Numerals.{add-one}
 use lib.ListN.{length}
-use lib.Dec.{ltb, leb}
 use borrow.Author.Tests.{le-ltb, le-leb, lt-leb}
 use Rattle.edition.specs.Limits.{field_count}
 use Rattle.splitting.specs.Separator.{Separator}
-use Rattle.splitting.specs.Field.{Span, span, Next, field, none, next_field, fields_from, fields_of}
+use Rattle.splitting.specs.Field.{Span, span, field, none, next_field, fields_from, fields_of}
 use Rattle.splitting.proofs.Turns.{fields-more, fields-none, fields-of, fields-empty}
 use Rattle.separators.specs.Kinds.{next_of}
 use Rattle.field_spans.specs.Spread.{with_span, with_spans, up_to_many}

@@ -3,7 +3,7 @@ use mathlib.Core.Path.{◌≡◌, refl, sym, ap, ap₂, subst, ◌∙◌}
 use mathlib.Core.Bool.{Bool, true, false, cond}
 use mathlib.Core.List.{List, [], ◌∷◌}
 use mathlib.Core.Option.{Option, some, none}
-use Prim.Native.Nat.{ℕ, zero, suc, ◌+◌, ◌-◌, ◌*◌, ◌≤◌, ◌<◌}
+use Prim.Native.Nat.{ℕ, zero, suc, ◌+◌, ◌-◌, ◌≤◌, ◌<◌}
 use native.Mathlib.Omega.{arith}
 use native.Mathlib.Nat.{add_comm}
 use lib.ListN.{length, get_or}
@@ -14,11 +14,11 @@ use Rattle.buffer.proofs.Lent.{part-lent}
 use Rattle.splitting.specs.Separator.{Separator, separator_of}
 use Rattle.splitting.specs.Field.{Span, span, fields_of}
 use Rattle.splitting.specs.Meaning.{Ordered}
-use Rattle.splitting.specs.Splitting.{Split, fields, long_record, many_fields, field_at, counted, separated}
+use Rattle.splitting.specs.Splitting.{fields, long_record, many_fields, field_at, separated}
 use Rattle.splitting.specs.Splitting.{split_of, count_of, span_of, text_of}
 use Rattle.splitting.proofs.Turns.{ordered}
 use Rattle.fields.specs.Answer.{counting_of, place_of}
-use Rattle.field_spans.specs.Spread.{with_spans, room_of}
+use Rattle.field_spans.specs.Spread.{room_of}
 use Rattle.fields.specs.declared.entries.Splitting.TheVariants.{Fields}
 use Rattle.field_spans.proofs.Located.{field-whole, field_past, field-inside}
 use Rattle.fields.proofs.Entering.{Has, has_split}

@@ -1,8 +1,8 @@
 -- The kind of a separator, by its length and its first byte.
 use mathlib.Core.Path.{◌≡◌, refl, ap, subst, ◌∙◌}
 use mathlib.Core.List.{List, [], ◌∷◌}
-use mathlib.Core.Option.{Option, some, none}
-use Prim.Native.Nat.{ℕ, zero, suc, ◌<◌}
+use mathlib.Core.Option.{some, none}
+use Prim.Native.Nat.{ℕ, ◌<◌}
 use native.Mathlib.Omega.{arith}
 use lib.ListN.{length, get_or}
 use borrow.Author.Tests.{eq-eqb, ne_eqb}
@@ -14,7 +14,7 @@ use Rattle.separators.specs.Kinds.{Told, Tells}
 use Rattle.separators.specs.declared.kinds.Kind.{Kind}
 use Rattle.separators.specs.declared.kinds.Kind.TheVariants.{Blank, Byte, Pattern, Refused}
 use Rattle.separators.specs.contracts.kinds.Kind.{the_type}
-use Rattle.splitting.specs.Separator.{Separator, blanks, blank, byte, ere, by_ere, single, separator_of}
+use Rattle.splitting.specs.Separator.{blanks, blank, byte, ere, by_ere, single, separator_of}
 
 module _ (edition : ℕ) where
   pub of_none : (l : List ℕ) → length l ≡ 0 → separator_of edition l ≡ none

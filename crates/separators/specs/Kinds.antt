@@ -1,7 +1,7 @@
 -- Internal: cited by private contracts only. What the code's own values stand for: the kind of a separator, and the
 -- next field.
 use Rattle.std.specs.Prelude.{◌≡◌, cond, List, ℕ, length}
-use Rattle.std.proofs.Math.Option.{Option, some, none}
+use Rattle.std.proofs.Math.Option.{some, none}
 use Rattle.ere_meaning.specs.Tree.{Class, Ere}
 use Rattle.ere_table.specs.Table.{table_words}
 use Rattle.ere.specs.Answer.{Serves}

@@ -6,7 +6,7 @@ ghost use Rattle.separators.specs.Kinds.{Sized, Tells};
 use edition::Edition;
 
 // A separator: blanks, a byte, an ERE, whose table is beside it, or none.
-#[derive(Drop)]
+#[derive(Clone, Copy)]
 pub enum Kind {
     Blank,
     Byte(u8),
