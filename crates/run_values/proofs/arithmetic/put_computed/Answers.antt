@@ -14,10 +14,9 @@ set_number-requires c =
 
 pub returns-in-Number : goal.returns-in-Number
 returns-in-Number c =
-    let told = c.c-1 in
     let pre = c.requires in
     let a = c.args in
-    left-slot a.a _ _ (answered a.c _ told.given.1) pre.1 (same-room a.work.now)
+    left-slot a.a _ _ (answered a.c _ c.in-Number.is) pre.1 (same-room a.work.now)
     c.set_number.ensures
 
 pub returns-in-OutOfRange : goal.returns-in-OutOfRange

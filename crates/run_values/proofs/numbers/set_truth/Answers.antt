@@ -14,7 +14,7 @@ use Rattle.run_values.proofs.numbers.set_truth.Goals as goal
 pub set_number-requires : goal.set_number-requires
 set_number-requires c =
     let pre = c.requires in
-    (pre.0, pre.1, ⊎_elim (λ w. omega (arith, w.1)) (λ w. omega (arith, w.1)) c.if-holds.branch-raw)
+    (pre.0, pre.1, ⊎_elim (λ w. omega (arith, w.n-is)) (λ w. omega (arith, w.n-is)) c.if-holds.branch-raw)
 
 pub returns : goal.returns
 returns c =
@@ -22,7 +22,7 @@ returns c =
     let a = c.args in
     slotted-is a.work.now _ a.a _ _
     (truth-word a.holds _
-    (⊎_elim (λ w. w.1 ∙ ap (λ (b : Bool). number_bound + cond b 1 0) (sym w.0.taken))
-    (λ w. w.1 ∙ ap (λ (b : Bool). number_bound + cond b 1 0) (sym w.0.left))
-    if1.branch))
+    (⊎_elim (λ w. w.n-is ∙ ap (λ (b : Bool). number_bound + cond b 1 0) (sym w.if-holds.true))
+    (λ w. w.n-is ∙ ap (λ (b : Bool). number_bound + cond b 1 0) (sym w.if-holds.false))
+    if1.branch-raw))
     c.set_number.ensures
