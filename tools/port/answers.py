@@ -131,7 +131,7 @@ def declarations(text):
         tail.insert(0, head.pop())
     block = [t for t in tail if t.strip()]
     for line in lines[i:]:
-        fresh = line and not line[0].isspace()
+        fresh = line and not line[0].isspace() and line[0] not in ")]}"
         if fresh and not line.startswith("--") and not line.startswith("unfolding") and block and named(block):
             if head_name(line) != named(block):
                 parts.append(block)
@@ -383,6 +383,16 @@ def paths(text, names, variables, renames, goal, lemmas, lost):
                 at = variables[v]
             variables[a] = at
             text = re.sub(rf"([ \t]*)\blet {re.escape(a)} = {re.escape(v)}{re.escape(rest)} in[ \t]*(\n?)", lambda k: "" if k[2] else k[1], text, count=1)
+
+    # the parameters after a name of what a call gave, as in `let emit = c.before.emit in .. emit.new.0`
+    for a, v, rest in re.findall(rf"\blet ({W}+) = ({W}+)((?:\.{W}+)+) in", text):
+        parts = [r for r in rest.split(".")[1:] if r != "before"]
+        if v in variables and len(parts) == 1:
+
+            def named_today(m, v=v, field=parts[0]):
+                return ".".join([m[1]] + names.renamed(variables[v], field, m[2].split(".")[1:]))
+
+            text = re.sub(rf"(?<!{W})(?<!\.)({re.escape(a)})((?:\.{W}+)+)", named_today, text)
 
     def one(m):
         word, rest = m[1], m[2]

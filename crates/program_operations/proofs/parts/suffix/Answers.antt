@@ -1,0 +1,22 @@
+use borrow.Author.Rules.{rules}
+use mathlib.Core.Path.{◌≡◌, refl, sym, ap, ◌∙◌}
+use mathlib.Core.List.{[]}
+use Prim.Native.Nat.{ℕ}
+use Rattle.program_parser.specs.Reading.{answered}
+use Rattle.program_operations.proofs.Suffixes.{suffixed-ok, suffixed-no}
+use Rattle.program_operations.proofs.parts.suffix.Reads as reads
+use Rattle.program_operations.proofs.parts.suffix.Lts as lts
+use Rattle.program_emitter.proofs.emit.Reads as emit-reads
+use Rattle.program_parser.proofs.read.ok.Reads as ok-reads
+use Rattle.program_operations.proofs.parts.suffix.Goals as goal
+
+pub returns-then-r-ne0 : goal.returns-then-r-ne0
+returns-then-r-ne0 c = suffixed-no 0 [] _ _ _ _ _ _ c.if-r-ne0.true
+
+pub returns : goal.returns
+returns c =
+    suffixed-ok 0 [] _ _ _ _ _ _ _ _ c.if-r-ne0.false
+    (c.ok.ensures ∙ ap (λ (i : ℕ). answered
+    c.args.r.token i
+    c.args.form)
+    c.emit-count.ensures.0) c.emit-count.ensures.1
