@@ -35,7 +35,7 @@ program:
 	$(BUILD)
 
 $(ARCHIVE): $(SOURCES)
-	rt staticlib capi
+	tools/archive.sh capi
 
 $(SHARED): $(ARCHIVE)
 	$(CC) -shared -Wl,-soname,libflowawk.so.$(VERSION) -Wl,-z,defs -o $@ -Wl,--whole-archive $(ARCHIVE) -Wl,--no-whole-archive $(LDFLAGS)

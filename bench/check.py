@@ -3,7 +3,7 @@
 
     bench/check.py [--reference DIR] [--seconds S] [--archive FILE]
 
-Builds the archive by `rt staticlib capi` (or takes FILE) and the program of bench/check.c over it, and checks images at 1, 2 and 4 times a length: of constants, of jumps, of
+Builds the archive by `tools/archive.sh capi` (or takes FILE) and the program of bench/check.c over it, and checks images at 1, 2 and 4 times a length: of constants, of jumps, of
 other instructions, and a program of DIR/reference.py's translator (default tests/reference) whose rules stand there once, twice and four times, with no
 ERE and with one. Each is checked over and over for S seconds (default 1), and the least time counts. Writes a table: bytes, nanoseconds for a check and for a byte,
 how many times as long as the first of its row, images and million bytes for a second.

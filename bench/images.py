@@ -3,7 +3,7 @@
 
     bench/images.py [--reference DIR] [--seconds S] [--rounds R] [--archive FILE]..
 
-Builds the archive by `rt staticlib capi` (or takes FILE, which may be given several times, to compare archives in one
+Builds the archive by `tools/archive.sh capi` (or takes FILE, which may be given several times, to compare archives in one
 run) and the program of bench/images.c over it, and reads and writes three images: a program of some 400 bytes and one
 of some 10,000, by the translator of DIR/reference.py (default tests/reference), and an image of text constants. Each
 goes on for S seconds (default 1) in each of R rounds (default 3), in which the archives take turns, and the least time

@@ -3,7 +3,7 @@
 
     bench/match.py [--archive FILE] [--include DIR] [--libraries DIR] [--crates DIR] [--rounds R]
 
-Builds the archive by `rt staticlib bench_ere` (or takes FILE) and the program of bench/match.cc over it, with the libraries that it finds: the C
+Builds the archive by `tools/archive.sh bench_ere` (or takes FILE) and the program of bench/match.cc over it, with the libraries that it finds: the C
 library's regexec, RE2, PCRE2 (both below DIR of --include and --libraries, or where the compiler looks), and Rust's regex (its sources below DIR of
 --crates, by default Debian's /usr/share/cargo/registry). Ten EREs over texts made for them, 2,000 of 70 bytes or fields, or 20 of 512 bytes without a
 match: whether there is a match, and the leftmost longest; and two separators, one after the other. In each of R rounds (default 3) all take their

@@ -3,7 +3,7 @@
 
     bench/run.py [--reference DIR] [--lines N] [--runs R] [--archive FILE]
 
-Builds the archive by `rt staticlib capi` (or takes FILE) and the program of bench/run.c over it; writes N flow lines (default 500,000) of
+Builds the archive by `tools/archive.sh capi` (or takes FILE) and the program of bench/run.c over it; writes N flow lines (default 500,000) of
 DIR/flows.py (default tests/reference) to a file, and lines of other shapes; translates each filter by DIR/reference.py; and runs the image and
 each awk R times (default 9) in turn. Writes a table of the least processor times: of the whole process, and of the run alone; and in brackets
 how much of the awk's time ours takes. Then how the time of a run grows with the lines (1, 2 and 4 times), and with the steps.

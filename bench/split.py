@@ -3,7 +3,7 @@
 
     bench/split.py [--reference DIR] [--lines N] [--runs R] [--archive FILE]
 
-Builds the archive by `rt staticlib capi` (or takes FILE) and the program of bench/split.c over it; writes N flow lines (default 2,000,000) of
+Builds the archive by `tools/archive.sh capi` (or takes FILE) and the program of bench/split.c over it; writes N flow lines (default 2,000,000) of
 DIR/flows.py (default tests/reference) to a file, once with blanks and once with commas between their fields; and counts
 the fields of all lines by the program and by each awk (`{ n = n + NF } END { print n }`), R times (default 15) in turn. Writes a table of the least times:
 of the whole process, and with the least time of the same program that only counts lines (awk: `END { print NR }`) taken off; as million fields for a second,

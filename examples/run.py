@@ -3,7 +3,7 @@
 
     examples/run.py [--program FILE] [--archive FILE]
 
-The filters run by the program ./flowawk, or FILE. The archive for C, Python and Rust is built by `rt staticlib capi`, or is FILE; the programs are built in a temporary directory.
+The filters run by the program ./flowawk, or FILE. The archive for C, Python and Rust is built by `tools/archive.sh capi`, or is FILE; the programs are built in a temporary directory.
 Rust's example is left out where there is no rustc. The status is 1 if an example fails.
 """
 import argparse
@@ -32,7 +32,7 @@ def written(words, **more):
 
 
 def archive():
-    subprocess.run(['rt', 'staticlib', 'capi'], cwd=ROOT, check=True, stdout=subprocess.DEVNULL)
+    subprocess.run([os.path.join(ROOT, 'tools', 'archive.sh'), 'capi'], check=True, stdout=subprocess.DEVNULL)
     return os.path.join(ROOT, 'target', 'staticlib', 'libcapi.a')
 
 

@@ -1,5 +1,5 @@
 /*
- * The C functions of the crate `capi`: link the archive that `rt staticlib capi` writes, target/staticlib/libcapi.a (x86-64).
+ * The C functions of the crate `capi`: link the archive that `tools/archive.sh capi` writes, target/staticlib/libcapi.a (x86-64).
  *
  * Each function returns an outcome and stores the rest through its pointers to single numbers. It takes any bytes, keeps nothing between calls, and
  * uses no memory but what it is given and the stack. What is proved of a function stands beside it in crates/capi/src/, by the definitions of

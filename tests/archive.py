@@ -2,7 +2,7 @@
 
     tests/NAME.py [--reference DIR] [--cases N] [--seed S] [--archive FILE] [--sanitize]
 
-builds the archive by `rt staticlib capi` (tests/exists.py: `bench_ere`; or takes FILE) and, in a temporary directory, the program of tests/NAME.c over it; draws N cases (default
+builds the archive by `tools/archive.sh capi` (tests/exists.py: `bench_ere`; or takes FILE) and, in a temporary directory, the program of tests/NAME.c over it; draws N cases (default
 100,000) with DIR/gen.py, from the seed S (default 1); compares each answer with that of DIR/reference.py (default
 tests/reference). Writes how many cases there were of each kind, and each disagreement (at most ten). The status is 1 if there is one. With
 --sanitize the C program, not the archive, is built with the compiler's address checks.

@@ -452,7 +452,7 @@ def chapter_of(place):
 
 def order():
     with open(os.path.join(ROOT, 'crates.txt'), encoding='utf-8') as f:
-        return [line.split(':')[0] for line in f if re.match(r'^[a-z_]+:', line)]
+        return [line.split(':')[0].split()[0] for line in f if re.match(r'^[a-z_]+(?: staticlib)?:', line)]
 
 
 def main():

@@ -9,8 +9,8 @@ REFERENCE = os.path.join(ROOT, 'tests', 'reference')
 
 
 def archive(crate):
-    """The archive that `rt staticlib` writes."""
-    subprocess.run(['rt', 'staticlib', crate], cwd=ROOT, check=True, stdout=subprocess.DEVNULL)
+    """The archive that `tools/archive.sh` writes."""
+    subprocess.run([os.path.join(ROOT, 'tools', 'archive.sh'), crate], check=True, stdout=subprocess.DEVNULL)
     return os.path.join(ROOT, 'target', 'staticlib', 'lib%s.a' % crate)
 
 

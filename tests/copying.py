@@ -8,7 +8,7 @@ ROOT = os.path.dirname(os.path.dirname(os.path.abspath(__file__)))
 def used(crate):
     """The crates below one and itself, lowest first, by crates.txt."""
     lines = [l.split('#')[0].split(':') for l in open(os.path.join(ROOT, 'crates.txt'), encoding='utf-8')]
-    uses = {l[0].strip(): l[1].split() for l in lines if len(l) == 2}
+    uses = {l[0].split()[0]: l[1].split() for l in lines if len(l) == 2}
     below = []
 
     def add(name):
@@ -33,8 +33,8 @@ def copied(crate, folder, line):
         shutil.copytree(os.path.join(ROOT, name), os.path.join(folder, name), symlinks=True, ignore=unneeded)
     kept = []
     for l in open(os.path.join(ROOT, 'crates.txt'), encoding='utf-8').read().split('\n'):
-        name = l.split(':')[0] if ':' in l.split('#')[0] else None
-        if name is None or (name in needed and name != line.split(':')[0]):
+        name = l.split(':')[0].split()[0] if ':' in l.split('#')[0] else None
+        if name is None or (name in needed and name != line.split(':')[0].split()[0]):
             kept.append(l)
     with open(os.path.join(folder, 'crates.txt'), 'w', encoding='utf-8') as f:
         f.write('\n'.join(kept + [line, '']))

@@ -3,7 +3,7 @@
 
     tests/frames.py [--archive FILE] [--entry NAME].. [--most BYTES]
 
-Reads `objdump -dr` of FILE (default: what `rt staticlib capi` writes). A function's frame is its return address, what it pushes and what it takes off
+Reads `objdump -dr` of FILE (default: what `tools/archive.sh capi` writes). A function's frame is its return address, what it pushes and what it takes off
 the stack pointer. The 128 bytes below the stack pointer, which a function may use unasked while it calls nothing, are added once, at the end.
 Calls are followed from NAME (default: each function of include/flowawk.h); functions that call each other in a circle count for each level, one level more than the edition
 allows. The circles that may be there are in the table CIRCLES: how often a function can be on the stack in one level is said there. Functions outside the archive (memset and its like) are named, and not

@@ -26,7 +26,7 @@ def families():
     with open(os.path.join(ROOT, 'crates.txt'), encoding='utf-8') as f:
         for line in f:
             heading = re.match(r'^# ---- ([^:]*?)(?::.*)?$', line.rstrip('\n'))
-            crate = re.match(r'^([a-z_]+):([^#]*)(.*)$', line)
+            crate = re.match(r'^([a-z_]+)(?: staticlib)?:([^#]*)(.*)$', line)
             if heading:
                 found.append((heading.group(1).strip(), []))
             elif crate:

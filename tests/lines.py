@@ -21,7 +21,7 @@ GHOST = re.compile(r'(ghost|requires|ensures)\b')
 
 def crates():
     with open(os.path.join(ROOT, 'crates.txt')) as f:
-        return [line.split(':')[0].strip() for line in f if ':' in line.split('#')[0]]
+        return [line.split(':')[0].split()[0] for line in f if ':' in line.split('#')[0]]
 
 
 def lines(files, comment):

@@ -3,7 +3,7 @@
 
     tests/pool.py [--reference DIR] [--archive FILE]
 
-Builds the archive by `rt staticlib capi` (or takes FILE) and the program of bench/run.c over it; runs each filter below over 10 lines and over 30, under callgrind, and
+Builds the archive by `tools/archive.sh capi` (or takes FILE) and the program of bench/run.c over it; runs each filter below over 10 lines and over 30, under callgrind, and
 counts the calls of the archive's function that compiles an ERE. What 20 lines more add is what the run compiles a line: nothing for EREs that have automata, and for one
 that is alone without. Debian packages: gcc, libc6-dev, valgrind.
 """

@@ -22,11 +22,13 @@ from copying import copied
 ROOT = os.path.dirname(os.path.dirname(os.path.abspath(__file__)))
 HERE = os.path.dirname(os.path.abspath(__file__))
 ENTRY = '''// One entry for C, for tests/tokens.py.
+#![tactic(auto)]
+
 use edition::Edition;
 use program_lexer::Token;
 
 // The token after one of a kind that stops at a place; `operand` reads a slash again as an ERE.
-#[no_mangle]
+#[unsafe(no_mangle)]
 pub extern "C" fn lexer_next(text: &[u8], kind: u64, stop: u64, operand: u64, out: &mut [u64]) {
     if out.len() != 3 {
         return;
@@ -88,14 +90,15 @@ def drawn(r, gen):
 
 
 def program(scratch):
-    copied('program_lexer', scratch, 'lexer_entries: edition program_lexer')
+    copied('program_lexer', scratch, 'lexer_entries staticlib: edition program_lexer')
     os.makedirs(os.path.join(scratch, 'crates', 'lexer_entries', 'src'))
     with open(os.path.join(scratch, 'crates', 'lexer_entries', 'src', 'lib.rt'), 'w', encoding='utf-8') as f:
         f.write(ENTRY)
-    subprocess.run(['rt', 'staticlib', 'lexer_entries'], cwd=scratch, check=True, stdout=subprocess.DEVNULL)
+    crate = os.path.join(scratch, 'crates', 'lexer_entries')
+    subprocess.run(['rt', 'lib'], cwd=crate, check=True, stdout=subprocess.DEVNULL)
     made = os.path.join(scratch, 'tokens')
     subprocess.run([os.environ.get('CC', 'cc'), '-std=gnu99', '-O2', '-Wall', '-Wextra', '-Werror', '-I', os.path.join(ROOT, 'include'),
-                    os.path.join(HERE, 'tokens.c'), os.path.join(scratch, 'target', 'staticlib', 'liblexer_entries.a'), '-o', made], check=True)
+                    os.path.join(HERE, 'tokens.c'), os.path.join(crate, 'out', 'liblexer_entries.a'), '-o', made], check=True)
     return made
 
 

@@ -5,6 +5,7 @@ ghost use Rattle.std.specs.Prelude.{◌≡◌, length};
 ghost use Rattle.edition.specs.Limits.{working_room};
 
 use edition::Edition;
+use std::io::Result;
 
 // Returns a working room.
 fn working_room() -> [u8; Edition::WORKING_ROOM]
@@ -20,16 +21,25 @@ fn content_room() -> [u64; 1024]
     [0; 1024]
 }
 
+// Bytes of the rooms for texts and lines.
+const TEXTS: usize = 65536;
+
+// Returns a room for texts or lines.
+fn text_room() -> [u8; TEXTS] {
+    [0; TEXTS]
+}
+
 // Does what the words of `args` ask for, and prints the status.
-fn main() {
-    let mut words = io::large_buffer();
-    let mut text = io::large_buffer();
-    let mut image = io::large_buffer();
+fn main(rt: HostRuntime) -> Result<()> {
+    let mut words = text_room();
+    let mut text = text_room();
+    let mut image = text_room();
     let mut content = content_room();
-    let mut lines = io::large_buffer();
-    let mut output = io::large_buffer();
+    let mut lines = text_room();
+    let mut output = text_room();
     let mut work = working_room();
     let status = flowawk_tool::tool(
+        &rt,
         &mut words,
         &mut text,
         &mut image,
@@ -38,7 +48,5 @@ fn main() {
         &mut output,
         &mut work,
     );
-    io::write_all(libc::STDOUT_FILENO, b"status ");
-    io::print_decimal(libc::STDOUT_FILENO, status);
-    io::write_all(libc::STDOUT_FILENO, b"\n");
+    println!(rt; "status {status}")
 }

@@ -1,8 +1,6 @@
-// The program over rooms that are lent: its answer is an exit status, for a host that can give one.
+// The program over rooms that are lent: its answer is an exit status.
 #![tactic(auto)]
 
 mod acting;
-mod exported;
 
 pub use acting::tool;
-pub use exported::flowawk_main;
