@@ -4,11 +4,13 @@
 // say that they lie inside the room, and that what the room had before them stays.
 #![tactic(auto)]
 
+mod growing;
 mod joining;
 mod reading;
 mod words;
 mod writing;
 
+pub use growing::{Growing, fill_growing, separate_growing};
 pub use joining::separate;
 pub use reading::{Filled, fill};
 pub use words::{read_words, word_count};

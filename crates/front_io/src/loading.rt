@@ -28,7 +28,7 @@ pub fn path(name: &[u8]) -> Result<&str> {
 }
 
 // Opens a file for reading.
-fn open(rt: &HostRuntime, name: &[u8]) -> Result<File> {
+pub fn open(rt: &HostRuntime, name: &[u8]) -> Result<File> {
     let path = path(name)?;
     fs::open(rt, path)
 }
@@ -71,7 +71,7 @@ pub fn load(rt: &HostRuntime, name: &[u8], room: &mut [u8], from: usize) -> Load
 }
 
 // Returns where word k of a block starts, and the block's length for 0 and where there are fewer words.
-fn first_place(block: &[u8], k: usize) -> usize {
+pub fn first_place(block: &[u8], k: usize) -> usize {
     if k == 0 {
         return block.len();
     }
