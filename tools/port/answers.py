@@ -121,6 +121,7 @@ def parameters(called):
 
 def declarations(text):
     """The text as a head of comments and use lines, and declarations: each a list of lines that begins in the first column."""
+    text = re.sub(r"(?m)^((?:pub )?use [^\n]*)\n((?:[ \t]+[^\n]*\n)+)(\}?)", lambda m: " ".join([m[1]] + m[2].split()) + " " * bool(m[3]) + m[3] + "\n" * (not m[3]), text)
     lines, head, parts, i = text.split("\n"), [], [], 0
     while i < len(lines) and (not lines[i].strip() or lines[i].startswith(("--", "use ", "pub use"))):
         head.append(lines[i])
@@ -247,7 +248,7 @@ def convert(text, names, module, crate):
     if ans_text:
         more = [f"use {path}.Goals as goal"]
         for word, home in (("ap", "mathlib.Core.Path"), ("not", "mathlib.Core.Bool")):
-            if "(ap not c." in "".join(ans_text) and not any(re.search(rf"[{{ ]{word}[,}}]", u) for u in uses):
+            if "(ap not " in "".join(ans_text) and not any(re.search(rf"[{{ ]{word}[,}}]", u) for u in uses):
                 more.append(f"use {home}.{{{word}}}")
         if "(opened c." in "".join(ans_text):
             more.append("use borrow.Enum.Refused.{opened}")
@@ -428,7 +429,11 @@ def paths(text, names, variables, renames, goal, lemmas, lost):
     for q in QUIET.finditer(text):
         out += [IDENT.sub(one, text[at:q.start()]), q[0]]
         at = q.end()
-    return "".join(out + [IDENT.sub(one, text[at:])])
+    text = "".join(out + [IDENT.sub(one, text[at:])])
+    for a, tested in re.findall(rf"\blet ({W}+) = c\.if-not-({W}+) in", text):
+        if names.calls(tested):
+            text = re.sub(rf"(?<!{W})(?<!\.)({re.escape(a)}\.(?:true|false))(?!{W})", r"(ap not \1)", text)
+    return text
 
 
 def answer(p, old, names, index, renames, lemmas):
@@ -467,10 +472,10 @@ def answer(p, old, names, index, renames, lemmas):
 def measured(body):
     """In a cycle the old precondition was a pair, of the measure and of what is required."""
     for name, path in re.findall(rf"\blet ({W}+) = ({W}+(?:\.before)*\.requires) in", body):
-        body = re.sub(rf"(?<!{W})(?<!\.){re.escape(name)}\.1(?=[.\s)}},;])", name, body)
         body = re.sub(rf"(?<!{W})(?<!\.){re.escape(name)}\.0(?=[.\s)}},;])", path[: -len("requires")] + "decreases", body)
-    body = re.sub(r"\.requires\.1(?![0-9])", ".requires", body)
-    return re.sub(r"\.requires\.0(?![0-9])", ".decreases", body)
+        body = re.sub(rf"(?<!{W})(?<!\.){re.escape(name)}\.1(?=[.\s)}},;])", name, body)
+    body = re.sub(r"\.requires\.0(?![0-9])", ".decreases", body)
+    return re.sub(r"\.requires\.1(?![0-9])", ".requires", body)
 
 
 def convert_cycle(text, rows, module, crate):
@@ -563,7 +568,7 @@ def convert_cycle(text, rows, module, crate):
     out["Invariants.antt"] = "\n".join(comments + keep + [f"use {path}.Given as goal", ""] + ["\n\n".join(inv_helpers + inv_text)]) + "\n"
     more = [f"use {path}.Goals as goal"]
     for word, home in (("ap", "mathlib.Core.Path"), ("not", "mathlib.Core.Bool")):
-        if "(ap not c." in "".join(ans_text) and not any(re.search(rf"[{{ ]{word}[,}}]", u) for u in keep):
+        if "(ap not " in "".join(ans_text) and not any(re.search(rf"[{{ ]{word}[,}}]", u) for u in keep):
             more.append(f"use {home}.{{{word}}}")
     wanted_helpers = [h for h in used_by_inv if re.search(rf"(?<!{W}){re.escape(h)}(?!{W})", " ".join(ans_text))]
     if wanted_helpers:
