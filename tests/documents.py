@@ -25,7 +25,7 @@ def faults(text, folder):
         if not os.path.exists(os.path.join(folder, link)):
             yield 'link %s' % link
     for word in sorted(set(re.findall(r'`([^`\s]+)`', text))):
-        if re.match(r'^[a-z_]+/(src|specs|proofs|must-fail)(/[A-Za-z_/.]+)?$', word) or re.match(r'^(tests|docs|bench|include|crates|examples|man|host)/[A-Za-z_/.]+$', word):
+        if re.match(r'^[a-z_]+/(src|specs|proofs|must-fail)(/[A-Za-z_/.]+)?$', word) or re.match(r'^(tests|docs|bench|include|crates|examples|man)/[A-Za-z_/.]+$', word):
             if 'NAME' not in word and not file_is_there(word):
                 yield 'file %s' % word
         elif re.match(r'^[a-z_]+::[A-Za-z_-]+$', word) and os.path.isdir(os.path.join(ROOT, 'crates', word.split('::')[0])):

@@ -59,7 +59,7 @@ fn version(rt: &HostRuntime) -> u64 {
 }
 
 // Makes the image that is to be run or written: of the filter in a word, of a filter file, or of an image file.
-fn make(
+pub fn make(
     rt: &HostRuntime,
     a: Action,
     block: &[u8],
@@ -158,6 +158,23 @@ fn run_image(
     )
 }
 
+// Returns the budget that the words name. A word that is no budget is said.
+pub fn budget(rt: &HostRuntime, block: &[u8], o: Options) -> Option<u64> {
+    let given = o.given;
+    let k = given[actions::BUDGET];
+    match front_choices::budget_for(block, k) {
+        Budget::Steps(budget) => Some(budget),
+        Budget::Bad => {
+            refuse_usage(
+                rt,
+                front_choices::word(block, k),
+                b": no number of steps from 0 to 18446744073709551615\n",
+            );
+            None
+        }
+    }
+}
+
 // Runs a filter or an image over the files that the words name, and returns the status.
 fn run(
     rt: &HostRuntime,
@@ -170,15 +187,8 @@ fn run(
     output: &mut [u8],
     work: &mut [u8],
 ) -> u64 {
-    let given = o.given;
-    let k = given[actions::BUDGET];
-    let b = front_choices::budget_for(block, k);
-    let Budget::Steps(budget) = b else {
-        return refuse_usage(
-            rt,
-            front_choices::word(block, k),
-            b": no number of steps from 0 to 18446744073709551615\n",
-        );
+    let Some(budget) = budget(rt, block, o) else {
+        return front_choices::USAGE;
     };
     let m = make(rt, a, block, o, text, image);
     match m {
@@ -188,7 +198,7 @@ fn run(
 }
 
 // Does what the words of the command line ask for, and returns the status.
-fn act(
+pub fn act(
     rt: &HostRuntime,
     block: &[u8],
     text: &mut [u8],
@@ -220,7 +230,7 @@ fn act(
 }
 
 // Returns the number of the last word of the command line.
-fn last_word(rt: &HostRuntime) -> usize {
+pub fn last_word(rt: &HostRuntime) -> usize {
     let n = front_files::word_count(rt);
     if n == 0 { 0 } else { n - 1 }
 }

@@ -2,5 +2,7 @@
 #![tactic(auto)]
 
 mod acting;
+mod growing;
 
 pub use acting::tool;
+pub use growing::tool_growing;

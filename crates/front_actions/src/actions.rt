@@ -7,7 +7,7 @@ use front_options::options;
 use options::Options;
 
 // What is to be done; what `Usage` means is that the words ask for nothing that there is.
-#[derive(Drop)]
+#[derive(Clone, Copy)]
 pub enum Action {
     Usage,
     Help,

@@ -8,7 +8,7 @@ ghost use Rattle.front_options.specs.Reading.{started, taken, refused, with_oper
 // below. `operand` is the number of the first word that is no option, or of the word that is refused. Entry o of
 // `given` is the number of the argument of option o, or of the option itself where it takes none. Words are numbered
 // from 1; 0 is none.
-#[derive(Drop)]
+#[derive(Clone, Copy)]
 pub struct Options {
     pub stage: usize,
     pub operand: usize,

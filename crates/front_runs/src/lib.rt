@@ -2,9 +2,11 @@
 #![tactic(auto)]
 
 mod contents;
+mod growing;
 mod images;
 mod running;
 
 pub use contents::print_content;
+pub use growing::run_files_growing;
 pub use images::{Made, load_checked, translate, translate_file, write};
 pub use running::run_files;
