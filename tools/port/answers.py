@@ -46,15 +46,15 @@ class Names:
         self.arms = {p[0]: a for p, a in zip(row["places"], row["arms"]) if a}
         self.raised = set()
         self.root = None
+        self.source = ""
         self.parameters = bool(row["params"]) + 2 + 2 * len(row["loops"])
         self.by_norm = {}
         for place in self.parent:
             self.by_norm.setdefault(norm(place), place)
 
     def calls(self, tested):
-        """Whether a test of `not` is of what a call returned: its fact speaks of the call's result, and not of its `not`."""
-        own = [self.step[p][1] for p in self.called]
-        return any(tested == s or tested.startswith(s + "-") and tested[len(s) + 1:].isdigit() for s in own)
+        """Whether a test of `not` is of a name or a call: its fact speaks of what is tested, and not of its `not`. Of a field it does."""
+        return not re.search(rf"!\s*{re.escape(re.sub(r'-.*', '', tested))}\s*\.", self.source)
 
     def place(self, written):
         return self.by_norm.get(norm(written))
@@ -173,8 +173,28 @@ def signature(block):
     return block, []
 
 
+def by_tie(text):
+    """The text with each place of `lts` written as one of `tie`; a name that a declaration gives to a place is written out."""
+    text = re.sub(rf"(?<={W}\.loop\.)inv(?!{W})", "invariant", text)
+    text = re.sub(rf"(?<=\.before\.)pre(?!{W})", "requires", text)
+    place = rf"lts\.({W}+)(?:\s+\([^()]*\))?(?:\s+reads\.(?:Pre|Post))+(?:\s+(?:invariant|decreases)-{W}+)*"
+    if not re.search(place, text):
+        return text
+    text = re.sub(place, r"tie.\1", text)
+    for name, at in re.findall(rf"(?m)^(?:abbrev )?({W}+) : Type 0\n\1 =\s+tie\.({W}+)$", text):
+        text = re.sub(rf"(?m)^(?:abbrev )?{re.escape(name)} : Type 0\n{re.escape(name)} =\s+tie\.{re.escape(at)}\n+", "", text)
+        text = re.sub(rf"(?<=: ){re.escape(name)}(?!{W})", f"tie.{at}", text)
+    for word, module in (("reads", "Reads"), ("lts", "Lts")):
+        if not re.search(rf"(?<!{W})(?<!\.){word}\.", text):
+            text = re.sub(rf"(?m)^use \S+\.{module} as {word}\n", "", text)
+    return text
+
+
 def convert(text, names, module, crate):
-    text = re.sub(rf"(?<=\.)ptr(?!{W})", "ref_ptr", text)
+    text = by_tie(re.sub(rf"(?<=\.)ptr(?!{W})", "ref_ptr", text))
+    for name in parameters("::".join([crate] + module.split("."))) or []:
+        if "_" in name:
+            text = re.sub(rf"(?<=\.){name.replace('_', '-')}(?!{W})", name, text)
     head, parts = declarations(text)
     uses = [h for h in head if h.startswith(("use ", "pub use"))]
     comments = [h for h in head if h.startswith("--")]
@@ -376,6 +396,7 @@ def paths(text, names, variables, renames, goal, lemmas, lost):
         if path.split(".")[0] in variables and rests and all(r.startswith(".given.") for r in rests):
             text = re.sub(rf"([ \t]*)\blet {re.escape(a)} = {re.escape(path)} in[ \t]*(\n?)", lambda k: "" if k[2] else k[1], text, count=1)
             text = re.sub(rf"(?<!{W})(?<!\.){re.escape(a)}(?=\.given\.)", path, text)
+    origin = {}
     aliases = re.findall(rf"\blet ({W}+) = ({W}+)((?:\.before)+) in", text)
     for a, v, rest in aliases:
         if v in variables:
@@ -383,6 +404,7 @@ def paths(text, names, variables, renames, goal, lemmas, lost):
             if at is None:
                 at = variables[v]
             variables[a] = at
+            origin[a] = origin.get(v, v)
             text = re.sub(rf"([ \t]*)\blet {re.escape(a)} = {re.escape(v)}{re.escape(rest)} in[ \t]*(\n?)", lambda k: "" if k[2] else k[1], text, count=1)
 
     # the parameters after a name of what a call gave, as in `let emit = c.before.emit in .. emit.new.0`
@@ -400,7 +422,7 @@ def paths(text, names, variables, renames, goal, lemmas, lost):
         if word in renames and not rest:
             return renames[word]
         if word in variables:
-            rest = re.sub(r"(\.if[^.]*\.branch)$", r"\1-raw", rest)
+            rest = re.sub(r"(\.(?:if|loop)[^.]*\.branch)$", r"\1-raw", rest)
             r = resolve(names, variables, word, rest, lost) if rest else ("place", variables[word])
             if r is None:
                 return m[0]
@@ -415,6 +437,7 @@ def paths(text, names, variables, renames, goal, lemmas, lost):
                 return "c"
             if goal[0]:
                 return f"(goal.at.{goal[0]} c).{names.new[r[1]]}"
+            word = origin.get(word, word)
             from_, steps = variables[word], 0
             while from_ != r[1]:
                 from_, steps = names.parent[from_], steps + 1
@@ -590,6 +613,17 @@ def lemma(p, names, renames, places):
             raise Left(f"no place {place}")
         variables[var] = at
         places.add(names.new[at])
+    # a lemma whose type is an arrow from a place: the place's facts are its first parameter
+    arrow = re.search(rf"(?<!{W}){re.escape(named(p))} : tie\.({W}+) →", flat)
+    if arrow:
+        at = names.place(arrow[1])
+        if at is None:
+            raise Left(f"no place {arrow[1]}")
+        first = re.search(rf"(?m)^{re.escape(named(p))} ({W}+)", "\n".join(clauses))
+        if first:
+            variables[first[1]] = at
+        places.add(names.new[at])
+        flat = flat.replace(f": tie.{arrow[1]} →", f": {names.new[at]} →")
 
     def binder(m):
         return f"({m[1]} : {names.new[names.place(m[2])]})"
@@ -634,7 +668,11 @@ def main(crates):
                 elif row is None:
                     raise Left("no such function is listed")
                 else:
-                    made = convert(text, Names(row), module, crate)
+                    its = Names(row)
+                for source in glob.glob(f"crates/{crate}/src/{os.path.dirname(module.replace('.', '/'))}.rt"):
+                    with open(source, encoding="utf-8") as f:
+                        its.source = f.read()
+                made = convert(text, its, module, crate)
             except Left as why:
                 print(f"left: {path}: {why}")
                 continue

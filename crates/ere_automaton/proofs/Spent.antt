@@ -1,6 +1,6 @@
 -- Where each match ends at the text's end and has few bytes, the last bytes tell: of the starts before them nothing is
 -- left.
-use Rattle.std.proofs.Common.{◌≡◌, ℕ, zero, suc, ◌+◌, ◌-◌, ◌/◌, ◌%◌, ◌<◌, ◌≤◌, Bool, true, false, ◌&&◌, ◌||◌, List, [], ◌∷◌, length, get_or, drop, sym, refl, ap, ◌∙◌, subst, ap₂, add-zero, arith, drop_of_length-le, drop-cons}
+use Rattle.std.proofs.Common.{◌≡◌, ℕ, zero, suc, ◌+◌, ◌/◌, ◌%◌, ◌<◌, Bool, false, ◌&&◌, ◌||◌, List, [], ◌∷◌, length, get_or, drop, sym, refl, ap, ◌∙◌, subst, ap₂, arith, drop-cons}
 use lib.Bits.{bit_or, or_zero_l}
 use Rattle.lists.specs.Digit.{bit}
 use Rattle.lists.proofs.Digits.{bit-zero}

@@ -1,5 +1,5 @@
 -- Internal: cited by private contracts only. What the words of an automaton are, and what ties them to a table.
-use Rattle.std.specs.Prelude.{◌≡◌, ℕ, suc, ◌+◌, ◌-◌, ◌<◌, ◌≤◌, Bool, true, false, not, ◌&&◌, List, length, ◌==◌, nat_le, slice_index}
+use Rattle.std.specs.Prelude.{◌≡◌, ℕ, suc, ◌+◌, ◌<◌, ◌≤◌, Bool, true, false, not, ◌&&◌, List, length, ◌==◌, nat_le, slice_index}
 use Rattle.ere_table.specs.Table.{row, no_place}
 use Rattle.ere_table.specs.Wiring.{stop_in}
 use Rattle.ere_search.specs.Walk.{step}

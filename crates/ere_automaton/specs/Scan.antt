@@ -1,6 +1,6 @@
 -- Internal: cited by private contracts only. What the parts of a search ask and give: the state after some bytes, and
 -- the places at which no match starts, by the bytes there.
-use Rattle.std.specs.Prelude.{◌≡◌, ℕ, zero, suc, ◌+◌, ◌-◌, ◌%◌, ◌^◌, ◌<◌, ◌≤◌, Bool, false, ◌&&◌, ◌||◌, List, length, slice_index}
+use Rattle.std.specs.Prelude.{◌≡◌, ℕ, zero, suc, ◌+◌, ◌%◌, ◌^◌, ◌<◌, ◌≤◌, Bool, false, ◌&&◌, ◌||◌, List, length, slice_index}
 use Rattle.ere_automaton.specs.Layout.{class_count, State, next_in, in_range}
 use Rattle.ere_automaton.specs.Automaton.{Ranged}
 

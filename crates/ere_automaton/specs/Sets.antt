@@ -1,6 +1,6 @@
 -- Internal: cited by private contracts only. One walk over a text for all starts of a match: the set of what may come
 -- next, a match that starts there included.
-use Rattle.std.specs.Prelude.{◌≡◌, ℕ, zero, suc, ◌+◌, ◌-◌, ◌<◌, ◌≤◌, Bool, true, false, cond, List, [], ◌∷◌, slice_index}
+use Rattle.std.specs.Prelude.{◌≡◌, ℕ, zero, suc, ◌<◌, Bool, true, false, cond, List, [], ◌∷◌, slice_index}
 use Rattle.ere_table.specs.Table.{row, join}
 use Rattle.ere_table.specs.Wiring.{stop_in}
 use Rattle.ere_search.specs.Walk.{step}

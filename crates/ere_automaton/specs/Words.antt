@@ -4,7 +4,7 @@ use Rattle.std.specs.Prelude.{◌≡◌, ℕ, zero, suc, ◌+◌, ◌/◌, ◌%�
 use Rattle.ere_table.specs.Table.{row, no_place}
 use Rattle.ere_table.specs.Wiring.{stop_in}
 use Rattle.ere_search.specs.Walk.{step}
-use Rattle.ere_automaton.specs.Layout.{test_byte, test_place, test_count, tests_at, range_at, last_place, Placed, in_range}
+use Rattle.ere_automaton.specs.Layout.{test_byte, test_place, test_count, tests_at, range_at, last_place, in_range}
 
 -- the first m tests let b be the word's byte q
 unfoldable pub allows : List ℕ → ℕ → ℕ → ℕ → Bool
