@@ -2,4 +2,4 @@
 pub mod Showing
 pub mod Joined
 pub mod Written
-pub mod Printed
+pub mod Prints
