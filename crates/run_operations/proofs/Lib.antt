@@ -1,3 +1,3 @@
 -- Laws of the operations.
 pub mod Decoded
-pub mod Assigned
+pub mod Assigning
