@@ -11,7 +11,7 @@ use lib.Seq.{get_or-set_same, get_or-set_other}
 use Rattle.lists.proofs.Elements.{every_more, nth-more}
 use Rattle.lists.proofs.Many.{on, many-length, many_more, many-next}
 use Rattle.lists.proofs.Options.{none-some}
-use Rattle.lists.specs.Elements.{nth, Every, empty, cons}
+use Rattle.lists.specs.Elements.{nth, Every, empty}
 use Rattle.lists.specs.Parsing.{parsed, many}
 use Rattle.image_format.specs.Numbers.{take_number}
 use Rattle.image_format.specs.Reading.{from_bytes, counted}

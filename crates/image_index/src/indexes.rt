@@ -19,7 +19,7 @@ pub struct Numbers {
 }
 
 // What the items of a list are.
-#[derive(Drop)]
+#[derive(Clone, Copy)]
 pub enum Kind {
     Constants,
     Eres,
