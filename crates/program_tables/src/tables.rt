@@ -7,7 +7,7 @@ ghost use Rattle.program_tables.specs.Tables.{entry_in, meant, InsideText, AllIn
 use crate::texts;
 
 // An entry: a number, where `stop` is 0; or the text from place `value` to place `stop`.
-#[derive(Drop)]
+#[derive(Clone, Copy)]
 pub struct Entry {
     pub value: usize,
     pub stop: usize,
