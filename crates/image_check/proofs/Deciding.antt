@@ -14,7 +14,6 @@ use Rattle.lists.proofs.Tests.{and-true}
 use Rattle.lists.specs.Elements.{all_from}
 use Rattle.edition.specs.Limits.{user_names}
 use Rattle.edition.specs.Outcomes.{done, image_malformed, image_fails_check}
-use Rattle.image_format.specs.Codes.{next}
 use Rattle.image_format.specs.Image.{Image, image_bound}
 use Rattle.image_format.specs.Reading.{from_bytes, word_up_to, counted, instruction, read_image}
 use Rattle.image_format.proofs.Consequences.{reading-back}

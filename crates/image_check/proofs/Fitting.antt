@@ -2,15 +2,14 @@
 -- are their part of the check.
 use mathlib.Core.Path.{◌≡◌, refl, sym, ap, subst, ◌∙◌}
 use mathlib.Core.Bool.{Bool, true, false, ◌&&◌, and-false}
-use mathlib.Core.List.{List, [], ◌∷◌}
-use mathlib.Core.Option.{some}
-use Prim.Native.Nat.{ℕ, suc, ◌≤◌}
+use mathlib.Core.List.{List}
+use Prim.Native.Nat.{ℕ, ◌≤◌}
 use native.Mathlib.Omega.{arith}
 use lib.ListN.{length, drop}
 use borrow.Author.Tests.{le-leb}
 use Rattle.image_items.proofs.Following.{taken-same}
 use Rattle.lists.proofs.Elements.{every_of}
-use Rattle.lists.specs.Elements.{nth, Every, all, is_some, empty, cons}
+use Rattle.lists.specs.Elements.{Every, all, is_some, empty, cons}
 use Rattle.lists.specs.Parsing.{parsed}
 use Rattle.edition.specs.Limits.{user_names}
 use Rattle.image_format.specs.Image.{Constant, number, text, Image}

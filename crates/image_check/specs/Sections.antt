@@ -1,10 +1,9 @@
 -- Internal: cited by private contracts only. The sections of an image, and the whole, judged from their bytes.
 use Rattle.std.specs.Prelude.{◌≡◌, Bool, true, false, ◌&&◌, List, ℕ, ◌≤◌, length, drop}
 use Rattle.std.proofs.Math.Option.{some}
-use Rattle.lists.specs.Parsing.{parsed, Parser}
-use Rattle.image_format.specs.Image.{Instruction, Image, known}
-use Rattle.image_format.specs.Numbers.{take_number}
-use Rattle.image_format.specs.Reading.{from_bytes, word_up_to, counted, constant, instruction, read_image}
+use Rattle.lists.specs.Parsing.{parsed}
+use Rattle.image_format.specs.Image.{Instruction, Image}
+use Rattle.image_format.specs.Reading.{from_bytes, counted, instruction, read_image}
 use Rattle.semantics.specs.Moves.{Section, begin, main, end, section_of}
 use Rattle.semantics.specs.Check.{section_checks, check}
 use Rattle.image_index.specs.declared.indexes.Listed.{Listed}
