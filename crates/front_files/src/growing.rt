@@ -2,9 +2,8 @@
 ghost use Rattle.std.specs.Prelude.{◌≡◌, ◌≤◌, ◌<◌, IsTrue, length, take, vec_len};
 ghost use Rattle.front_files.specs.Filling.{FilledTo};
 
-use crate::joining;
-use crate::reading;
 use crate::reading::Filled;
+use crate::{joining, reading};
 use std::alloc::Global;
 use std::io::{Error, ErrorKind, Read};
 

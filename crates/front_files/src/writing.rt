@@ -1,6 +1,7 @@
 // Bytes written whole.
-ghost use Rattle.std.specs.Prelude.{◌≤◌, length};
-ghost use Rattle.front_files.specs.Filling.{WrittenFrom};
+ghost use Rattle.std.specs.Prelude.{◌≤◌, length, OnOk};
+ghost use Rattle.std.specs.Io.KnownBytes.{Appends};
+ghost use Rattle.front_files.specs.Filling.{WrittenFrom, TakenFrom};
 
 use std::io::{Error, ErrorKind, Result, Write};
 use std::thread;
@@ -29,7 +30,8 @@ fn again(error: &Error) -> bool {
 // Writes once, from byte `at` on.
 fn write_once<W: Write>(file: &mut W, bytes: &[u8], at: usize) -> WriteStep
     requires { at ≤ length bytes.now }
-    ensures { WrittenFrom at (length bytes.now) result }
+    ensures inside { WrittenFrom at (length bytes.now) result }
+    ensures taken { TakenFrom (W.contents file.old) (W.contents file.new) at bytes.now result }
 {
     match file.write(&bytes[at..]) {
         Ok(0) => WriteStep::Stop(Error::from(ErrorKind::WriteZero)),
@@ -43,8 +45,10 @@ fn write_once<W: Write>(file: &mut W, bytes: &[u8], at: usize) -> WriteStep
     }
 }
 
-// Writes all bytes; an error where a call failed.
-pub fn write_whole<W: Write>(file: &mut W, bytes: &[u8]) -> Result<()> {
+// Writes all bytes; an error where a call failed. Of a writer that tells what it holds, they are behind that.
+pub fn write_whole<W: Write>(file: &mut W, bytes: &[u8]) -> Result<()>
+    ensures { OnOk result (Appends (W.contents file.old) (W.contents file.new) bytes.now) }
+{
     let mut at: usize = 0;
     let mut turns = u64::MAX;
     while turns > 0 {

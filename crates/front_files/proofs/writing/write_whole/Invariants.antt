@@ -1,9 +1,10 @@
--- `write_whole`: the bytes that are taken are some of those that are left.
-use Rattle.std.proofs.Common.{◌≤◌, length}
+-- `write_whole`: the bytes that are taken are some of those that are left, and the writer holds those before them.
+use Rattle.std.proofs.Common.{◌≤◌, length, take}
+use Rattle.std.specs.Io.KnownBytes.{Appends}
 use Rattle.front_files.proofs.writing.write_whole.Given as goal
 
 abbrev pub invariant-loop-turns : goal.invariant-loop-turns
-invariant-loop-turns g l = l.at ≤ length l.bytes
+invariant-loop-turns g l = (l.at ≤ length l.bytes) × Appends (g.W.Write.contents l.initial.file) (g.W.Write.contents l.file) (take l.at l.bytes)
 
 abbrev pub decreases-loop-turns : goal.decreases-loop-turns
 decreases-loop-turns g l = l.turns
