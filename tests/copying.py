@@ -1,4 +1,4 @@
-"""A copy of what a crate needs of the repository, for scripts that add to it: crates.txt, and the folders of crates/ and target/."""
+"""A copy of what a crate needs of the repository, for scripts that add to it: crates.txt, and the folders of crates/."""
 import os
 import shutil
 
@@ -27,10 +27,9 @@ def copied(crate, folder, line):
     others = set(os.listdir(os.path.join(ROOT, 'crates'))) - set(needed)
 
     def unneeded(_, names):
-        return [n for n in names if n.split('.')[0] in others]
+        return [n for n in names if n.split('.')[0] in others or n == 'out']
 
-    for name in ('crates', 'target'):
-        shutil.copytree(os.path.join(ROOT, name), os.path.join(folder, name), symlinks=True, ignore=unneeded)
+    shutil.copytree(os.path.join(ROOT, 'crates'), os.path.join(folder, 'crates'), symlinks=True, ignore=unneeded)
     kept = []
     for l in open(os.path.join(ROOT, 'crates.txt'), encoding='utf-8').read().split('\n'):
         name = l.split(':')[0].split()[0] if ':' in l.split('#')[0] else None

@@ -5,8 +5,8 @@
 
 DIR has reference.py and gen.py (default tests/reference). Each group makes N random cases (default 100), and its hand-made cases besides. A case is a theorem
 `left ≡ right`, proved by `refl`: `left` is a definition at some input, `right` is what the reference answers there. The script copies
-crates.txt, crates/ and target/ (so that proved crates are reused) to a temporary folder, adds the theorems there as a module of the
-specs/ of the group's crate, runs `rt dev` and reports each case that the checker refuses. The repository stays as it is, and the
+crates.txt and crates/ to a temporary folder (what is proved of them is found again), adds the theorems there as a module of the
+specs/ of the group's crate, runs `rt check` and reports each case that the checker refuses. The repository stays as it is, and the
 temporary folder is removed; --keep keeps it and prints its name.
 
 A false theorem goes along with each group, and has to be refused: so the checker did look at the others.
@@ -106,8 +106,8 @@ def small_image(r):
             return image
 
 
-@group('image_format', '''use mathlib.Core.Path.{_≡_, refl}
-use mathlib.Core.List.{List, [], _∷_}
+@group('image_format', '''use mathlib.Core.Path.{◌≡◌, refl}
+use mathlib.Core.List.{List, [], ◌∷◌}
 use mathlib.Core.Option.{Option, some, none}
 use Rattle·lists.specs.Elements.{nth}
 use Rattle·lists.specs.Parsing.{many}
@@ -151,9 +151,9 @@ def unfoldables(*crates):
 
 
 RUN_USES, RUN_NAMES = unfoldables('lists', 'buffer', 'number', 'decimals', 'numeral', 'ere_meaning', 'ere_grammar', 'splitting', 'image_format', 'values', 'semantics')
-RUN_USES = '''use mathlib.Core.Path.{_≡_, refl}
+RUN_USES = '''use mathlib.Core.Path.{◌≡◌, refl}
 use mathlib.Core.Bool.{true, false}
-use mathlib.Core.List.{List, [], _∷_}
+use mathlib.Core.List.{List, [], ◌∷◌}
 use mathlib.Core.Option.{Option, some, none}
 use Rattle·image_format.specs.Image.{number, text, Instruction, Image}
 use Rattle.semantics.specs.Feed.{one_feed}
@@ -260,20 +260,16 @@ def check(scratch, crate, groups):
                 f.write(uses + '\nuse Prim.Native.Nat.{ℕ}\n')
                 for i, (left, right) in enumerate(cases):
                     f.write('\n%s-%d : %s ≡ %s\nunfolding %s\n%s-%d = refl\n' % (name, i, left, right, unfolding, name, i))
-                f.write('\n%s-false : _≡_ {A = ℕ} 0 1\n%s-false = refl\n' % (name, name))
-    done = subprocess.run(['rt', 'dev', crate], cwd=scratch, stdout=subprocess.PIPE, stderr=subprocess.STDOUT)
+                f.write('\n%s-false : ◌≡◌ {A = ℕ} 0 1\n%s-false = refl\n' % (name, name))
+    done = subprocess.run(['rt', 'check'], cwd=os.path.join(scratch, 'crates', crate), stdout=subprocess.PIPE, stderr=subprocess.STDOUT)
     return done.stdout.decode('utf-8', 'replace')
 
 
 def copied():
-    """A copy of the repository's crates, with what is proved of them."""
+    """A copy of the repository's crates."""
     scratch = tempfile.mkdtemp(prefix='semantics.')
-    for name in ('crates.txt', 'crates', 'target'):
-        source = os.path.join(ROOT, name)
-        if os.path.isdir(source):
-            shutil.copytree(source, os.path.join(scratch, name), symlinks=True)
-        elif os.path.exists(source):
-            shutil.copy(source, scratch)
+    shutil.copytree(os.path.join(ROOT, 'crates'), os.path.join(scratch, 'crates'), ignore=shutil.ignore_patterns('out'))
+    shutil.copy(os.path.join(ROOT, 'crates.txt'), scratch)
     return scratch
 
 

@@ -104,8 +104,8 @@ def main():
     copied('translation', scratch, 'translation: ' + ' '.join(used('translation')[:-1]))
     specs = os.path.join(scratch, 'crates', 'translation', 'specs')
     header = uses + '''
-use mathlib.Core.Path.{_≡_, refl}
-use mathlib.Core.List.{List, [], _∷_}
+use mathlib.Core.Path.{◌≡◌, refl}
+use mathlib.Core.List.{List, [], ◌∷◌}
 use Prim.Native.Nat.{ℕ}
 use Rattle.translation.specs.Translation.{Translation, translate_of}
 '''
@@ -116,9 +116,9 @@ use Rattle.translation.specs.Translation.{Translation, translate_of}
                 f.write(header)
                 for i in range(k, min(k + options.each, len(cases))):
                     f.write('\ncase-%d : %s ≡ %s\nunfolding %s\ncase-%d = refl\n' % (i, cases[i][1], cases[i][2], names, i))
-                f.write('\nfalse-%d : _≡_ {A = ℕ} 0 1\nfalse-%d = refl\n' % (k, k))
+                f.write('\nfalse-%d : ◌≡◌ {A = ℕ} 0 1\nfalse-%d = refl\n' % (k, k))
     start = time.time()
-    done = subprocess.run(['rt', 'dev', 'translation'], cwd=scratch, stdout=subprocess.PIPE, stderr=subprocess.STDOUT)
+    done = subprocess.run(['rt', 'check'], cwd=os.path.join(scratch, 'crates', 'translation'), stdout=subprocess.PIPE, stderr=subprocess.STDOUT)
     answer = done.stdout.decode('utf-8', 'replace')
     spent = time.time() - start
     refused = dict(re.findall(r'error: `((?:case|false)-[0-9]+)`: ((?:.*\n?(?!\S*antt:))*)', answer))

@@ -3,8 +3,8 @@
 
     tests/wrong_definitions.py [--tables] [WORD..]
 
-The script copies crates.txt, crates/ and what is proved of them in target/ to a temporary folder, applies one wrong
-definition there and runs `rt check sound_cases`: that proves the definition's crate, those above it, and the tables of `sound_cases`.
+The script copies crates.txt and crates/ to a temporary folder, applies one wrong
+definition there and runs `rt check` in crates/sound_cases: that proves the definition's crate, those above it, and the tables of `sound_cases`.
 It prints which crate refuses the definition, and where first. Exit status: 0 if each is refused; 1 if one is accepted, or
 is no definition at all (the checker refuses it in specs/, not in a proof); 2 if a text to be replaced is not there, or the
 crates don't pass as they are.
@@ -222,14 +222,10 @@ WRONG = [
 
 
 def copied(tables):
-    """A copy of the repository's crates, with what is proved of them."""
+    """A copy of the repository's crates."""
     scratch = tempfile.mkdtemp(prefix='wrong_definitions.')
     shutil.copy(os.path.join(ROOT, 'crates.txt'), scratch)
-    shutil.copytree(os.path.join(ROOT, 'crates'), os.path.join(scratch, 'crates'))
-    for name in LIBRARIES:
-        source = os.path.join(ROOT, 'target', name)
-        if os.path.isdir(source):
-            shutil.copytree(source, os.path.join(scratch, 'target', name), symlinks=True)
+    shutil.copytree(os.path.join(ROOT, 'crates'), os.path.join(scratch, 'crates'), ignore=shutil.ignore_patterns('out'))
     if tables:
         for crate in THEOREMS:
             for part in ('proofs', 'must-fail'):
@@ -262,13 +258,13 @@ def edited(text, edits):
 
 def checked(scratch, crate):
     """What `rt check` says of a crate and those below it: None if all is proved, else the crate that refuses and its first error."""
-    done = subprocess.run(['rt', 'check', crate], cwd=scratch, stdout=subprocess.PIPE, stderr=subprocess.STDOUT)
+    done = subprocess.run(['rt', 'check'], cwd=os.path.join(scratch, 'crates', crate), stdout=subprocess.PIPE, stderr=subprocess.STDOUT)
     answer = done.stdout.decode('utf-8', 'replace')
     if done.returncode == 0:
         return None
-    refusing = re.search(r'^rt: (\S+) NOT PROVED \(', answer, re.M)
-    error = re.search(r'crates/[^/\s]+/((?:specs|proofs)/\S+?\.antt:\d+):\d+: (?:error: )?`([^`]+)`', answer)
-    return (refusing.group(1) if refusing else '?', '%s %s' % (error.group(1), error.group(2)) if error else answer[-300:])
+    refusing = re.findall(r'^crate (\w+): ', answer, re.M)
+    error = re.search(r'^(?:so far: )?\./((?:specs|proofs)/\S+?\.antt:\d+):\d+: (?:error: )?`([^`]+)`', answer, re.M)
+    return (refusing[-1] if refusing else '?', '%s %s' % (error.group(1), error.group(2)) if error else answer[-300:])
 
 
 def tried(script, wrong, words, crate, tables=False):

@@ -3,8 +3,8 @@
 
     tests/wrong_grammar.py [WORD..]
 
-The script copies crates.txt, crates/ and what is proved of them in target/ to a temporary folder, applies one wrong rule
-there and runs `rt check program_says`: that proves the rule's crate, those above it, that the reader means what the grammar
+The script copies crates.txt and crates/ to a temporary folder, applies one wrong rule
+there and runs `rt check` in crates/program_says: that proves the rule's crate, those above it, that the reader means what the grammar
 says, and that it gives the trees that derivations say. It prints which crate refuses the rule, and where first. Exit status:
 0 if each is refused; 1 if one is accepted, or is no definition at all; 2 if a text to be replaced is not there, or the crates
 don't pass as they are.
