@@ -21,7 +21,6 @@ import sys
 import tempfile
 
 ROOT = os.path.dirname(os.path.dirname(os.path.abspath(__file__)))
-LIBRARIES = ('rlib', 'stamp', 'obj', 'bin')
 
 # the crates whose theorems --tables leaves out
 THEOREMS = ('values', 'semantics', 'program_reader', 'program_code', 'program_numbering', 'translation')
