@@ -1,0 +1,18 @@
+-- `find`: the number is what was passed and what is left of it.
+use mathlib.Core.Path.{◌≡◌, sym, subst, ap, ◌∙◌}
+use Prim.Native.Nat.{◌+◌, ◌-◌, ◌≤◌}
+use native.Mathlib.Omega.{arith}
+use borrow.Author.Rules.{rules}
+use Rattle.program_numbering.specs.Numbering.{same_constant}
+use Rattle.program_tables.specs.declared.tables.Entry.{Entry}
+use Rattle.program_tables.specs.Tables.{meant, InsideText}
+use Rattle.program_tables.proofs.Entries.{Number, number-starts, number-found, number_more, number-none}
+use Rattle.program_tables.proofs.tables.find.Given as goal
+
+abbrev pub invariant-loop-k : goal.invariant-loop-k
+invariant-loop-k l =
+    (l.k ≤ l.n)
+    × (Number l.s l.escapes l.table (meant l.s l.escapes l.e) 0 l.n ≡ l.k + Number l.s l.escapes l.table (meant l.s l.escapes l.e) l.k (l.n - l.k))
+
+abbrev pub decreases-loop-k : goal.decreases-loop-k
+decreases-loop-k l = l.n - l.k
