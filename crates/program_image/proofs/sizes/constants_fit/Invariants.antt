@@ -1,0 +1,14 @@
+-- `constants_fit`: the entries that are left say what all do.
+use mathlib.Core.Path.{◌≡◌, sym, ◌∙◌}
+use Prim.Native.Nat.{◌-◌, ◌≤◌}
+use native.Mathlib.Omega.{arith}
+use borrow.Author.Rules.{rules}
+use borrow.Author.Tests.{not-true, not-false}
+use Rattle.program_image.proofs.Judged.{constants_fit, small-start, small-over, small-within, small-end}
+use Rattle.program_image.proofs.sizes.constants_fit.Given as goal
+
+abbrev pub invariant-loop-k : goal.invariant-loop-k
+invariant-loop-k l = (l.k ≤ l.n) × (constants_fit l.s l.table 0 l.n ≡ constants_fit l.s l.table l.k (l.n - l.k))
+
+abbrev pub decreases-loop-k : goal.decreases-loop-k
+decreases-loop-k l = l.n - l.k
