@@ -1,0 +1,16 @@
+-- `enter_specials`: a number a turn.
+use mathlib.Core.Path.{◌≡◌, refl, ap, ◌∙◌}
+use mathlib.Core.List.{List}
+use Prim.Native.Nat.{ℕ, ◌+◌, ◌*◌, ◌-◌, ◌≤◌}
+use native.Mathlib.Omega.{arith}
+use lib.ListN.{length, set, length-set}
+use borrow.Author.Rules.{rules}
+use Rattle.program_entries.specs.Variables.{special_count, numbers_in}
+use Rattle.program_entries.proofs.Holding.{number_more}
+use Rattle.program_entries.proofs.variables.enter_specials.Given as goal
+
+abbrev pub invariant-loop-k : goal.invariant-loop-k
+invariant-loop-k l = (l.k ≤ special_count) × ((l.table ≡ numbers_in l.k l.initial.table) × (length l.table ≡ length l.initial.table))
+
+abbrev pub decreases-loop-k : goal.decreases-loop-k
+decreases-loop-k l = special_count - l.k
