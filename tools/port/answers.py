@@ -378,7 +378,7 @@ def resolve(names, variables, word, rest, lost):
 
 
 def respelled(field):
-    return {"type-inv": "type_inv", "element-fits": "element_fits"}.get(field, field)
+    return {"type-inv": "type_inv", "element-fits": "element_fits", "well-formed": "well_formed"}.get(field, field)
 
 
 def paths(text, names, variables, renames, goal, lemmas, lost):
@@ -442,7 +442,7 @@ def paths(text, names, variables, renames, goal, lemmas, lost):
             while from_ != r[1]:
                 from_, steps = names.parent[from_], steps + 1
             raw = "c" + ".before" * (steps + bool(names.typed[variables[word]]) if steps else 0)
-            if not steps or not names.typed[r[1]]:
+            if not steps or not names.typed[r[1]] and names.parent[r[1]]:
                 return raw
             names.raised.add("up-" + names.new[r[1]])
             return f"(up-{names.new[r[1]]} {'_ ' * names.parameters}{raw})"

@@ -1,15 +1,15 @@
 -- Laws of sets of classes as bits, and of the ranges of bytes that hold them.
 use mathlib.Core.Path.{◌≡◌, refl, sym, ap, ap₂, subst, ◌∙◌}
 use mathlib.Core.Bool.{Bool, true, false, not, ◌&&◌}
-use mathlib.Core.List.{List, [], ◌∷◌}
-use mathlib.Core.Logic.{◌⊎◌, inl, inr, ⊎_elim}
-use Prim.Native.Nat.{ℕ, zero, suc, ◌+◌, ◌-◌, ◌*◌, ◌%◌, ◌^◌, ◌≤◌, ◌<◌}
+use mathlib.Core.List.{List}
+use mathlib.Core.Logic.{◌⊎◌, inl, inr}
+use Prim.Native.Nat.{ℕ, ◌+◌, ◌*◌, ◌%◌, ◌^◌, ◌≤◌, ◌<◌}
 use native.Mathlib.Omega.{arith}
 use lib.ListN.{length, get_or, set, length-set}
 use lib.Seq.{get_or-set_same, get_or-set_other}
 use lib.Bits.{bit_or}
 use lib.Dec.{eqb, leb}
-use borrow.Author.Tests.{eqb-true, eq-eqb, leb-true, leb-false, le-leb}
+use borrow.Author.Tests.{eqb-true, eq-eqb, leb-false}
 use Rattle.lists.specs.Digit.{bit}
 use Rattle.lists.proofs.Digits.{bit-or, bit_shifted, bit-turned, bit-zero}
 use Rattle.lists.proofs.Tests.{and-true, or-false, clash}
@@ -19,7 +19,6 @@ use Rattle.ere_search.specs.Walk.{step}
 use Rattle.ere_automaton.specs.Layout.{classes_at, class_in, rows_at, reach_word}
 use Rattle.ere_automaton.specs.Automaton.{within, Hull}
 use Rattle.ere_classes.specs.Column.{Classified}
-use Rattle.ere_classes.specs.Frames.{Frame}
 use Rattle.ere_classes.specs.Reach.{Reaches}
 use Rattle.ere_classes.specs.Bounds.{Keeps, Led, Follows, SecondsOf, Range, PutHull}
 use Rattle.ere_classes.proofs.Columns.{up_to}

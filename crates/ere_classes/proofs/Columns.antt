@@ -1,6 +1,6 @@
 -- Laws of columns, by which bytes are told apart, and of classes.
 use mathlib.Core.Path.{◌≡◌, refl, sym, ap, ap₂, subst, ◌∙◌}
-use mathlib.Core.Bool.{Bool, true, false, cond, ◌&&◌}
+use mathlib.Core.Bool.{Bool, true, cond, ◌&&◌}
 use mathlib.Core.List.{List}
 use mathlib.Core.Logic.{◌⊎◌, inl, inr, ⊎_elim}
 use Prim.Native.Nat.{ℕ, zero, suc, ◌+◌, ◌-◌, ◌*◌, ◌/◌, ◌%◌, ◌^◌, ◌≤◌, ◌<◌}
@@ -8,15 +8,15 @@ use native.Mathlib.Nat.{le_of_suc-le-suc, eq-or-lt_of_le, le_refl, pow-suc, zero
 use native.Mathlib.Omega.{arith}
 use lib.ListN.{length, get_or, set, length-set}
 use lib.Seq.{get_or-set_same, get_or-set_other}
-use lib.Dec.{eqb, ltb}
+use lib.Dec.{eqb}
 use lib.Pow.{pow_mono}
-use borrow.Author.Tests.{eqb-true, lt-ltb, le-ltb}
+use borrow.Author.Tests.{eqb-true}
 use Rattle.lists.specs.Digit.{bit}
 use Rattle.lists.proofs.Tests.{and-true}
 use Rattle.ere_table.specs.Table.{row_words, place_count, accepts_at, row, join}
-use Rattle.ere_search.specs.Walk.{step_word, put, step}
-use Rattle.ere_automaton.specs.Layout.{class_in, classes_at, rows_at}
-use Rattle.ere_classes.specs.Column.{taken_by, column_of, Used, first_word, Alike, Class, Classed, Classifies, Classified}
+use Rattle.ere_search.specs.Walk.{step_word, step}
+use Rattle.ere_automaton.specs.Layout.{class_in, classes_at}
+use Rattle.ere_classes.specs.Column.{taken_by, column_of, Used, first_word, Alike, Class, Classed, Classified}
 
 -- one of two orders
 pub ordered : (i j : ℕ) → (i < j) ⊎ (j ≤ i)

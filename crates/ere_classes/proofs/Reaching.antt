@@ -1,13 +1,13 @@
 -- Laws of what comes next after sets inside of others, and of how long something is left of them.
-use mathlib.Core.Path.{◌≡◌, refl, sym, ap, ap₂, subst, ◌∙◌}
-use mathlib.Core.Bool.{Bool, false}
+use mathlib.Core.Path.{◌≡◌, sym, ap, subst, ◌∙◌}
+use mathlib.Core.Bool.{false}
 use mathlib.Core.List.{List}
-use Prim.Native.Nat.{ℕ, zero, suc, ◌+◌, ◌<◌}
+use Prim.Native.Nat.{ℕ, suc, ◌+◌}
 use native.Mathlib.Omega.{arith}
 use lib.ListN.{get_or}
-use lib.Bits.{bit_or, or_zero_r}
+use lib.Bits.{or_zero_r}
 use Rattle.lists.proofs.Tests.{or-false}
-use Rattle.ere_table.specs.Table.{mem, row, join, no_place}
+use Rattle.ere_table.specs.Table.{row, join, no_place}
 use Rattle.ere_table.specs.Wiring.{stop_in}
 use Rattle.ere_table.proofs.Sets.{mem-join}
 use Rattle.ere_search.specs.Walk.{step}

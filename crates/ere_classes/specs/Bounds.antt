@@ -1,7 +1,7 @@
 -- Internal: cited by private contracts only. Sets of classes as bits of a word, and ranges of bytes that hold them.
-use Rattle.std.specs.Prelude.{◌≡◌, true, false, List, ℕ, ◌+◌, ◌≤◌, ◌<◌, length, get_or}
+use Rattle.std.specs.Prelude.{◌≡◌, false, List, ℕ, ◌+◌, ◌≤◌, ◌<◌, length, get_or}
 use Rattle.lists.specs.Digit.{bit}
-use Rattle.ere_table.specs.Table.{row, no_place}
+use Rattle.ere_table.specs.Table.{no_place}
 use Rattle.ere_table.specs.Wiring.{stop_in}
 use Rattle.ere_search.specs.Walk.{step}
 use Rattle.ere_automaton.specs.Automaton.{within, Hull}
