@@ -94,8 +94,8 @@ class Names:
 
     def field(self, place, name):
         """The new name of a field that is found at a place or above it."""
-        if name in ("args", "requires", "ranges", "decreases"):
-            return name
+        if name in ("args", "requires", "ranges", "decreases", "well-formed"):
+            return respelled(name)
         at = place
         while at is not None:
             old, new = self.step[at]
@@ -192,7 +192,9 @@ def by_tie(text):
 
 def convert(text, names, module, crate):
     text = by_tie(re.sub(rf"(?<=\.)ptr(?!{W})", "ref_ptr", text))
-    for name in parameters("::".join([crate] + module.split("."))) or []:
+    own = parameters("::".join([crate] + module.split("."))) or []
+    text = re.sub(rf"(?<=\.args\.)t(\d+)(?!{W})", lambda k: own[int(k[1]) - 1] if 0 < int(k[1]) <= len(own) else k[0], text)
+    for name in own:
         if "_" in name:
             text = re.sub(rf"(?<=\.){name.replace('_', '-')}(?!{W})", name, text)
     head, parts = declarations(text)
@@ -364,7 +366,7 @@ def resolve(names, variables, word, rest, lost):
     if up == len(parts):
         return ("place", at)
     # a place of the older kit may be gone, so that there are fewer steps: the field's name tells
-    if at is None or parts[up] not in ("args", "requires", "ranges", "decreases") and not names.here(at, parts[up]):
+    if at is None or parts[up] not in ("args", "requires", "ranges", "decreases", "well-formed") and not names.here(at, parts[up]):
         at = place
     arm = names.arm(place, parts[up], parts[up + 1:])
     if arm:

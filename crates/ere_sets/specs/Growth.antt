@@ -1,5 +1,5 @@
 -- Internal: cited by private contracts only. The sets that the states stand for: set i is row i of some words.
-use Rattle.std.specs.Prelude.{◌≡◌, true, false, List, ℕ, ◌+◌, ◌*◌, ◌≤◌, ◌<◌, length, get_or}
+use Rattle.std.specs.Prelude.{◌≡◌, true, false, List, ℕ, ◌+◌, ◌*◌, ◌≤◌, ◌<◌, length}
 use Rattle.ere_table.specs.Table.{row}
 use Rattle.ere_table.specs.Wiring.{stop_in}
 use Rattle.ere_automaton.specs.Layout.{rows_at}

@@ -1,6 +1,6 @@
 -- Internal: cited by private contracts only. What the states of an automaton stand for, by a mode: all starts, one at
 -- each place (0); one start (1); the starts before a place (2).
-use Rattle.std.specs.Prelude.{Bool, cond, List, ℕ, eqb}
+use Rattle.std.specs.Prelude.{cond, List, ℕ, eqb}
 use Rattle.ere_table.specs.Table.{row, no_place}
 use Rattle.ere_search.specs.Walk.{step}
 use Rattle.ere_automaton.specs.Sets.{collapsed, after}

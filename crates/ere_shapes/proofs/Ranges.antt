@@ -1,6 +1,6 @@
 -- Laws of ranges of bytes, and of sets of classes.
-use mathlib.Core.Path.{◌≡◌, refl, sym, ap, subst, ◌∙◌}
-use mathlib.Core.Bool.{Bool, true, false, ◌||◌}
+use mathlib.Core.Path.{◌≡◌, sym, ap, ◌∙◌}
+use mathlib.Core.Bool.{Bool, true, false}
 use mathlib.Core.Logic.{◌⊎◌, inl, inr, ⊎_elim}
 use mathlib.Core.List.{List}
 use Prim.Native.Nat.{ℕ, ◌+◌, ◌-◌, ◌*◌, ◌/◌, ◌%◌, ◌^◌, ◌≤◌, ◌<◌}
@@ -8,11 +8,11 @@ use native.Mathlib.Omega.{arith}
 use native.Mathlib.Decide.{dec_lt}
 use lib.ListN.{length, get_or}
 use lib.Bits.{bit_or}
-use lib.Dec.{eqb, leb}
+use lib.Dec.{eqb}
 use borrow.Author.Tests.{eqb-true, eq-eqb, leb-true, leb-false, le-leb}
 use Rattle.lists.specs.Digit.{bit}
 use Rattle.lists.proofs.Digits.{bit-or, bit_shifted}
-use Rattle.lists.proofs.Tests.{and-true, or_cases, same_test}
+use Rattle.lists.proofs.Tests.{or_cases, same_test}
 use Rattle.ere_table.specs.Table.{no_place}
 use Rattle.ere_table.specs.Wiring.{stop_in}
 use Rattle.ere_search.specs.Walk.{step}
