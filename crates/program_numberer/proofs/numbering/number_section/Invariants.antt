@@ -1,0 +1,17 @@
+-- `number_section`: a word a turn.
+use mathlib.Core.Path.{◌≡◌, refl, ◌∙◌}
+use Prim.Native.Nat.{◌-◌, ◌≤◌, ◌<◌}
+use native.Mathlib.Omega.{arith}
+use lib.ListN.{length}
+use borrow.Author.Rules.{rules}
+use Rattle.program_numberer.specs.Numbered.{SectionNumbered}
+use Rattle.program_numberer.proofs.Turns.{section-start, section-room, section-some, section-more, section-done}
+use Rattle.program_numberer.proofs.numbering.number_section.Given as goal
+
+abbrev pub invariant-loop-i : goal.invariant-loop-i
+invariant-loop-i l =
+    (l.i ≤ l.count) × (length l.table ≡ length l.initial.table) × (length l.section ≡ length l.initial.section)
+    × SectionNumbered l.edition.number l.s l.what l.initial.section l.i l.initial.table l.n l.section l.table l.m
+
+abbrev pub decreases-loop-i : goal.decreases-loop-i
+decreases-loop-i l = l.count - l.i
