@@ -25,9 +25,9 @@ number-e-requires c =
     let p = c.requires in
     let k = c.number-c.auto in (
       p.0,
-      omega (arith, p.2, k.1.0),
-      omega (arith, p.3, k.1.1.0),
-      omega (arith, p.4, k.1.1.1.0),
+      omega (arith, p.2, k.begin),
+      omega (arith, p.3, k.main),
+      omega (arith, p.4, k.end),
       omega (arith, p.7),
       ([], none-held a.s.now false a.eres.now),
       p.1,
@@ -41,9 +41,9 @@ number-requires c =
     let k = c.number-c.auto in
     let l = c.number-e.auto in (
       p.0,
-      omega (arith, p.2, k.1.0, l.1.0),
-      omega (arith, p.3, k.1.1.0, l.1.1.0),
-      omega (arith, p.4, k.1.1.1.0, l.1.1.1.0),
+      omega (arith, p.2, k.begin, l.begin),
+      omega (arith, p.3, k.main, l.main),
+      omega (arith, p.4, k.end, l.end),
       omega (arith, p.5, v.auto.table),
       (
         variables_of a.edition.number a.s.now,
