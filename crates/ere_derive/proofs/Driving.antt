@@ -1,23 +1,21 @@
 -- What was stored is an automaton of the table.
-use mathlib.Core.Path.{◌≡◌, refl, sym, ap, ap₂, subst, ◌∙◌}
-use mathlib.Core.Bool.{Bool, true, false, not, cond}
-use mathlib.Core.List.{List, [], ◌∷◌, ◌++◌}
-use mathlib.Core.Logic.{◌⊎◌, ⊎_elim}
-use Prim.Native.Nat.{ℕ, zero, suc, ◌+◌, ◌-◌, ◌*◌, ◌/◌, ◌%◌, ◌≤◌, ◌<◌}
-use native.Mathlib.Nat.{div-eq_of_eq-mul_left, mul_comm, mul-le-mul, mul-le-mul_left, mul-div-le}
+use mathlib.Core.Path.{◌≡◌, sym, ap, ap₂, subst, ◌∙◌}
+use mathlib.Core.Bool.{Bool, false, cond}
+use mathlib.Core.List.{List, ◌++◌}
+use Prim.Native.Nat.{ℕ, ◌+◌, ◌-◌, ◌*◌, ◌/◌, ◌%◌, ◌≤◌, ◌<◌}
+use native.Mathlib.Nat.{div-eq_of_eq-mul_left, mul_comm, mul-le-mul_left, mul-div-le}
 use native.Mathlib.Omega.{arith}
-use lib.ListN.{length, take, drop, get_or, set, length-set, length-append, length-drop, get_or-append}
+use lib.ListN.{length, take, drop, get_or, set, length-set, get_or-append}
 use lib.Seq.{get_or-take, length-take-le, length_front, take-append-le, get_or-set_same, get_or-set_other}
 use lib.Dec.{eqb}
 use borrow.Author.Tests.{eq-eqb, ne_eqb}
 use Rattle.ere_table.specs.Table.{row}
 use Rattle.ere_automaton.specs.Layout.{State, class_in, next_in, pair_in, end_word, rows_at, stride_by, stride_of, state_count, Testable}
-use Rattle.ere_automaton.specs.Automaton.{Ranged, Hull, Shape}
+use Rattle.ere_automaton.specs.Automaton.{Hull, Shape}
 use Rattle.ere_classes.specs.Column.{Classified}
 use Rattle.ere_sets.specs.Modes.{change_by, first_by, later_by, last_by, FollowsBy}
-use Rattle.ere_sets.specs.Growth.{Fair, Grows, Has, Leads}
-use Rattle.ere_classes.specs.Frames.{Frame}
-use Rattle.ere_derive.specs.Layout.{RowAt, Rows, RowOf, Closed, Paired, PutRows, PutPairs, Begins, Headed}
+use Rattle.ere_sets.specs.Growth.{Fair, Has, Leads}
+use Rattle.ere_derive.specs.Layout.{Rows, RowOf, Closed, Paired, PutRows, PutPairs, Begins, Headed}
 use Rattle.ere_derive.specs.Derived.{Derived, DerivedBy, Attempted}
 use Rattle.ere_sets.proofs.Grown.{grows_none, has_on}
 use Rattle.ere_derive.proofs.Composed.{rows-below, square-below, row_on}

@@ -1,5 +1,5 @@
 -- Laws of the three ways in which an automaton follows a table.
-use mathlib.Core.Path.{◌≡◌, refl, sym, ap, ap₂, subst, ◌∙◌}
+use mathlib.Core.Path.{◌≡◌, refl, sym, ap, ap₂, ◌∙◌}
 use mathlib.Core.Bool.{Bool, true, false, not, cond}
 use mathlib.Core.List.{List}
 use Prim.Native.Nat.{ℕ, ◌/◌, ◌%◌}
@@ -8,14 +8,12 @@ use native.Mathlib.Omega.{arith}
 use lib.ListN.{get_or}
 use lib.Dec.{eqb}
 use borrow.Author.Tests.{eqb-true, eqb-false, eq-eqb, ne_eqb}
-use Rattle.lists.proofs.Tests.{clash}
 use Rattle.ere_table.specs.Table.{row, join}
 use Rattle.ere_table.specs.Wiring.{stop_in}
 use Rattle.ere_search.specs.Walk.{step}
 use Rattle.ere_automaton.specs.Sets.{collapsed, after}
-use Rattle.ere_automaton.specs.Layout.{State, skips_word, end_word}
 use Rattle.ere_automaton.specs.Automaton.{Hull, Shape, Drives}
-use Rattle.ere_automaton.specs.Follows.{Follows, FollowsAll, FollowsOne, FollowsPending, pending_after}
+use Rattle.ere_automaton.specs.Follows.{FollowsAll, FollowsOne, FollowsPending, pending_after}
 use Rattle.ere_sets.specs.Modes.{change_by, first_by, later_by, last_by, FollowsBy}
 use Rattle.ere_sets.specs.Growth.{Fair}
 

@@ -3,7 +3,7 @@ use mathlib.Core.Path.{◌≡◌, sym, ap, ap₂, subst, ◌∙◌}
 use mathlib.Core.List.{List}
 use Prim.Native.Nat.{ℕ, ◌+◌, ◌-◌, ◌*◌, ◌/◌, ◌≤◌, ◌<◌}
 use native.Mathlib.Omega.{arith}
-use lib.ListN.{length, get_or}
+use lib.ListN.{get_or}
 use lib.Dec.{eqb}
 use Rattle.ere_automaton.specs.Layout.{State, class_count, class_in, next_in, pair_in, end_word, rows_at, stride_by, stride_of, state_count}
 use Rattle.ere_automaton.specs.Layout.{first_state, later_state, accepted_state, Testable}

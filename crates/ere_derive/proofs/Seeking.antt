@@ -1,9 +1,9 @@
 -- Laws of both automata of a search, one after the other.
-use mathlib.Core.Path.{◌≡◌, refl, sym, ap, ap₂, subst, ◌∙◌}
-use mathlib.Core.Bool.{Bool, true, false, ◌&&◌}
+use mathlib.Core.Path.{◌≡◌, refl, sym, ap, subst, ◌∙◌}
+use mathlib.Core.Bool.{true, false, ◌&&◌}
 use mathlib.Core.List.{List, ◌++◌, append-nil}
 use mathlib.Core.Logic.{⊎_elim}
-use Prim.Native.Nat.{ℕ, ◌+◌, ◌-◌, ◌*◌, ◌/◌, ◌%◌, ◌≤◌, ◌<◌}
+use Prim.Native.Nat.{ℕ, ◌+◌, ◌-◌, ◌/◌, ◌%◌, ◌≤◌, ◌<◌}
 use native.Mathlib.Omega.{arith}
 use lib.ListN.{length, get_or, set, take, drop, length-set, length-append, length-drop, drop_of_length-le}
 use lib.ListN.{get_or-append, get_or-eq_default}
@@ -13,12 +13,11 @@ use lib.Dec.{eqb, leb}
 use borrow.Rule.Slice.PartMut.{mid_of, put_mid, same_len_mid}
 use borrow.Author.Tests.{eqb-true, eq-eqb, leb-true}
 use Rattle.lists.proofs.Tests.{and-true}
-use Rattle.ere_table.specs.Table.{row, join}
+use Rattle.ere_table.specs.Table.{row}
 use Rattle.ere_table.specs.Wiring.{stop_in}
 use Rattle.ere_automaton.specs.Layout.{rows_at, Testable}
 use Rattle.ere_automaton.specs.Automaton.{Hull}
 use Rattle.ere_automaton.specs.Follows.{FollowsOne, FollowsPending, Seeks, one_length, one_in, pending_in}
-use Rattle.ere_sets.specs.Modes.{FollowsBy}
 use Rattle.ere_classes.specs.Frames.{Frame}
 use Rattle.ere_derive.specs.Both.{Nested, HeadedBoth}
 use Rattle.ere_derive.specs.Derived.{DerivedBy, DerivedBoth}
