@@ -4,7 +4,7 @@ use mathlib.Core.Bool.{Bool, true, false}
 use mathlib.Core.List.{List, [], ◌∷◌}
 use Prim.Native.Nat.{ℕ, ◌+◌, ◌-◌, ◌%◌, ◌≤◌, ◌<◌}
 use native.Mathlib.Omega.{arith}
-use lib.ListN.{length, take, get_or, set, length-set, length-take, length-drop}
+use lib.ListN.{length, take, set, length-set, length-take, length-drop}
 use borrow.Rule.Slice.PartMut.{put_mid, mid_of}
 use lib.Seq.{get_or-set_same, get_or-set_other}
 use lib.Dec.{eqb}
@@ -13,7 +13,7 @@ use Rattle.edition.specs.Limits.{ere_count}
 use Rattle.buffer.specs.Parts.{part, put}
 use Rattle.buffer.proofs.Lent.{front-lent, part-came}
 use Rattle.buffer.proofs.Parts.{length-put, get_d-put-below, part-put-same, part-put-below, part-put-above, part-part}
-use Rattle.buffer.proofs.Parts.{put_one, length_part}
+use Rattle.buffer.proofs.Parts.{put_one}
 use Rattle.ere_meaning.specs.Tree.{Class, Ere}
 use Rattle.ere_automaton.specs.Automaton.{Ranged}
 use Rattle.ere_automaton.specs.Follows.{SeekRanged}
@@ -21,7 +21,7 @@ use Rattle.ere.specs.Answer.{Serves}
 use Rattle.semantics.proofs.Tables.{nth-some}
 use Rattle.run_image.specs.Table.{Readable, IsEre}
 use Rattle.run_automata.specs.Automata.{pool_slots, bound_count, bound_in, automaton_in, Bounded, Suits, SuitsEre}
-use Rattle.run_automata.specs.Automata.{MadeOf, Automata, Pooled, Filled}
+use Rattle.run_automata.specs.Automata.{MadeOf, Pooled, Filled}
 use Rattle.run_image.proofs.Compiling.{ere-below}
 
 -- ---- an automaton is stored at a place, and its end as bound n + 1
