@@ -12,7 +12,7 @@ use edition::Edition;
 use separators::Kind;
 
 // What a split answers: how many fields there are, or why there are none.
-#[derive(Drop)]
+#[derive(Clone, Copy)]
 pub enum Splitting {
     Fields(usize),
     LongRecord,

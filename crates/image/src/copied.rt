@@ -1,7 +1,7 @@
 // What reader and writer answer.
 
 // The length written, or why nothing is.
-#[derive(Drop)]
+#[derive(Clone, Copy)]
 pub enum Copied {
     Written(usize),
     Malformed,

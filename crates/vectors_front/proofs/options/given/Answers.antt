@@ -1,8 +1,5 @@
 -- `given` ends: each turn goes one word further.
-use borrow.Author.Rules.{rules}
 use native.Mathlib.Omega.{arith}
-use Prim.Native.Nat.{◌-◌, ◌≤◌}
-use lib.ListN.{length}
 use Rattle.vectors_front.proofs.options.given.Goals as goal
 
 pub overflow_mul-i : goal.overflow_mul-i

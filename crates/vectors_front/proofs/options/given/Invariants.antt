@@ -1,6 +1,4 @@
 -- `given` ends: each turn goes one word further.
-use borrow.Author.Rules.{rules}
-use native.Mathlib.Omega.{arith}
 use Prim.Native.Nat.{◌-◌, ◌≤◌}
 use lib.ListN.{length}
 use Rattle.vectors_front.proofs.options.given.Given as goal
