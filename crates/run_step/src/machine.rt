@@ -62,7 +62,7 @@ pub fn word_of(kind: Kind) -> usize
 // Where a run is, but for the rooms: whether it goes on; the instruction; how many operands there are; steps, records
 // begun,
 // the place in the lines, bytes written; the ERE of the shared table; the word of what FS separates by; and the record.
-#[derive(Drop)]
+#[derive(Clone, Copy)]
 pub struct Machine {
     pub status: u64,
     pub at: usize,
