@@ -13,7 +13,7 @@ use Rattle.lists.proofs.Tests.{clash, and-true}
 use Rattle.ere_meaning.specs.Tree.{Class, Ere}
 use Rattle.ere_grammar.specs.Read.{read_ere}
 use Rattle.image_format.specs.Image.{text}
-use Rattle.program_tokens.specs.Kinds.{ERE, slash, text_end, among, rank}
+use Rattle.program_tokens.specs.Kinds.{ERE, text_end, among, rank}
 use Rattle.program_tokens.specs.Tokens.{Token, token, is_one_of, ere_length, ere_read, ere_token, as_operand, ere_in}
 use Rattle.program_lexer.specs.Coded.{coded, decoded, kind_count}
 use Rattle.program_scanner.specs.Closings.{ere_close}

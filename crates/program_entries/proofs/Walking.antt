@@ -10,16 +10,14 @@ use Rattle.lists.specs.Elements.{all_below}
 use Rattle.lists.proofs.Elements.{below_at}
 use Rattle.lists.proofs.Tests.{clash, beq_same, or_left, or_right}
 use Rattle.edition.specs.Limits.{filter_text}
-use Rattle.image_format.specs.Image.{text}
-use Rattle.program_tokens.specs.Kinds.{Kind, NUMBER, STRING, ERE, user_name, IF, WHILE, open_paren, close_paren, same, among, rank}
-use Rattle.program_tokens.specs.Tokens.{Token, token, is, token_at, token_after}
+use Rattle.program_tokens.specs.Kinds.{Kind, NUMBER, STRING, user_name, IF, WHILE, open_paren, close_paren, same, among, rank}
+use Rattle.program_tokens.specs.Tokens.{Token, is, token_at, token_after}
 use Rattle.program_lexer.specs.Coded.{coded, decoded, kind_of, kind_count}
 use Rattle.program_lexer.specs.declared.tokens.Token.{Token as Coded}
 use Rattle.program_parser.specs.Reading.{Good}
 use Rattle.program_parser.proofs.Tokens.{choose, good-from, good-at, good-after}
 use Rattle.program_parser.proofs.Codes.{kind-below, decoded-back}
 use Rattle.program_parser.proofs.Places.{value-own}
-use Rattle.program_numbering.specs.Names.{has}
 use Rattle.program_names.specs.Walk.{spanned, open_after, operand_ends, ere_follows, next_in}
 use Rattle.program_entries.specs.Named.{operand_bound}
 use Rattle.program_entries.specs.Variables.{Walked}

@@ -13,7 +13,7 @@ use Rattle.lists.proofs.Tests.{clash, and-true, and-false as and_none}
 use Rattle.program_tokens.specs.Kinds.{Kind, text_end, newline, ERE, tilde, assign as assign-kind, no_match as no-match-kind, same, among, rank}
 use Rattle.program_tokens.specs.Tokens.{Token, is, is_one_of, token_after, ere_in}
 use Rattle.program_tokens.proofs.Ranks.{same-is}
-use Rattle.program_tree.specs.Tree.{Expression, matches, no_match, both}
+use Rattle.program_tree.specs.Tree.{Expression, matches, no_match}
 use Rattle.program_reader.specs.Read.{Read, ok, no, map, operand_after, past_newlines}
 use Rattle.program_reader.specs.Operators.{expressions, Operator, binary, operator_in, tier_of, tree_in, tree_of}
 use Rattle.program_reader.specs.Expressions.{Inner, assign_to, right_of, more, match_with, matching, assigned, assignment, prefix_form, step_tier, tier, inside}

@@ -1,36 +1,35 @@
 -- `=` after what was read.
 use mathlib.Core.Path.{◌≡◌, refl, sym, ap, subst, ◌∙◌}
 use mathlib.Core.Bool.{Bool, true, false, not, cond, ◌||◌}
-use mathlib.Core.List.{List, [], ◌∷◌, ◌++◌}
-use mathlib.Core.Logic.{◌⊎◌, inl, inr, ⊎_elim}
-use mathlib.Core.Option.{Option, some, none}
-use Prim.Native.Nat.{ℕ, ◌+◌, ◌-◌, ◌*◌, ◌≤◌, ◌<◌}
+use mathlib.Core.List.{List, []}
+use mathlib.Core.Logic.{⊎_elim}
+use mathlib.Core.Option.{some, none}
+use Prim.Native.Nat.{ℕ, ◌+◌, ◌-◌, ◌≤◌, ◌<◌}
 use native.Mathlib.Omega.{arith}
-use lib.ListN.{length}
 use lib.Dec.{eqb}
-use borrow.Author.Tests.{eq-eqb, ne_eqb, eqb-true, eqb-false, not-true, not-false}
-use Rattle.lists.proofs.Tests.{clash, or_cases, or-false}
+use borrow.Author.Tests.{ne_eqb, eqb-true, eqb-false, not-true, not-false}
+use Rattle.lists.proofs.Tests.{or_cases, or-false}
 use Rattle.image_format.specs.Codes.{action, get, set as set-action, set-field, field as field-action}
-use Rattle.program_tokens.specs.Kinds.{Kind, fixed_variable, text_end, assign as assign-sign, same, rank}
+use Rattle.program_tokens.specs.Kinds.{fixed_variable, assign as assign-sign, same, rank}
 use Rattle.program_tokens.specs.Words.{word_kind}
 use Rattle.program_tokens.specs.Tokens.{Token, is}
 use Rattle.program_tree.specs.Tree.{Expression, constant, ere, variable, parentheses, length-of, index, substr, match, field, prefix, arithmetic, join, compare, matches, no_match, both, either, assign, assign_field}
-use Rattle.program_reader.specs.Read.{Read as Result, ok, no, map, operand_after}
+use Rattle.program_reader.specs.Read.{Read as Result, ok, map, operand_after}
 use Rattle.program_reader.specs.Operators.{expressions}
 use Rattle.program_reader.specs.Expressions.{Inner, assign_to, assigned, assignment}
-use Rattle.program_code.specs.Emitted.{nothing, the_variable, Emitted, emit, act, action_code, opcode}
+use Rattle.program_code.specs.Emitted.{nothing, the_variable, Emitted, act, action_code, opcode}
 use Rattle.program_code.specs.Expressions.{size, compile}
 use Rattle.program_code.proofs.Flows.{size-length}
 use Rattle.program_lexer.specs.Coded.{coded, decoded}
 use Rattle.program_lexer.specs.declared.tokens.Token.{Token as Coded}
 use Rattle.program_parser.specs.declared.read.Read.{Read}
 use Rattle.program_parser.specs.Meaning.{Denotes, name_at}
-use Rattle.program_parser.specs.Reading.{form_of, Good, Ready, ReadExpression, Reading}
+use Rattle.program_parser.specs.Reading.{form_of, Good, ReadExpression, Reading}
 use Rattle.program_parser.proofs.Codes.{decoded-back}
 use Rattle.program_operations.specs.Parts.{Suffixed, ContinuesFrom}
 use Rattle.program_operations.proofs.Readings.{good-earlier, after-operand}
 use Rattle.program_operations.proofs.Written.{wrote_nothing, halved, reading-over}
-use Rattle.program_operations.proofs.Suffixes.{Ends, suffix-read}
+use Rattle.program_operations.proofs.Suffixes.{suffix-read}
 use Rattle.program_operations.proofs.Primaries.{fits}
 use Rattle.program_operations.proofs.Matching.{token-of}
 

@@ -5,43 +5,42 @@ use mathlib.Core.List.{List, [], ◌∷◌, ◌++◌, append_assoc}
 use mathlib.Core.Option.{Option, some, none}
 use Prim.Native.Nat.{ℕ, ◌+◌, ◌*◌, ◌/◌, ◌%◌, ◌≤◌, ◌<◌}
 use native.Mathlib.Omega.{arith}
-use lib.ListN.{length, length-append}
+use lib.ListN.{length-append}
 use lib.Seq.{sets}
 use lib.Dec.{eqb, ltb, leb}
-use borrow.Author.Tests.{eq-eqb, ne_eqb, eqb-true, lt-ltb, le-ltb, not-true, not-false, ltb-true, ltb-false}
+use borrow.Author.Tests.{eq-eqb, ne_eqb, lt-ltb, not-true, ltb-true}
 use Rattle.lists.proofs.Tests.{clash, and-true}
 use Rattle.edition.specs.Outcomes.{bad_token, misplaced_token, bad_ere}
-use Rattle.image_format.specs.Codes.{Action, action}
+use Rattle.image_format.specs.Codes.{action}
 use Rattle.program_tokens.specs.Kinds.{Kind, text_end, bad, bad-ere, ERE, open_paren, close_paren, comma, same, rank}
 use Rattle.program_tokens.specs.Tokens.{Token, is, token_after, ere_in}
 use Rattle.program_tree.specs.Tree.{Expression, variable, length-of, index, substr, match}
 use Rattle.program_tree.specs.Functions.{Shape, an_expression, an_ere, Call, Function, function_in, function_of, functions}
-use Rattle.program_grammar.specs.Sets.{is_function}
 use Rattle.program_reader.specs.Read.{Read as Result, ok, no, bind, refuse, operand_after, past_newlines}
 use Rattle.program_reader.specs.Operators.{expressions}
-use Rattle.program_reader.specs.Expressions.{Inner, closed, argument, arguments, call, calling, inside}
-use Rattle.program_code.specs.Emitted.{nothing, the_ere, Emitted, emit, action_code, opcode}
+use Rattle.program_reader.specs.Expressions.{closed, argument, arguments, call, calling, inside}
+use Rattle.program_code.specs.Emitted.{nothing, the_ere, emit, action_code, opcode}
 use Rattle.program_code.specs.Expressions.{size, compile}
 use Rattle.program_code.proofs.Flows.{size-length}
 use Rattle.program_lexer.specs.Coded.{coded, decoded, kind_of, kind_count}
 use Rattle.program_lexer.specs.declared.tokens.Token.{Token as Coded}
 use Rattle.program_lexer.proofs.Coding.{rank-of}
-use Rattle.program_words.specs.Words.{Fits, word}
+use Rattle.program_words.specs.Words.{word}
 use Rattle.program_parser.specs.declared.read.Read.{Read}
 use Rattle.program_parser.specs.declared.calls.Function.{Function as Coding}
 use Rattle.program_operations.specs.declared.parts.PendingCall.{PendingCall}
 use Rattle.program_parser.specs.Tables.{function_action, shape_code, shapes_code, described}
-use Rattle.program_parser.specs.Meaning.{Denotes, Wrote}
-use Rattle.program_parser.specs.Reading.{success, answered, refusal, refused_by, closed_of, form_of, Good, Ready, ReadExpression, Reading}
+use Rattle.program_parser.specs.Meaning.{Denotes}
+use Rattle.program_parser.specs.Reading.{success, answered, refusal, refused_by, closed_of, form_of, Good, Ready, Reading}
 use Rattle.program_parser.proofs.Tokens.{choose, good-after}
 use Rattle.program_parser.proofs.Codes.{decoded-back}
 use Rattle.program_parser.proofs.Others.{coded-function, no-function}
 use Rattle.program_parser.proofs.Spelling.{wrote_after}
 use Rattle.program_parser.proofs.Places.{ere-placed}
-use Rattle.program_operations.specs.Parts.{suffixed, Suffixed, pending, Completed, Completes, Calling, Calls, arguments_left}
+use Rattle.program_operations.specs.Parts.{suffixed, Suffixed, pending, Completes, Calls, arguments_left}
 use Rattle.program_operations.proofs.Readings.{good-earlier, after-operand, after_line, ready_at, refused-token, failed}
 use Rattle.program_operations.proofs.Written.{wrote_nothing, wrote_one}
-use Rattle.program_operations.proofs.Primaries.{fits, kind-is, begun}
+use Rattle.program_operations.proofs.Primaries.{fits}
 use Rattle.program_operations.proofs.Turns.{code-small}
 
 -- ---- how many arguments are left

@@ -1,5 +1,5 @@
 -- Internal: cited by private contracts only. The tokens of the code: a kind is its number.
-use Rattle.std.specs.Prelude.{ℕ, length, get_or}
+use Rattle.std.specs.Prelude.{ℕ, get_or}
 use Rattle.program_tokens.specs.Kinds.{Kind, bad, kinds, rank}
 use Rattle.program_tokens.specs.Tokens.{Token}
 use Rattle.program_lexer.specs.declared.tokens.Token.{Token as Coded}

@@ -1,17 +1,15 @@
 -- Passing newlines and semicolons, a token a turn.
 use mathlib.Core.Path.{◌≡◌, refl, sym, ap, subst, ◌∙◌}
-use mathlib.Core.Bool.{Bool, true, false, not, cond, ◌&&◌, ◌||◌}
-use mathlib.Core.List.{List, [], ◌∷◌}
-use Prim.Native.Nat.{ℕ, zero, suc, ◌+◌, ◌-◌, ◌≤◌, ◌<◌}
+use mathlib.Core.Bool.{Bool, true, false, ◌&&◌, ◌||◌}
+use mathlib.Core.List.{List}
+use Prim.Native.Nat.{ℕ, zero, suc, ◌-◌, ◌≤◌, ◌<◌}
 use native.Mathlib.Omega.{arith}
 use lib.Dec.{eqb}
 use lib.ListN.{length}
-use borrow.Author.Tests.{eqb-true, ne_eqb}
+use borrow.Author.Tests.{ne_eqb}
 use Rattle.lists.proofs.Tests.{clash}
-use Rattle.program_tokens.specs.Kinds.{Kind, text_end, newline, among, same, rank}
-use Rattle.program_tokens.specs.Tokens.{Token, is, is_one_of, token_after, as_operand}
-use Rattle.program_tokens.proofs.Ranks.{same-is}
-use Rattle.program_grammar.specs.Sets.{enders}
+use Rattle.program_tokens.specs.Kinds.{Kind, text_end, among, same, rank}
+use Rattle.program_tokens.specs.Tokens.{Token, is_one_of, token_after, as_operand}
 use Rattle.program_reader.specs.Read.{past_in, past, past_newlines}
 use Rattle.program_lexer.specs.Coded.{coded, decoded, kind_of, kind_count}
 use Rattle.program_lexer.specs.declared.tokens.Token.{Token as Coded}

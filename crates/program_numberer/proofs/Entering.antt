@@ -18,7 +18,6 @@ use Rattle.program_tables.specs.declared.tables.Entry.{Entry}
 use Rattle.program_tables.specs.Tables.{entry_in, meant, AllInside, entries_from, with_entry}
 use Rattle.program_tables.proofs.Entries.{entry_kept, entry-added, entries-added, inside-added}
 use Rattle.program_entries.specs.Named.{Stands}
-use Rattle.program_entries.specs.Variables.{Held}
 use Rattle.program_numberer.specs.Numbered.{AllBounded, Holds}
 use Rattle.program_numberer.proofs.Lists.{longer, number-most, number-none}
 

@@ -1,13 +1,13 @@
 -- One word is numbered, then a section's words, then those of all sections.
 use mathlib.Core.Path.{◌≡◌, refl, sym, ap, subst, ◌∙◌}
 use mathlib.Core.Bool.{Bool, true, false, not, cond, ◌||◌}
-use mathlib.Core.Logic.{◌⊎◌, ⊎_elim}
+use mathlib.Core.Logic.{⊎_elim}
 use mathlib.Core.List.{List, [], ◌∷◌, ◌++◌, map, append-nil, append_assoc}
 use Prim.Native.Nat.{ℕ, suc, ◌+◌, ◌*◌, ◌/◌, ◌≤◌, ◌<◌}
 use native.Mathlib.Numerals.{add-one}
 use native.Mathlib.Omega.{arith}
 use lib.ListN.{length, get_or, take, drop, set, length-append}
-use lib.Seq.{set-get_or, take-suc, drop-cons, length-take-le, take_at, get_or_at, set_at, append_snoc}
+use lib.Seq.{set-get_or, take-suc, drop-cons, take_at, get_or_at, set_at}
 use lib.Dec.{eqb, ltb}
 use borrow.Author.Tests.{ltb-true, ltb-false, not-true, not-false}
 use Rattle.lists.proofs.Tests.{or_cases, or-false}
@@ -17,9 +17,9 @@ use Rattle.program_numbering.specs.Names.{with_new, number_of}
 use Rattle.program_numbering.specs.Numbering.{same_constant}
 use Rattle.program_words.specs.Words.{packed, op_in, depth_in, first_in}
 use Rattle.program_tables.specs.declared.tables.Entry.{Entry}
-use Rattle.program_tables.specs.Tables.{meant, AllInside, entries_from, with_entry}
+use Rattle.program_tables.specs.Tables.{meant, entries_from, with_entry}
 use Rattle.program_entries.specs.Named.{is_named, named, Stands}
-use Rattle.program_numberer.specs.Numbered.{Holds, HoldsSome, with_operand, thing_at, things, numbered, numbered_from, Numbers, AllNumbers, WordNumbered, SectionNumbered, list_after, ProgramNumbered, ProgramNumbers}
+use Rattle.program_numberer.specs.Numbered.{Holds, HoldsSome, with_operand, thing_at, things, numbered, numbered_from, Numbers, AllNumbers, WordNumbered, SectionNumbered, list_after, ProgramNumbers}
 use Rattle.program_numberer.proofs.Lists.{new-append}
 use Rattle.program_numberer.proofs.Operands.{things-append, numbered-append, numbered-all}
 use Rattle.program_numberer.proofs.Entering.{full-holds, number_is, number-within, known-holds, new-holds}

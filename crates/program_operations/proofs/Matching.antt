@@ -1,32 +1,31 @@
 -- `~` and `!~` after what was read.
 use mathlib.Core.Path.{◌≡◌, refl, sym, ap, subst, ◌∙◌}
-use mathlib.Core.Bool.{Bool, true, false, not, cond, ◌&&◌, ◌||◌}
+use mathlib.Core.Bool.{Bool, true, false, not, ◌&&◌, ◌||◌}
 use mathlib.Core.List.{List, [], ◌∷◌, ◌++◌, append_assoc}
 use Prim.Native.Nat.{ℕ, ◌+◌, ◌*◌, ◌≤◌, ◌<◌}
 use native.Mathlib.Omega.{arith}
 use lib.ListN.{length, length-append}
 use lib.Seq.{sets}
 use lib.Dec.{eqb}
-use borrow.Author.Tests.{eq-eqb, ne_eqb, eqb-false}
-use Rattle.lists.proofs.Tests.{clash, or-none}
+use borrow.Author.Tests.{eq-eqb, ne_eqb}
+use Rattle.lists.proofs.Tests.{clash}
 use Rattle.image_format.specs.Codes.{action, negation, matches as matches-action}
-use Rattle.program_tokens.specs.Kinds.{Kind, ERE, tilde, text_end, no_match as no-match-sign, among, rank}
-use Rattle.program_tokens.specs.Tokens.{Token, is, is_one_of, token_after, ere_in}
+use Rattle.program_tokens.specs.Kinds.{Kind, ERE, tilde, text_end, among, rank}
+use Rattle.program_tokens.specs.Tokens.{Token, is, token_after, ere_in}
 use Rattle.program_tree.specs.Tree.{Expression, variable, matches, no_match}
-use Rattle.program_reader.specs.Read.{ok, refuse, operand_after}
+use Rattle.program_reader.specs.Read.{ok, operand_after}
 use Rattle.program_reader.specs.Expressions.{match_with, matching}
 use Rattle.program_code.specs.Emitted.{nothing, the_ere, Emitted, emit, act, action_code, opcode}
 use Rattle.program_code.specs.Expressions.{size, compile}
 use Rattle.program_code.proofs.Flows.{size-length}
-use Rattle.program_lexer.specs.Coded.{coded, decoded, kind_of}
+use Rattle.program_lexer.specs.Coded.{coded, decoded}
 use Rattle.program_lexer.specs.declared.tokens.Token.{Token as Coded}
-use Rattle.program_lexer.proofs.Coding.{rank-of}
 use Rattle.program_words.specs.Words.{word}
 use Rattle.program_parser.specs.declared.read.Read.{Read}
 use Rattle.program_parser.specs.Meaning.{Denotes, Wrote}
 use Rattle.program_parser.specs.Reading.{answered, refusal, refused_by, form_of, Good, Ready, ReadExpression, Reading}
 use Rattle.program_parser.proofs.Tokens.{good-after}
-use Rattle.program_parser.proofs.Codes.{kind-back, decoded-back}
+use Rattle.program_parser.proofs.Codes.{decoded-back}
 use Rattle.program_parser.proofs.Spelling.{wrote_after}
 use Rattle.program_parser.proofs.Places.{ere-placed}
 use Rattle.program_operations.specs.Parts.{Continues}

@@ -19,7 +19,6 @@ use Rattle.program_tokens.specs.Words.{word_kind, operator_kind}
 use Rattle.program_tokens.specs.Tokens.{Token, token, is_one_of, is_letter, is_word_byte, begins_with, number_token, word_token, read_string, string_token, operator_token, token_of, spelling}
 use Rattle.program_grammar.specs.Sets.{names}
 use Rattle.program_reader.proofs.Tokens.{operator-quiet}
-use Rattle.program_parser.specs.Meaning.{token_from}
 use Rattle.program_parser.specs.Reading.{Placed}
 use Rattle.program_parser.proofs.Tokens.{choose}
 use Rattle.program_parser.proofs.Places.{value-own}

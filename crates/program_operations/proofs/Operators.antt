@@ -1,25 +1,20 @@
 -- Operators between two operands.
 use mathlib.Core.Path.{◌≡◌, refl, sym, ap, subst, ◌∙◌}
-use mathlib.Core.Bool.{Bool, true, false, cond, ◌&&◌, ◌||◌}
+use mathlib.Core.Bool.{Bool, true, false}
 use mathlib.Core.List.{List, [], ◌∷◌, ◌++◌}
-use mathlib.Core.Option.{Option, some, none}
-use Prim.Native.Nat.{ℕ, ◌+◌, ◌-◌, ◌*◌, ◌≤◌, ◌<◌}
+use mathlib.Core.Option.{Option}
+use Prim.Native.Nat.{ℕ, ◌+◌, ◌≤◌, ◌<◌}
 use native.Mathlib.Omega.{arith}
-use lib.ListN.{length}
 use lib.Seq.{sets}
-use lib.Dec.{eqb, leb}
-use borrow.Author.Tests.{eq-eqb, ne_eqb, eqb-true, eqb-false}
 use Rattle.lists.proofs.Tests.{clash, and-false}
 use Rattle.image_format.specs.Codes.{Arithmetic, Comparison, Action, action, flow, arithmetic, compare, join, negation, constant, jump, jump-if-false, add, subtract, multiply, divide, remainder, less as less_than, at-most as at_most, equal as equal_to, different as different_from, greater as greater_than, at-least as at_least}
 use Rattle.image_format.specs.Image.{number}
 use Rattle.program_tokens.specs.Kinds.{Kind, text_end, plus, minus, star, slash, percent, greater, less, or_or, and_and, equal, at-most, at-least, different, same, among, rank}
 use Rattle.program_tokens.proofs.Ranks.{same-is}
-use Rattle.program_tokens.specs.Tokens.{Token, is}
 use Rattle.program_tree.specs.Tree.{Expression, variable, arithmetic as arithmetic-of, join as join-of, compare as compare-of, both, either}
 use Rattle.program_tree.specs.Functions.{function_in}
 use Rattle.program_grammar.specs.Sets.{starts_joined}
-use Rattle.program_reader.specs.Read.{Read as Result, ok, no, map}
-use Rattle.program_reader.specs.Operators.{Operator, operator_in, tier_of, tree_in, tree_of, concatenations}
+use Rattle.program_reader.specs.Operators.{Operator, operator_in, tier_of, tree_in, tree_of}
 use Rattle.program_code.specs.Emitted.{nothing, the_constant, the_instruction, Emitted, emit, act, action_code, flow_code, opcode}
 use Rattle.program_code.specs.Expressions.{size, numeral, double_not, compile}
 use Rattle.program_lexer.specs.Coded.{kind_of}

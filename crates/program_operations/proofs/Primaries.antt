@@ -1,36 +1,34 @@
 -- Primaries, `$` forms and prefix operators.
-use mathlib.Core.Path.{◌≡◌, refl, sym, ap, subst, ◌∙◌}
+use mathlib.Core.Path.{◌≡◌, refl, sym, ap, ◌∙◌}
 use mathlib.Core.Bool.{Bool, true, false, cond, ◌||◌}
-use mathlib.Core.List.{List, [], ◌∷◌, ◌++◌}
-use mathlib.Core.Logic.{◌⊎◌, inl, inr, ⊎_elim}
-use Prim.Native.Nat.{ℕ, ◌+◌, ◌*◌, ◌≤◌, ◌<◌}
+use mathlib.Core.List.{List, [], ◌∷◌}
+use mathlib.Core.Logic.{⊎_elim}
+use Prim.Native.Nat.{ℕ, ◌+◌, ◌≤◌, ◌<◌}
 use native.Mathlib.Omega.{arith}
-use lib.ListN.{length}
 use lib.Seq.{sets}
 use lib.Dec.{eqb}
-use borrow.Author.Tests.{eq-eqb, ne_eqb, eqb-true, eqb-false}
+use borrow.Author.Tests.{eq-eqb, ne_eqb, eqb-true}
 use Rattle.lists.proofs.Tests.{clash, or_cases, or-false}
 use Rattle.image_format.specs.Codes.{Operation, action, constant as constant-action, get, field as field-action, matches as matches-action}
 use Rattle.image_format.specs.Image.{Constant, number, text}
-use Rattle.program_tokens.specs.Kinds.{Kind, text_end, NUMBER, STRING, ERE, fixed_variable, open_paren, dollar, plus, bang, same, among, rank}
-use Rattle.program_tokens.specs.Words.{word_kind}
-use Rattle.program_tokens.specs.Tokens.{Token, is, is_one_of, token_after, spelling, number_in, string_in, ere_in}
+use Rattle.program_tokens.specs.Kinds.{Kind, text_end, NUMBER, STRING, ERE, fixed_variable, plus, bang, same, among, rank}
+use Rattle.program_tokens.specs.Tokens.{Token, is, token_after, spelling, number_in, string_in, ere_in}
 use Rattle.program_tree.specs.Tree.{Prefix, negation, to_number, negate, Expression, constant, ere, variable, parentheses, field, prefix}
 use Rattle.program_tree.specs.Functions.{function_of}
 use Rattle.program_grammar.specs.Sets.{names, prefixes}
-use Rattle.program_reader.specs.Read.{Read as Result, ok, no, map, operand_after}
+use Rattle.program_reader.specs.Read.{Read as Result, ok, map, operand_after}
 use Rattle.program_reader.specs.Operators.{prefix_of, fields, prefixed, expressions}
 use Rattle.program_reader.specs.Expressions.{Inner, closed, calling, primary, field_form, prefix_form}
-use Rattle.program_code.specs.Emitted.{Operand, nothing, the_constant, the_variable, the_ere, Emitted, emit, action_code, opcode}
+use Rattle.program_code.specs.Emitted.{Operand, nothing, the_constant, the_variable, the_ere, emit, action_code, opcode}
 use Rattle.program_code.specs.Expressions.{prefix_action, size, compile}
-use Rattle.program_lexer.specs.Coded.{coded, decoded, kind_of, kind_count}
+use Rattle.program_lexer.specs.Coded.{coded, decoded, kind_of}
 use Rattle.program_lexer.specs.declared.tokens.Token.{Token as Coded}
 use Rattle.program_lexer.proofs.Coding.{rank-of}
 use Rattle.program_words.specs.Words.{Fits, word, ere_words}
 use Rattle.program_parser.specs.declared.read.Read.{Read}
 use Rattle.program_parser.specs.Tables.{prefix_code}
 use Rattle.program_parser.specs.Meaning.{Denotes, none_left, one_more, name_at}
-use Rattle.program_parser.specs.Reading.{success, closed_of, form_of, Good, Ready, ReadExpression, Reading}
+use Rattle.program_parser.specs.Reading.{success, closed_of, form_of, Ready, Reading}
 use Rattle.program_parser.proofs.Tokens.{good-after}
 use Rattle.program_parser.proofs.Codes.{decoded-back}
 use Rattle.program_parser.proofs.Spelling.{word-means}

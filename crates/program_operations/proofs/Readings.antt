@@ -1,12 +1,12 @@
 -- Readings: refusals, what a reader asks of the tokens that it reads from, and what follows a reading.
-use mathlib.Core.Path.{◌≡◌, refl, sym, ap, subst, ◌∙◌}
+use mathlib.Core.Path.{◌≡◌, sym, ap, subst, ◌∙◌}
 use mathlib.Core.Bool.{Bool, true, false, cond}
 use mathlib.Core.List.{List, [], ◌∷◌}
 use Prim.Native.Nat.{ℕ, ◌+◌, ◌*◌, ◌≤◌, ◌<◌}
 use native.Mathlib.Omega.{arith}
 use lib.ListN.{length}
 use lib.Dec.{eqb, leb}
-use borrow.Author.Tests.{eq-eqb, ne_eqb}
+use borrow.Author.Tests.{ne_eqb}
 use Rattle.edition.specs.Limits.{filter_text}
 use Rattle.edition.specs.Outcomes.{bad_token, misplaced_token, bad_ere, size_passed}
 use Rattle.program_tokens.specs.Kinds.{newline, bad, bad-ere, close_paren, rank}
@@ -16,10 +16,10 @@ use Rattle.program_reader.specs.Read.{Read as Result, ok, no, refuse, too_deep, 
 use Rattle.program_reader.specs.Operators.{concatenations, conjunctions}
 use Rattle.program_reader.specs.Expressions.{right_of}
 use Rattle.program_code.specs.Expressions.{size}
-use Rattle.program_lexer.specs.Coded.{coded, decoded, kind_of, kind_count}
+use Rattle.program_lexer.specs.Coded.{coded, decoded, kind_count}
 use Rattle.program_lexer.specs.declared.tokens.Token.{Token as Coded}
 use Rattle.program_parser.specs.declared.read.Read.{Read}
-use Rattle.program_parser.specs.Reading.{success, answered, refusal, refused_by, closed_of, form_of, Good, Ready, ReadExpression, Reading}
+use Rattle.program_parser.specs.Reading.{success, answered, refusal, refused_by, closed_of, Good, Ready, Reading}
 use Rattle.program_parser.proofs.Tokens.{choose, good-after, good-operand, good-past}
 use Rattle.program_parser.proofs.Codes.{kind-below, kind-back, decoded-back}
 use Rattle.program_operations.specs.Parts.{Continues, ContinuesFrom}

@@ -6,10 +6,9 @@ use Prim.Native.Nat.{ℕ, ◌+◌, ◌*◌, ◌≤◌, ◌<◌}
 use native.Mathlib.Omega.{arith}
 use lib.ListN.{length}
 use lib.Seq.{sets}
-use lib.Dec.{eqb}
 use borrow.Author.Tests.{eq-eqb, ne_eqb}
 use Rattle.image_format.specs.Codes.{Operation}
-use Rattle.program_tokens.specs.Kinds.{close_paren, text_end, rank}
+use Rattle.program_tokens.specs.Kinds.{close_paren}
 use Rattle.program_tokens.specs.Tokens.{Token, is, token_after}
 use Rattle.program_tree.specs.Tree.{Expression, variable, parentheses}
 use Rattle.program_reader.specs.Read.{Read as Result, ok, no, map, refuse}
@@ -17,11 +16,10 @@ use Rattle.program_reader.specs.Expressions.{closed}
 use Rattle.program_code.specs.Emitted.{Operand, Emitted, emit, opcode}
 use Rattle.program_code.specs.Expressions.{size, compile}
 use Rattle.program_code.proofs.Flows.{size-length}
-use Rattle.program_lexer.specs.Coded.{coded}
 use Rattle.program_words.specs.Words.{Fits, word}
 use Rattle.program_parser.specs.declared.read.Read.{Read}
 use Rattle.program_parser.specs.Meaning.{Denotes, Wrote}
-use Rattle.program_parser.specs.Reading.{success, answered, refusal, refused_by, closed_of, form_of, Good, ReadExpression, Reading}
+use Rattle.program_parser.specs.Reading.{success, answered, refusal, refused_by, closed_of, form_of, Reading}
 use Rattle.program_parser.proofs.Tokens.{good-after}
 use Rattle.program_parser.proofs.Spelling.{wrote_after}
 use Rattle.program_operations.specs.Parts.{suffixed, Suffixed}

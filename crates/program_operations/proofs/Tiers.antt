@@ -1,14 +1,14 @@
 -- The tiers, and the levels.
-use mathlib.Core.Path.{◌≡◌, refl, sym, ap, ◌∙◌}
-use mathlib.Core.Bool.{Bool, true, false, cond}
+use mathlib.Core.Path.{◌≡◌, refl}
+use mathlib.Core.Bool.{Bool, true, false}
 use mathlib.Core.List.{List}
-use Prim.Native.Nat.{ℕ, zero, suc, ◌+◌, ◌-◌, ◌≤◌, ◌<◌}
+use Prim.Native.Nat.{ℕ, zero, suc, ◌-◌}
 use native.Mathlib.Omega.{arith}
 use lib.Dec.{eqb}
-use borrow.Author.Tests.{eq-eqb, ne_eqb, eqb-true, eqb-false}
+use borrow.Author.Tests.{ne_eqb, eqb-true, eqb-false}
 use Rattle.program_tokens.specs.Tokens.{Token}
 use Rattle.program_tree.specs.Tree.{Expression}
-use Rattle.program_reader.specs.Read.{Read as Result, ok, no, too_deep}
+use Rattle.program_reader.specs.Read.{Read as Result, no, too_deep}
 use Rattle.program_reader.specs.Expressions.{Inner, turns, matching, field_form, prefix_form, assignment, more, step_tier, tier, inside}
 use Rattle.program_parser.specs.declared.read.Read.{Read}
 use Rattle.program_parser.specs.Reading.{Reading}

@@ -6,8 +6,8 @@ use Prim.Native.Nat.{ℕ, zero, suc, ◌+◌, ◌-◌, ◌*◌, ◌≤◌, ◌<�
 use native.Mathlib.Omega.{arith}
 use lib.ListN.{length}
 use lib.Seq.{sets}
-use lib.Dec.{eqb, leb}
-use borrow.Author.Tests.{eq-eqb, ne_eqb, eqb-true, eqb-false, leb-true, leb-false}
+use lib.Dec.{eqb}
+use borrow.Author.Tests.{eq-eqb, ne_eqb, eqb-true, eqb-false}
 use Rattle.image_format.specs.Codes.{Operation, action}
 use Rattle.image_format.proofs.Codes.{code_below, count-few}
 use Rattle.program_tokens.specs.Kinds.{Kind, or_or, and_and, same, rank}
@@ -29,9 +29,9 @@ use Rattle.program_parser.specs.Tables.{between, right_depth, action_of, operato
 use Rattle.program_parser.specs.Meaning.{Denotes, Wrote}
 use Rattle.program_parser.specs.Reading.{success, answered, form_of, Good, Ready, ReadExpression, Reading}
 use Rattle.program_parser.proofs.Codes.{kind-back, decoded-back}
-use Rattle.program_operations.specs.Parts.{applied, applied_to, Suffixed, Continues}
+use Rattle.program_operations.specs.Parts.{applied, applied_to, Continues}
 use Rattle.program_operations.proofs.Readings.{good-earlier, after-right, at_right, ready_at, failed}
-use Rattle.program_operations.proofs.Suffixes.{Ends, suffix-read, suffixed-ok}
+use Rattle.program_operations.proofs.Suffixes.{suffix-read, suffixed-ok}
 use Rattle.program_operations.proofs.Primaries.{fits}
 use Rattle.program_operations.proofs.Matching.{token-of}
 use Rattle.program_operations.proofs.Operators.{plain-tree, both-tree, either-tree, both-other, either-other, both-wrote, either-wrote, tier-begun, and-tier, or-tier}

@@ -15,8 +15,8 @@ use Rattle.program_code.proofs.Flows.{size-length}
 use Rattle.program_words.specs.Words.{Fits, word}
 use Rattle.program_emitter.proofs.Stores.{sets-append}
 use Rattle.program_parser.specs.declared.read.Read.{Read}
-use Rattle.program_parser.specs.Meaning.{Denotes, Means, Spell, none_left, one_more, Wrote}
-use Rattle.program_parser.specs.Reading.{ReadExpression, Reading}
+use Rattle.program_parser.specs.Meaning.{Denotes, Spell, none_left, one_more, Wrote}
+use Rattle.program_parser.specs.Reading.{Reading}
 use Rattle.program_parser.proofs.Spelling.{spell-length, word-spells}
 
 -- every expression has an instruction

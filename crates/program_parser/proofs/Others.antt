@@ -1,10 +1,10 @@
 -- The tables of operators and functions, by the numbers of the kinds.
-use mathlib.Core.Path.{◌≡◌, refl, sym, ap, ◌∙◌}
-use mathlib.Core.Bool.{Bool, true, false, not, cond, ◌&&◌, ◌||◌}
+use mathlib.Core.Path.{◌≡◌, refl}
+use mathlib.Core.Bool.{Bool, true, false, not, cond, ◌&&◌}
 use mathlib.Core.Option.{Option, some, none}
 use Prim.Native.Nat.{ℕ, ◌<◌}
 use lib.Dec.{eqb, leb}
-use borrow.Author.Tests.{ne_eqb, eq-eqb}
+use borrow.Author.Tests.{ne_eqb}
 use Rattle.lists.proofs.Tests.{and-false}
 use Rattle.program_tokens.specs.Kinds.{rank, same, LENGTH, INDEX, SUBSTR, MATCH}
 use Rattle.program_tree.specs.Functions.{Function, function_in, function_of}

@@ -1,13 +1,12 @@
 -- What the place of a token stands for: a constant, a name or an ERE.
 use mathlib.Core.Path.{◌≡◌, refl, sym, ap, subst, ◌∙◌}
-use mathlib.Core.Bool.{Bool, true, false, cond, ◌||◌}
-use mathlib.Core.List.{List, [], ◌∷◌}
-use mathlib.Core.Logic.{◌⊎◌, inl, inr}
+use mathlib.Core.Bool.{true, false}
+use mathlib.Core.List.{List, ◌∷◌}
+use mathlib.Core.Logic.{inl, inr}
 use mathlib.Core.Option.{Option}
 use Prim.Native.Nat.{ℕ, suc, ◌<◌}
 use native.Mathlib.Omega.{arith}
 use lib.ListN.{drop}
-use lib.Dec.{eqb, leb}
 use borrow.Author.Tests.{eqb-true, lt-leb}
 use Rattle.lists.proofs.Tests.{clash, or_left, or_right}
 use Rattle.edition.specs.Limits.{filter_text}

@@ -10,7 +10,7 @@ use lib.ListN.{length}
 use lib.Seq.{sets}
 use Rattle.edition.specs.Outcomes.{size_passed}
 use Rattle.program_tokens.specs.Tokens.{Token}
-use Rattle.program_tree.specs.Tree.{Expression, Statement, if, if-else, while, next}
+use Rattle.program_tree.specs.Tree.{Expression, Statement, if, if-else, while}
 use Rattle.program_grammar.specs.Sets.{starts_statement}
 use Rattle.program_reader.specs.Read.{Read as Result, map, bind, past_newlines}
 use Rattle.program_reader.specs.Statements.{

@@ -1,5 +1,5 @@
 -- Internal: cited by private contracts only. Tables of entries: what each entry means, and the list of all.
-use Rattle.std.specs.Prelude.{Bool, cond, List, [], ◌∷◌, ℕ, zero, suc, ◌+◌, ◌*◌, ◌≤◌, ◌<◌, length, get_or, set, eqb, ltb}
+use Rattle.std.specs.Prelude.{Bool, cond, List, [], ◌∷◌, ℕ, zero, suc, ◌+◌, ◌*◌, ◌<◌, length, get_or, set, eqb, ltb}
 use Rattle.image_format.specs.Image.{Constant, number, text}
 use Rattle.program_tables.specs.declared.tables.Entry.{Entry}
 use Rattle.program_tables.specs.Texts.{value_in, Inside}

@@ -1,23 +1,19 @@
 -- What the reader's answer says of the translation.
 use mathlib.Core.Path.{◌≡◌, refl, sym, ap, subst, ◌∙◌}
-use mathlib.Core.Bool.{Bool, true, false, cond, ◌&&◌, ◌||◌}
-use mathlib.Core.Logic.{◌⊎◌, ⊎_elim}
+use mathlib.Core.Bool.{true, false, ◌||◌}
+use mathlib.Core.Logic.{⊎_elim}
 use mathlib.Core.List.{List, [], ◌∷◌, ◌++◌}
-use Prim.Native.Nat.{ℕ, suc, ◌+◌, ◌≤◌, ◌<◌}
+use Prim.Native.Nat.{ℕ, suc, ◌+◌, ◌≤◌}
 use native.Mathlib.Omega.{arith}
 use lib.ListN.{length, take, drop}
-use lib.Seq.{sets, sets-eq, take_at}
+use lib.Seq.{sets-eq, take_at}
 use lib.Dec.{leb, ltb}
 use borrow.Author.Tests.{lt-leb, ltb-true, ltb-false}
-use Rattle.lists.specs.Elements.{all}
 use Rattle.lists.proofs.Tests.{or_cases, or-false, and-false}
 use Rattle.edition.specs.Limits.{instruction_count}
 use Rattle.edition.specs.Outcomes.{size_passed}
 use Rattle.image_format.specs.Image.{Image}
-use Rattle.image_format.specs.Writing.{bytes_of}
 use Rattle.semantics.specs.Moves.{Section, begin, main, end}
-use Rattle.semantics.specs.Check.{small_constant}
-use Rattle.semantics.specs.World.{variable_count}
 use Rattle.program_tree.specs.Tree.{Program as Tree}
 use Rattle.program_reader.specs.Read.{Read, ok, no}
 use Rattle.program_reader.specs.Programs.{read_program}
@@ -26,13 +22,13 @@ use Rattle.program_code.specs.Sections.{section_code}
 use Rattle.program_parser.specs.Meaning.{Spell, Wrote}
 use Rattle.program_parser.proofs.Spelling.{spell-length}
 use Rattle.program_items.specs.declared.programs.Program.{Program}
-use Rattle.program_items.specs.Programs.{each, Translated, ReadingProgram}
+use Rattle.program_items.specs.Programs.{each, ReadingProgram}
 use Rattle.program_numbering.specs.Numbering.{Tables, tables_of, instructions, image_by, image_of}
 use Rattle.program_numbering.specs.Sizes.{fits}
 use Rattle.program_image.specs.Pictured.{Sectioned}
-use Rattle.program_image.specs.Fitting.{counts_fit, lengths_fit, sections_fit}
+use Rattle.program_image.specs.Fitting.{lengths_fit}
 use Rattle.program_image.proofs.Judged.{fits-apart}
-use Rattle.translation.specs.Translation.{refused, stored, sized, of_program}
+use Rattle.translation.specs.Translation.{refused, sized, of_program}
 use Rattle.translator.specs.ReadAs.{ReadAs}
 
 instructions-length : (t : Tables) (l : List Emitted) → length (instructions t l) ≡ length l

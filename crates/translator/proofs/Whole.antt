@@ -2,24 +2,21 @@
 use mathlib.Core.Path.{◌≡◌, refl, sym, ap, subst, ◌∙◌}
 use mathlib.Core.Bool.{Bool, true, false, cond, ◌&&◌}
 use mathlib.Core.List.{List, [], ◌∷◌, ◌++◌, map, map-append, append_assoc}
-use Prim.Native.Nat.{ℕ, ◌+◌, ◌-◌, ◌*◌, ◌≤◌, ◌<◌}
+use Prim.Native.Nat.{ℕ, ◌+◌, ◌-◌, ◌*◌, ◌≤◌}
 use native.Mathlib.Omega.{arith}
 use lib.ListN.{length, take, length-append, length-map}
-use lib.Dec.{eqb, leb, ltb}
-use borrow.Author.Tests.{le-leb, lt-leb, ltb-true, ltb-false, leb-true}
+use lib.Dec.{leb, ltb}
+use borrow.Author.Tests.{lt-leb, ltb-true, ltb-false, leb-true}
 use Rattle.lists.specs.Elements.{all}
 use Rattle.lists.proofs.Tests.{clash, and-false}
-use Rattle.edition.specs.Limits.{user_names, constant_count, ere_count}
+use Rattle.edition.specs.Limits.{constant_count, ere_count}
 use Rattle.edition.specs.Outcomes.{size_passed}
 use Rattle.image_format.specs.Image.{Constant, text, Image, Instruction}
 use Rattle.image_format.specs.Writing.{bytes_of}
 use Rattle.semantics.specs.Check.{small_constant}
 use Rattle.semantics.specs.Variables.{special_count}
 use Rattle.semantics.specs.Moves.{begin, main, end}
-use Rattle.program_tokens.specs.Words.{same_bytes}
-use Rattle.program_tokens.specs.Tokens.{Token}
 use Rattle.program_tree.specs.Tree.{Program}
-use Rattle.program_reader.specs.Read.{Read, ok}
 use Rattle.program_reader.specs.Programs.{read_program}
 use Rattle.program_code.specs.Emitted.{Operand, Emitted}
 use Rattle.program_code.specs.Sections.{section_code}
@@ -28,13 +25,13 @@ use Rattle.program_numbering.specs.Names.{with_new, users_of}
 use Rattle.program_numbering.specs.Numbering.{special_names, same_constant, constant_in, ere_in, operands_by, all_code, Tables, tables_of, instructions, image_by, image_of}
 use Rattle.program_numbering.specs.Sizes.{fits}
 use Rattle.program_numbering.proofs.Numbers.{Each, each-join}
-use Rattle.program_tables.specs.Tables.{AllInside, entries_from}
+use Rattle.program_tables.specs.Tables.{entries_from}
 use Rattle.program_entries.specs.Variables.{specials, Held, variables_of}
-use Rattle.program_image.specs.Written.{AllSmall, text_of, instruction_of, instructions_of}
+use Rattle.program_image.specs.Written.{AllSmall, text_of, instruction_of}
 use Rattle.program_image.specs.Pictured.{image_in, Tabled, Sectioned}
 use Rattle.program_image.specs.Fitting.{counts_fit, lengths_fit, sections_fit}
 use Rattle.program_image.proofs.Judged.{fits-apart, counts-within}
-use Rattle.program_numberer.specs.Numbered.{Holds, HoldsSome, things, numbered, list_after, ProgramNumbered, ProgramNumbers}
+use Rattle.program_numberer.specs.Numbered.{Holds, things, numbered, list_after, ProgramNumbered, ProgramNumbers}
 use Rattle.program_numberer.proofs.Lists.{none-new}
 use Rattle.program_numberer.proofs.Entering.{size, entries-length}
 use Rattle.translation.specs.Translation.{refused, stored, sized, of_program}

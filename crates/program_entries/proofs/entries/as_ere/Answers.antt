@@ -3,7 +3,6 @@ use mathlib.Core.Path.{sym, ◌∙◌}
 use native.Mathlib.Omega.{arith}
 use Rattle.program_lexer.proofs.Coding.{ere-inside}
 use Rattle.program_entries.proofs.Spans.{span_same, span-open, span-closed}
-use borrow.Author.Rules.{rules}
 use Rattle.program_entries.proofs.entries.as_ere.Goals as goal
 
 pub returns-then-t : goal.returns-then-t

@@ -5,7 +5,6 @@ use borrow.Author.Tests.{eq-eqb, ne_eqb}
 use Rattle.program_lexer.specs.declared.tokens.Token.{Token as Coded}
 use Rattle.program_tokens.specs.Kinds.{rank}
 use Rattle.program_entries.proofs.Placing.{number-inside, implied-stands, text-stands, number-stands}
-use borrow.Author.Rules.{rules}
 use Rattle.program_entries.proofs.entries.constant_at.Goals as goal
 
 pub returns-then-x-ge-FILTER_TEXT : goal.returns-then-x-ge-FILTER_TEXT

@@ -1,7 +1,6 @@
 -- `entry_at`: by the table.
 use borrow.Author.Tests.{eq-eqb, ne_eqb}
 use Rattle.program_entries.specs.Named.{named}
-use borrow.Author.Rules.{rules}
 use Rattle.program_entries.proofs.entries.entry_at.Goals as goal
 
 pub returns-then-what-eq-CONSTANTS : goal.returns-then-what-eq-CONSTANTS

@@ -8,7 +8,6 @@ use Rattle.program_lexer.specs.declared.tokens.Token.{Token as Coded}
 use Rattle.program_parser.specs.Meaning.{ere_at}
 use Rattle.program_entries.specs.Named.{Stands}
 use Rattle.program_entries.proofs.Spans.{span-ready, span-coded, starts, ere-none, ere-stands}
-use borrow.Author.Rules.{rules}
 use Rattle.program_entries.proofs.entries.ere_at.Goals as goal
 
 pub as_ere-t-requires : goal.as_ere-t-requires

@@ -1,6 +1,5 @@
 -- `name_entry`: a special variable, or a user's name.
 use Rattle.program_entries.proofs.Naming.{special-ready, special-stands, user-stands}
-use borrow.Author.Rules.{rules}
 use Rattle.program_entries.proofs.entries.name_entry.Goals as goal
 
 pub special-requires : goal.special-requires

@@ -3,7 +3,6 @@ use mathlib.Core.Path.{sym, ◌∙◌}
 use native.Mathlib.Omega.{arith}
 use borrow.Author.Tests.{eq-eqb, ne_eqb}
 use Rattle.program_entries.proofs.SpecialNames.{special-long, special-by}
-use borrow.Author.Rules.{rules}
 use Rattle.program_entries.proofs.entries.special.Goals as goal
 
 pub bounds-s-a : goal.bounds-s-a

@@ -2,7 +2,6 @@
 use mathlib.Core.Path.{sym, ◌∙◌}
 use native.Mathlib.Omega.{arith}
 use Rattle.program_entries.proofs.Strings.{string-closed, string-stands, string-open}
-use borrow.Author.Rules.{rules}
 use Rattle.program_entries.proofs.entries.string_entry.Goals as goal
 
 pub returns-in_default : goal.returns-in_default

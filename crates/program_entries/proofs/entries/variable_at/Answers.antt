@@ -6,7 +6,6 @@ use Rattle.program_parser.specs.Meaning.{token_from}
 use Rattle.program_parser.proofs.Codes.{decoded-back}
 use Rattle.program_entries.specs.Named.{variable_of, Stands, WordToken}
 use Rattle.program_entries.proofs.Placing.{word_at, past-stands}
-use borrow.Author.Rules.{rules}
 use Rattle.program_entries.proofs.entries.variable_at.Goals as goal
 
 pub returns-then-s-x : goal.returns-then-s-x

@@ -2,7 +2,6 @@
 use native.Mathlib.Omega.{arith}
 use Rattle.program_lexer.specs.Coded.{decoded}
 use Rattle.program_entries.proofs.Holding.{enter-skips, enter-user, enter-known, enter-new}
-use borrow.Author.Rules.{rules}
 use Rattle.program_entries.proofs.variables.enter_name.Goals as goal
 
 pub returns-then-t-table : goal.returns-then-t-table

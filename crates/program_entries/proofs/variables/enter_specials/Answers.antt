@@ -1,10 +1,9 @@
 -- `enter_specials`: a number a turn.
 use mathlib.Core.Path.{◌≡◌, refl, ap, ◌∙◌}
 use mathlib.Core.List.{List}
-use Prim.Native.Nat.{ℕ, ◌+◌, ◌*◌, ◌-◌, ◌≤◌}
+use Prim.Native.Nat.{ℕ, ◌+◌, ◌*◌}
 use native.Mathlib.Omega.{arith}
-use lib.ListN.{length, set, length-set}
-use borrow.Author.Rules.{rules}
+use lib.ListN.{set, length-set}
 use Rattle.program_entries.specs.Variables.{special_count, numbers_in}
 use Rattle.program_entries.proofs.Holding.{number_more}
 use Rattle.program_entries.proofs.variables.enter_specials.Goals as goal

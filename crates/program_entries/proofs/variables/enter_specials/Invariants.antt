@@ -1,12 +1,8 @@
 -- `enter_specials`: a number a turn.
-use mathlib.Core.Path.{◌≡◌, refl, ap, ◌∙◌}
-use mathlib.Core.List.{List}
-use Prim.Native.Nat.{ℕ, ◌+◌, ◌*◌, ◌-◌, ◌≤◌}
-use native.Mathlib.Omega.{arith}
-use lib.ListN.{length, set, length-set}
-use borrow.Author.Rules.{rules}
+use mathlib.Core.Path.{◌≡◌}
+use Prim.Native.Nat.{◌-◌, ◌≤◌}
+use lib.ListN.{length}
 use Rattle.program_entries.specs.Variables.{special_count, numbers_in}
-use Rattle.program_entries.proofs.Holding.{number_more}
 use Rattle.program_entries.proofs.variables.enter_specials.Given as goal
 
 abbrev pub invariant-loop-k : goal.invariant-loop-k

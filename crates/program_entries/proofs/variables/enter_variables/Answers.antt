@@ -1,9 +1,7 @@
 -- `enter_variables`: a token a turn.
-use mathlib.Core.Path.{◌≡◌, refl}
-use Prim.Native.Nat.{◌-◌}
-use lib.ListN.{length}
+use mathlib.Core.Path.{refl}
 use borrow.Author.Rules.{rules}
-use Rattle.program_entries.proofs.Turns.{Turn, first-ready, turn-first, turn_inside, turn-word, turn-few, turn-done, turn-less, turn_more}
+use Rattle.program_entries.proofs.Turns.{first-ready, turn-first, turn_inside, turn-word, turn-few, turn-done, turn-less, turn_more}
 use Rattle.program_entries.proofs.variables.enter_variables.Goals as goal
 
 pub enter_specials-requires : goal.enter_specials-requires

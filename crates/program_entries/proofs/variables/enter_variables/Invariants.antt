@@ -1,9 +1,8 @@
 -- `enter_variables`: a token a turn.
-use mathlib.Core.Path.{◌≡◌, refl}
+use mathlib.Core.Path.{◌≡◌}
 use Prim.Native.Nat.{◌-◌}
 use lib.ListN.{length}
-use borrow.Author.Rules.{rules}
-use Rattle.program_entries.proofs.Turns.{Turn, first-ready, turn-first, turn_inside, turn-word, turn-few, turn-done, turn-less, turn_more}
+use Rattle.program_entries.proofs.Turns.{Turn}
 use Rattle.program_entries.proofs.variables.enter_variables.Given as goal
 
 abbrev pub invariant-loop-t : goal.invariant-loop-t

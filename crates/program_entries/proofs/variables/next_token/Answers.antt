@@ -1,7 +1,6 @@
 -- `next_token`: the token after, up to its closing slash where an ERE follows.
 use mathlib.Core.Path.{sym, ◌∙◌}
 use Rattle.program_entries.proofs.Walking.{next-ready, next-ere, next-plain}
-use borrow.Author.Rules.{rules}
 use Rattle.program_entries.proofs.variables.next_token.Goals as goal
 
 pub as_ere-requires : goal.as_ere-requires

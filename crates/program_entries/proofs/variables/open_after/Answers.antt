@@ -2,7 +2,6 @@
 use mathlib.Core.Path.{sym, ◌∙◌}
 use borrow.Author.Tests.{eq-eqb, ne_eqb, le-leb, lt-leb}
 use Rattle.program_entries.proofs.Walking.{opens}
-use borrow.Author.Rules.{rules}
 use Rattle.program_entries.proofs.variables.open_after.Goals as goal
 
 pub returns-then-parens-eq0 : goal.returns-then-parens-eq0

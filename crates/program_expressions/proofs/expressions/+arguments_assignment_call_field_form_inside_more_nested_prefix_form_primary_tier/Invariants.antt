@@ -1,26 +1,10 @@
-use mathlib.Core.Path.{◌≡◌, refl, sym, ap, subst, ◌∙◌}
-use mathlib.Core.Bool.{true}
-use mathlib.Core.List.{[]}
-use Prim.Native.Nat.{ℕ, ◌+◌, ◌-◌, ◌*◌, ◌<◌}
-use native.Mathlib.Omega.{arith}
+use mathlib.Core.Path.{◌≡◌}
+use Prim.Native.Nat.{◌+◌, ◌-◌, ◌*◌}
 use lib.ListN.{length}
-use borrow.Author.Rules.{rules}
-use borrow.Author.Tests.{not-true, not-false}
-use Rattle.program_tree.specs.Functions.{function_of}
 use Rattle.program_reader.specs.Expressions.{tier as tier_of, inside as inside_of}
-use Rattle.program_lexer.specs.Coded.{decoded, kind_of, kind_count}
-use Rattle.program_parser.specs.declared.read.Read.{Read}
-use Rattle.program_parser.specs.declared.calls.Function.{Function}
-use Rattle.program_parser.specs.Reading.{closed_of, Ready}
-use Rattle.program_operations.specs.declared.parts.PendingCall.{PendingCall}
-use Rattle.program_operations.specs.Parts.{Suffixed, pending, Calls, arguments_left}
-use Rattle.program_operations.proofs.Readings.{ready-next, ready-operand, ready-fewer, refused-level, reading-fits, reading-ready}
-use Rattle.program_operations.proofs.Written.{reading-some}
-use Rattle.program_operations.proofs.Primaries.{fits, begun, prefix-small, primary-constant, primary-ere, primary-name, primary-called, primary-paren, field-read, field-other, prefix-read, prefix-other}
-use Rattle.program_expressions.proofs.Assignments.{assign-none, assign-name, assign-to-field}
-use Rattle.program_expressions.proofs.Calls.{left-few, left-falls, function-fits, function-completes, function-begun, call_none, call-refused, call-read, closed-count, calls-end, calls-comma, start-ready, calls-failed, calls-next, calls-no-ere, calls-ere}
-use Rattle.program_operations.proofs.Turns.{between-few, depth-few, right-ready, next-ready, next-further, Turning, turning-first, turning-stop, turning-failed, turning-single, turning-again}
-use Rattle.program_operations.proofs.Tiers.{inside-none, inside-read, read-fields, read-prefixed, tier-failed, read-matched, read-assigned, read_more}
+use Rattle.program_parser.specs.Reading.{Ready}
+use Rattle.program_operations.specs.Parts.{arguments_left}
+use Rattle.program_operations.proofs.Turns.{Turning}
 use Rattle.program_expressions.proofs.expressions.+arguments_assignment_call_field_form_inside_more_nested_prefix_form_primary_tier.Given as goal
 
 abbrev pub decreases-arguments : goal.decreases-arguments

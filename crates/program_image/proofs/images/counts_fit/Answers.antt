@@ -1,7 +1,6 @@
 -- `counts_fit`: the tests, by the number of special variables.
 use mathlib.Core.Path.{refl}
 use native.Mathlib.Omega.{arith}
-use borrow.Author.Rules.{rules}
 use Rattle.semantics.specs.Variables.{special_count}
 use Rattle.program_image.proofs.images.counts_fit.Goals as goal
 

@@ -1,6 +1,5 @@
 -- `sections_fit`: the answers for the three.
 use mathlib.Core.Path.{refl}
-use borrow.Author.Rules.{rules}
 use Rattle.program_image.proofs.images.sections_fit.Goals as goal
 
 pub returns : goal.returns

@@ -3,7 +3,6 @@ use mathlib.Core.Path.{sym, ap, subst, ◌∙◌}
 use mathlib.Core.Bool.{true}
 use Prim.Native.Nat.{ℕ}
 use lib.Dec.{leb}
-use borrow.Author.Rules.{rules}
 use Rattle.edition.specs.Limits.{text_bytes}
 use Rattle.semantics.specs.Check.{small_constant}
 use Rattle.program_tables.specs.declared.tables.Entry.{Entry}

@@ -1,10 +1,8 @@
 -- `constants_fit`: the entries that are left say what all do.
-use mathlib.Core.Path.{◌≡◌, sym, ◌∙◌}
-use Prim.Native.Nat.{◌-◌, ◌≤◌}
+use mathlib.Core.Path.{sym, ◌∙◌}
 use native.Mathlib.Omega.{arith}
-use borrow.Author.Rules.{rules}
 use borrow.Author.Tests.{not-true, not-false}
-use Rattle.program_image.proofs.Judged.{constants_fit, small-start, small-over, small-within, small-end}
+use Rattle.program_image.proofs.Judged.{small-start, small-over, small-within, small-end}
 use Rattle.program_image.proofs.sizes.constants_fit.Goals as goal
 use mathlib.Core.Path.{ap}
 use mathlib.Core.Bool.{not}

@@ -1,10 +1,7 @@
 -- `constants_fit`: the entries that are left say what all do.
-use mathlib.Core.Path.{◌≡◌, sym, ◌∙◌}
+use mathlib.Core.Path.{◌≡◌}
 use Prim.Native.Nat.{◌-◌, ◌≤◌}
-use native.Mathlib.Omega.{arith}
-use borrow.Author.Rules.{rules}
-use borrow.Author.Tests.{not-true, not-false}
-use Rattle.program_image.proofs.Judged.{constants_fit, small-start, small-over, small-within, small-end}
+use Rattle.program_image.proofs.Judged.{constants_fit}
 use Rattle.program_image.proofs.sizes.constants_fit.Given as goal
 
 abbrev pub invariant-loop-k : goal.invariant-loop-k

@@ -1,10 +1,6 @@
 -- `depths_fit`: the instructions that are left say what all do.
-use mathlib.Core.Path.{◌≡◌, refl, sym, ◌∙◌}
-use Prim.Native.Nat.{◌-◌, ◌≤◌}
+use mathlib.Core.Path.{refl, sym, ◌∙◌}
 use native.Mathlib.Omega.{arith}
-use borrow.Author.Rules.{rules}
-use Rattle.program_image.specs.Fitting.{depths_fit}
-use Rattle.program_image.proofs.Parts.{instructions_from}
 use Rattle.program_image.proofs.Judged.{depth-over, depth-within, depth-end}
 use Rattle.program_image.proofs.sizes.depths_fit.Goals as goal
 

@@ -1,11 +1,8 @@
 -- `depths_fit`: the instructions that are left say what all do.
-use mathlib.Core.Path.{◌≡◌, refl, sym, ◌∙◌}
+use mathlib.Core.Path.{◌≡◌}
 use Prim.Native.Nat.{◌-◌, ◌≤◌}
-use native.Mathlib.Omega.{arith}
-use borrow.Author.Rules.{rules}
 use Rattle.program_image.specs.Fitting.{depths_fit}
 use Rattle.program_image.proofs.Parts.{instructions_from}
-use Rattle.program_image.proofs.Judged.{depth-over, depth-within, depth-end}
 use Rattle.program_image.proofs.sizes.depths_fit.Given as goal
 
 abbrev pub invariant-loop-i : goal.invariant-loop-i

@@ -1,7 +1,6 @@
 -- `put_entry`: by kind.
 use mathlib.Core.Bool.{true}
 use native.Mathlib.Omega.{arith}
-use borrow.Author.Rules.{rules}
 use borrow.Author.Tests.{not-true, not-false}
 use Rattle.image_format.specs.Numbers.{coded}
 use Rattle.image_format.specs.Writing.{bytes}

@@ -2,7 +2,6 @@
 use mathlib.Core.Path.{sym, ap, ◌∙◌}
 use mathlib.Core.List.{◌++◌}
 use native.Mathlib.Omega.{arith}
-use borrow.Author.Rules.{rules}
 use Rattle.image_format.specs.Numbers.{coded}
 use Rattle.varint.proofs.Puts.{coded-short}
 use Rattle.program_words.specs.Words.{op_in, depth_in, first_in}

@@ -1,15 +1,15 @@
 -- `put_section`: what is left to write comes to the whole.
-use mathlib.Core.Path.{◌≡◌, refl}
-use Prim.Native.Nat.{◌+◌, ◌-◌, ◌*◌, ◌≤◌}
+use mathlib.Core.Path.{refl}
+use Prim.Native.Nat.{◌+◌}
 use native.Mathlib.Omega.{arith}
-use lib.ListN.{length, get_or}
+use lib.ListN.{get_or}
 use borrow.Author.Rules.{rules}
 use Rattle.image_format.specs.Numbers.{coded}
 use Rattle.image_format.specs.Writing.{instruction_in}
 use Rattle.varint.proofs.Puts.{coded-short}
 use Rattle.program_image.specs.Written.{instruction_of}
-use Rattle.program_image.proofs.Remaining.{Left, left-start, left-more, left-none, writes-by, writes-both}
-use Rattle.program_image.proofs.Parts.{instruction_most, code_left, code-next, code-none, instruction-short}
+use Rattle.program_image.proofs.Remaining.{left-start, left-more, left-none, writes-by, writes-both}
+use Rattle.program_image.proofs.Parts.{code_left, code-next, code-none, instruction-short}
 use Rattle.program_image.proofs.writing.put_section.Goals as goal
 
 pub put_number-at-requires : goal.put_number-at-requires

@@ -1,15 +1,9 @@
 -- `put_section`: what is left to write comes to the whole.
-use mathlib.Core.Path.{◌≡◌, refl}
+use mathlib.Core.Path.{◌≡◌}
 use Prim.Native.Nat.{◌+◌, ◌-◌, ◌*◌, ◌≤◌}
-use native.Mathlib.Omega.{arith}
-use lib.ListN.{length, get_or}
-use borrow.Author.Rules.{rules}
-use Rattle.image_format.specs.Numbers.{coded}
-use Rattle.image_format.specs.Writing.{instruction_in}
-use Rattle.varint.proofs.Puts.{coded-short}
-use Rattle.program_image.specs.Written.{instruction_of}
-use Rattle.program_image.proofs.Remaining.{Left, left-start, left-more, left-none, writes-by, writes-both}
-use Rattle.program_image.proofs.Parts.{instruction_most, code_left, code-next, code-none, instruction-short}
+use lib.ListN.{length}
+use Rattle.program_image.proofs.Remaining.{Left}
+use Rattle.program_image.proofs.Parts.{instruction_most, code_left}
 use Rattle.program_image.proofs.writing.put_section.Given as goal
 
 abbrev pub invariant-loop-i : goal.invariant-loop-i

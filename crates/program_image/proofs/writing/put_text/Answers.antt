@@ -2,7 +2,6 @@
 use mathlib.Core.Path.{ap}
 use native.Mathlib.Omega.{arith}
 use lib.ListN.{length}
-use borrow.Author.Rules.{rules}
 use Rattle.image_format.specs.Numbers.{coded}
 use Rattle.varint.proofs.Puts.{coded-short}
 use Rattle.program_tables.specs.Texts.{value_in}

@@ -1,5 +1,4 @@
 use Rattle.program_items.proofs.Patterns.{action-refused, action-read}
-use borrow.Author.Rules.{rules}
 use Rattle.program_items.proofs.programs.action.Goals as goal
 
 pub returns-then-t-ne-OPEN_BRACE : goal.returns-then-t-ne-OPEN_BRACE

@@ -3,7 +3,6 @@ use mathlib.Core.Bool.{Bool, ◌||◌}
 use native.Mathlib.Omega.{arith}
 use lib.Dec.{eqb}
 use Rattle.program_items.proofs.Patterns.{pattern-failed, pattern-ready, pattern-small, pattern-printed, pattern-unread, action-small, pattern-read}
-use borrow.Author.Rules.{rules}
 use Rattle.program_items.proofs.programs.guarded.Goals as goal
 
 pub returns-then-e-ne0 : goal.returns-then-e-ne0

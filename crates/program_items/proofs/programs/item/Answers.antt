@@ -1,7 +1,6 @@
 use native.Mathlib.Omega.{arith}
 use Rattle.semantics.specs.Moves.{begin as begin-section, main as main-section, end as end-section}
 use Rattle.program_items.proofs.Items.{action-ready, item-begun, item-ended, item-main}
-use borrow.Author.Rules.{rules}
 use Rattle.program_items.proofs.programs.item.Goals as goal
 
 pub action-b-requires : goal.action-b-requires

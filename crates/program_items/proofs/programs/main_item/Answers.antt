@@ -1,5 +1,4 @@
 use Rattle.program_items.proofs.Patterns.{main-action, main-guarded}
-use borrow.Author.Rules.{rules}
 use Rattle.program_items.proofs.programs.main_item.Goals as goal
 
 pub returns-then-t-eq-OPEN_BRACE : goal.returns-then-t-eq-OPEN_BRACE

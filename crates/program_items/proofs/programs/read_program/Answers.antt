@@ -1,15 +1,12 @@
-use mathlib.Core.Path.{◌≡◌, refl}
-use Prim.Native.Nat.{◌-◌}
+use mathlib.Core.Path.{refl}
 use native.Mathlib.Omega.{arith}
-use lib.ListN.{length}
-use borrow.Author.Rules.{rules}
 use Rattle.semantics.specs.Moves.{begin as begin-section, main as main-section, end as end-section}
 use Rattle.program_tokens.specs.Tokens.{token_at}
 use Rattle.program_parser.proofs.Tokens.{good-at}
 use Rattle.program_items.specs.Programs.{each}
 use Rattle.program_simple.proofs.Answers.{token-ready}
 use Rattle.program_items.proofs.Items.{each-section}
-use Rattle.program_items.proofs.Whole.{ProgramTurn, program-start, counts-small, program-done, program-onward, program-failed, item-ready, passed-ready, program-nearer, program-more}
+use Rattle.program_items.proofs.Whole.{program-start, counts-small, program-done, program-onward, program-failed, item-ready, passed-ready, program-nearer, program-more}
 use Rattle.program_items.proofs.programs.read_program.Goals as goal
 
 pub past_newlines-first-requires : goal.past_newlines-first-requires

@@ -1,7 +1,6 @@
 -- `as_operand`: a slash, or any other token.
 use mathlib.Core.Path.{◌∙◌}
 use Rattle.program_lexer.proofs.Coding.{operand_same, operand-ere}
-use borrow.Author.Rules.{rules}
 use Rattle.program_lexer.proofs.tokens.as_operand.Goals as goal
 
 pub returns-then-t : goal.returns-then-t

@@ -2,7 +2,6 @@
 use mathlib.Core.Path.{sym, ◌∙◌}
 use native.Mathlib.Omega.{arith}
 use Rattle.program_lexer.proofs.Coding.{ere-bad, ere-good, ere-unread, ere-inside}
-use borrow.Author.Rules.{rules}
 use Rattle.program_lexer.proofs.tokens.ere_at.Goals as goal
 
 pub returns-in_default : goal.returns-in_default

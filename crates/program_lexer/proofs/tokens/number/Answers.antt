@@ -2,7 +2,6 @@
 use mathlib.Core.Bool.{true, false}
 use native.Mathlib.Omega.{arith}
 use Rattle.program_lexer.proofs.Coding.{number-inside, number-coded}
-use borrow.Author.Rules.{rules}
 use Rattle.program_lexer.proofs.tokens.number.Goals as goal
 
 pub overflow_add-stop : goal.overflow_add-stop

@@ -1,6 +1,5 @@
 -- `operator`: two bytes, or else one.
 use Rattle.program_lexer.proofs.Coding.{operator-longer, operator-shorter}
-use borrow.Author.Rules.{rules}
 use Rattle.program_lexer.proofs.tokens.operator.Goals as goal
 
 pub returns-then-second-two : goal.returns-then-second-two

@@ -1,7 +1,6 @@
 -- `string`: by the place after its last quote.
 use mathlib.Core.Path.{sym, ◌∙◌}
 use Rattle.program_lexer.proofs.Coding.{string-bad, string-good}
-use borrow.Author.Rules.{rules}
 use Rattle.program_lexer.proofs.tokens.string.Goals as goal
 
 pub returns-in_default : goal.returns-in_default

@@ -1,7 +1,6 @@
 -- `token_after`: a `(` at once after a user name, or the next token.
 use mathlib.Core.Path.{◌∙◌}
 use native.Mathlib.Omega.{arith}
-use borrow.Author.Rules.{rules}
 use Rattle.program_lexer.proofs.Coding.{after_call, after-other, call-inside}
 use Rattle.program_lexer.proofs.tokens.token_after.Goals as goal
 

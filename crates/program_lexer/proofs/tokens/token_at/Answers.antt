@@ -1,5 +1,4 @@
 -- `token_at`: the token after blanks and comments.
-use borrow.Author.Rules.{rules}
 use Rattle.program_lexer.proofs.Coding.{at-coded}
 use Rattle.program_lexer.proofs.tokens.token_at.Goals as goal
 

@@ -1,7 +1,6 @@
 -- `token_of`: by its first byte.
 use mathlib.Core.Path.{◌∙◌}
 use Rattle.program_lexer.proofs.Coding.{of_end, of-newline, of_word, of_number, of-string, of-operator}
-use borrow.Author.Rules.{rules}
 use Rattle.program_lexer.proofs.tokens.token_of.Goals as goal
 
 pub returns-then-s-a : goal.returns-then-s-a

@@ -4,7 +4,6 @@ use lib.ListN.{drop, length-drop}
 use Rattle.lists.proofs.Leading.{leading_le}
 use Rattle.program_tokens.specs.Tokens.{is_word_byte}
 use Rattle.program_lexer.proofs.Coding.{word-coded}
-use borrow.Author.Rules.{rules}
 use Rattle.program_lexer.proofs.tokens.word.Goals as goal
 
 pub overflow_add-result : goal.overflow_add-result

@@ -1,9 +1,4 @@
-use mathlib.Core.Path.{◌≡◌, sym, ◌∙◌}
-use Prim.Native.Nat.{◌-◌}
-use lib.ListN.{length}
-use borrow.Author.Rules.{rules}
-use Rattle.program_lexer.specs.Coded.{kind_of, kind_count}
-use Rattle.program_newlines.specs.Passing.{passing, Passes}
+use mathlib.Core.Path.{sym, ◌∙◌}
 use Rattle.program_newlines.proofs.Passing.{pass-start, pass-done, pass-nearer, pass-more}
 use Rattle.program_newlines.proofs.newlines.past.Goals as goal
 

@@ -1,4 +1,3 @@
-use borrow.Author.Rules.{rules}
 use Rattle.program_newlines.proofs.Passing.{newlines-ready, newlines-again}
 use Rattle.program_newlines.proofs.newlines.past_newlines.Goals as goal
 

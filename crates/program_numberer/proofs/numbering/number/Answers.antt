@@ -1,5 +1,4 @@
 -- `number`: one section after the other.
-use native.Mathlib.Omega.{arith}
 use borrow.Author.Rules.{rules}
 use Rattle.program_numberer.proofs.Turns.{numbered-some, program-numbers}
 use Rattle.program_numberer.proofs.numbering.number.Goals as goal

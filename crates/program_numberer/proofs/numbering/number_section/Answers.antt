@@ -1,10 +1,9 @@
 -- `number_section`: a word a turn.
-use mathlib.Core.Path.{◌≡◌, refl, ◌∙◌}
-use Prim.Native.Nat.{◌-◌, ◌≤◌, ◌<◌}
+use mathlib.Core.Path.{refl}
+use Prim.Native.Nat.{◌<◌}
 use native.Mathlib.Omega.{arith}
 use lib.ListN.{length}
 use borrow.Author.Rules.{rules}
-use Rattle.program_numberer.specs.Numbered.{SectionNumbered}
 use Rattle.program_numberer.proofs.Turns.{section-start, section-room, section-some, section-more, section-done}
 use Rattle.program_numberer.proofs.numbering.number_section.Goals as goal
 

@@ -1,11 +1,8 @@
 -- `number_section`: a word a turn.
-use mathlib.Core.Path.{◌≡◌, refl, ◌∙◌}
-use Prim.Native.Nat.{◌-◌, ◌≤◌, ◌<◌}
-use native.Mathlib.Omega.{arith}
+use mathlib.Core.Path.{◌≡◌}
+use Prim.Native.Nat.{◌-◌, ◌≤◌}
 use lib.ListN.{length}
-use borrow.Author.Rules.{rules}
 use Rattle.program_numberer.specs.Numbered.{SectionNumbered}
-use Rattle.program_numberer.proofs.Turns.{section-start, section-room, section-some, section-more, section-done}
 use Rattle.program_numberer.proofs.numbering.number_section.Given as goal
 
 abbrev pub invariant-loop-i : goal.invariant-loop-i

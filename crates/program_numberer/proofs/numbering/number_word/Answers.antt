@@ -1,7 +1,6 @@
 -- `number_word`: a word that names nothing here, a thing that is there, or a new one.
 use mathlib.Core.Path.{refl}
 use native.Mathlib.Omega.{arith}
-use borrow.Author.Rules.{rules}
 use Rattle.program_numberer.proofs.Turns.{word-skipped, word-named, number_small, word-known, word-new}
 use Rattle.program_numberer.proofs.numbering.number_word.Goals as goal
 

@@ -1,5 +1,5 @@
 use borrow.Author.Rules.{rules}
-use mathlib.Core.Path.{◌≡◌, refl, sym, ap, subst, ◌∙◌}
+use mathlib.Core.Path.{sym, ap, subst, ◌∙◌}
 use mathlib.Core.List.{[], ◌∷◌}
 use Prim.Native.Nat.{ℕ, ◌+◌, ◌<◌}
 use lib.Seq.{sets}
@@ -12,13 +12,6 @@ use Rattle.program_parser.specs.Tables.{action_of}
 use Rattle.program_parser.specs.Reading.{answered}
 use Rattle.program_operations.proofs.Primaries.{fits}
 use Rattle.program_operations.proofs.Turns.{code-small}
-use Rattle.program_operations.proofs.operations.apply.Reads as reads
-use Rattle.program_operations.proofs.operations.apply.Lts as lts
-use Rattle.program_emitter.proofs.emit.Reads as emit-reads
-use Rattle.program_emitter.proofs.emit_both.Reads as emit-both-reads
-use Rattle.program_emitter.proofs.emit_either.Reads as emit-either-reads
-use Rattle.program_operators.proofs.operators.operator_code.Reads as operator-code-reads
-use Rattle.program_parser.proofs.read.ok.Reads as ok-reads
 use Rattle.program_operations.proofs.operations.apply.Goals as goal
 
 pub returns-then-kind-eq-AND_AND : goal.returns-then-kind-eq-AND_AND

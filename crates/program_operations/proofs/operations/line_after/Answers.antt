@@ -1,14 +1,9 @@
-use borrow.Author.Rules.{rules}
-use mathlib.Core.Path.{◌≡◌, refl, sym, ap, ◌∙◌}
+use mathlib.Core.Path.{ap, ◌∙◌}
 use Rattle.program_tokens.specs.Tokens.{Token, token_after}
 use Rattle.program_reader.specs.Read.{past_newlines}
 use Rattle.program_lexer.specs.Coded.{coded, decoded}
 use Rattle.program_parser.proofs.Codes.{decoded-back}
 use Rattle.program_operations.proofs.Readings.{token-ready}
-use Rattle.program_operations.proofs.operations.line_after.Reads as reads
-use Rattle.program_operations.proofs.operations.line_after.Lts as lts
-use Rattle.program_lexer.proofs.token_after.Reads as token-after-reads
-use Rattle.program_newlines.proofs.newlines.past_newlines.Reads as past-newlines-reads
 use Rattle.program_operations.proofs.operations.line_after.Goals as goal
 
 pub past_newlines-requires : goal.past_newlines-requires

@@ -1,15 +1,10 @@
-use borrow.Author.Rules.{rules}
-use mathlib.Core.Path.{◌≡◌, refl, sym, ap, ◌∙◌}
+use mathlib.Core.Path.{sym, ap, ◌∙◌}
 use Prim.Native.Nat.{ℕ}
 use borrow.Author.Tests.{eq-eqb, ne_eqb, le-leb, lt-leb}
 use Rattle.program_reader.specs.Expressions.{right_of}
 use Rattle.program_lexer.specs.Coded.{coded, decoded}
 use Rattle.program_lexer.proofs.Coding.{rank-of}
 use Rattle.program_operations.proofs.Readings.{at_right}
-use Rattle.program_operations.proofs.operations.right_of.Reads as reads
-use Rattle.program_operations.proofs.operations.right_of.Lts as lts
-use Rattle.program_operations.proofs.operations.line_after.Reads as line-after-reads
-use Rattle.program_parser.proofs.read.operand_after.Reads as operand-after-reads
 use Rattle.program_operations.proofs.operations.right_of.Goals as goal
 
 pub returns-then-tier-eq-CONCATENATIONS : goal.returns-then-tier-eq-CONCATENATIONS

@@ -1,10 +1,4 @@
-use borrow.Author.Rules.{rules}
 use Rattle.program_operations.proofs.Readings.{answered-as}
-use Rattle.program_operations.proofs.parts.ere.Reads as reads
-use Rattle.program_operations.proofs.parts.ere.Lts as lts
-use Rattle.program_emitter.proofs.emit_ere.Reads as emit-ere-reads
-use Rattle.program_lexer.proofs.token_after.Reads as token-after-reads
-use Rattle.program_parser.proofs.read.ok.Reads as ok-reads
 use Rattle.program_operations.proofs.parts.ere.Goals as goal
 
 pub returns : goal.returns

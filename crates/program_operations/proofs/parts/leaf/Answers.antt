@@ -1,10 +1,4 @@
-use borrow.Author.Rules.{rules}
 use Rattle.program_operations.proofs.Readings.{answered-as}
-use Rattle.program_operations.proofs.parts.leaf.Reads as reads
-use Rattle.program_operations.proofs.parts.leaf.Lts as lts
-use Rattle.program_emitter.proofs.emit.Reads as emit-reads
-use Rattle.program_lexer.proofs.token_after.Reads as token-after-reads
-use Rattle.program_parser.proofs.read.ok.Reads as ok-reads
 use Rattle.program_operations.proofs.parts.leaf.Goals as goal
 
 pub returns : goal.returns

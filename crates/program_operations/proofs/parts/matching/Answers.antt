@@ -1,5 +1,5 @@
 use borrow.Author.Rules.{rules}
-use mathlib.Core.Path.{◌≡◌, refl, sym, ap, ◌∙◌}
+use mathlib.Core.Path.{ap, ◌∙◌}
 use mathlib.Core.List.{[], ◌∷◌}
 use Prim.Native.Nat.{ℕ, ◌+◌}
 use native.Mathlib.Omega.{arith}
@@ -9,13 +9,6 @@ use Rattle.program_parser.specs.Reading.{answered}
 use Rattle.program_operations.proofs.Readings.{ready-operand}
 use Rattle.program_operations.proofs.Primaries.{fits}
 use Rattle.program_operations.proofs.Matching.{match_none, match-refused, match-tilde, match-not}
-use Rattle.program_operations.proofs.parts.matching.Reads as reads
-use Rattle.program_operations.proofs.parts.matching.Lts as lts
-use Rattle.program_emitter.proofs.emit.Reads as emit-reads
-use Rattle.program_lexer.proofs.token_after.Reads as token-after-reads
-use Rattle.program_parser.proofs.read.ok.Reads as ok-reads
-use Rattle.program_parser.proofs.read.operand_after.Reads as operand-after-reads
-use Rattle.program_parser.proofs.read.refuse.Reads as refuse-reads
 use Rattle.program_operations.proofs.parts.matching.Goals as goal
 
 pub returns-then-kind : goal.returns-then-kind

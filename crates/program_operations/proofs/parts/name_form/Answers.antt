@@ -1,7 +1,5 @@
-use mathlib.Core.Path.{◌≡◌, refl, sym, ap, ◌∙◌}
+use mathlib.Core.Path.{sym}
 use borrow.Author.Tests.{eq-eqb, ne_eqb}
-use Rattle.program_operations.proofs.parts.name_form.Reads as reads
-use Rattle.program_operations.proofs.parts.name_form.Lts as lts
 use Rattle.program_operations.proofs.parts.name_form.Goals as goal
 
 pub returns-then-kind-eq-FIXED_VARIABLE : goal.returns-then-kind-eq-FIXED_VARIABLE

@@ -1,13 +1,8 @@
-use borrow.Author.Rules.{rules}
-use mathlib.Core.Path.{◌≡◌, refl, sym, ap, ◌∙◌}
+use mathlib.Core.Path.{ap, ◌∙◌}
 use mathlib.Core.List.{[]}
 use Prim.Native.Nat.{ℕ}
 use Rattle.program_parser.specs.Reading.{answered}
 use Rattle.program_operations.proofs.Suffixes.{suffixed-ok, suffixed-no}
-use Rattle.program_operations.proofs.parts.suffix.Reads as reads
-use Rattle.program_operations.proofs.parts.suffix.Lts as lts
-use Rattle.program_emitter.proofs.emit.Reads as emit-reads
-use Rattle.program_parser.proofs.read.ok.Reads as ok-reads
 use Rattle.program_operations.proofs.parts.suffix.Goals as goal
 
 pub returns-then-r-ne0 : goal.returns-then-r-ne0

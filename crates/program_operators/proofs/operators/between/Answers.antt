@@ -1,6 +1,4 @@
 use borrow.Author.Tests.{eq-eqb, ne_eqb}
-use Rattle.program_operators.proofs.operators.between.Reads as reads
-use Rattle.program_operators.proofs.operators.between.Lts as lts
 use Rattle.program_operators.proofs.operators.between.Goals as goal
 
 pub returns-then-kind-eq-AND_AND : goal.returns-then-kind-eq-AND_AND

@@ -1,7 +1,3 @@
-use borrow.Author.Rules.{rules}
-use Rattle.program_operators.proofs.operators.joined_tier.Reads as reads
-use Rattle.program_operators.proofs.operators.joined_tier.Lts as lts
-use Rattle.program_parser.proofs.kinds.starts_joined.Reads as starts-joined-reads
 use Rattle.program_operators.proofs.operators.joined_tier.Goals as goal
 
 pub returns-then-starts_joined : goal.returns-then-starts_joined

@@ -3,8 +3,6 @@ use Rattle.program_code.specs.Emitted.{action_code, arithmetic_code, comparison_
 use Rattle.program_lexer.specs.Coded.{kind_of}
 use Rattle.program_parser.specs.Tables.{action_of}
 use Rattle.program_parser.proofs.Others.{other-code}
-use Rattle.program_operators.proofs.operators.operator_code.Reads as reads
-use Rattle.program_operators.proofs.operators.operator_code.Lts as lts
 use Rattle.program_operators.proofs.operators.operator_code.Goals as goal
 
 pub returns-in-45 : goal.returns-in-45

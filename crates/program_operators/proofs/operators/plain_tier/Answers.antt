@@ -3,10 +3,6 @@ use Rattle.program_tokens.specs.Kinds.{rank}
 use Rattle.program_reader.specs.Operators.{tier_of, operator_in}
 use Rattle.program_lexer.specs.Coded.{kind_of}
 use Rattle.program_parser.proofs.Others.{other-tier}
-use borrow.Author.Rules.{rules}
-use Rattle.program_operators.proofs.operators.plain_tier.Reads as reads
-use Rattle.program_operators.proofs.operators.plain_tier.Lts as lts
-use Rattle.program_operators.proofs.operators.joined_tier.Reads as joined-tier-reads
 use Rattle.program_operators.proofs.operators.plain_tier.Goals as goal
 
 pub returns-in-60 : goal.returns-in-60

@@ -4,8 +4,6 @@ use Rattle.program_code.specs.Emitted.{action_code}
 use Rattle.program_code.specs.Expressions.{prefix_action}
 use Rattle.program_lexer.specs.Coded.{kind_of}
 use Rattle.program_parser.proofs.Others.{other-prefix}
-use Rattle.program_operators.proofs.operators.prefix_code.Reads as reads
-use Rattle.program_operators.proofs.operators.prefix_code.Lts as lts
 use Rattle.program_operators.proofs.operators.prefix_code.Goals as goal
 
 pub returns-in-51 : goal.returns-in-51

@@ -1,6 +1,3 @@
-use borrow.Author.Rules.{rules}
-use Rattle.program_operators.proofs.operators.right_depth.Reads as reads
-use Rattle.program_operators.proofs.operators.right_depth.Lts as lts
 use Rattle.program_operators.proofs.operators.right_depth.Goals as goal
 
 pub returns-then-kind : goal.returns-then-kind

@@ -1,9 +1,5 @@
 use mathlib.Core.Path.{◌∙◌}
 use Rattle.program_parser.proofs.Others.{barred, not-barred}
-use borrow.Author.Rules.{rules}
-use Rattle.program_operators.proofs.operators.tier_of.Reads as reads
-use Rattle.program_operators.proofs.operators.tier_of.Lts as lts
-use Rattle.program_operators.proofs.operators.plain_tier.Reads as plain-tier-reads
 use Rattle.program_operators.proofs.operators.tier_of.Goals as goal
 
 pub returns-then-printed-kind : goal.returns-then-printed-kind

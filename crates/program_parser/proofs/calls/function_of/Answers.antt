@@ -1,14 +1,6 @@
 use mathlib.Core.Path.{◌∙◌}
-use Rattle.program_tokens.specs.Kinds.{rank}
-use Rattle.program_tree.specs.Functions.{function_in}
-use Rattle.program_code.specs.Emitted.{action_code}
 use Rattle.program_lexer.specs.Coded.{kind_of}
-use Rattle.program_parser.specs.Tables.{function_action, shapes_code, shape_code}
 use Rattle.program_parser.proofs.Others.{no-function, length-function, index-function, substr-function, match-function}
-use borrow.Author.Rules.{rules}
-use Rattle.program_parser.proofs.calls.function_of.Reads as reads
-use Rattle.program_parser.proofs.calls.function_of.Lts as lts
-use Rattle.program_parser.proofs.calls.with_since.Reads as with-since-reads
 use Rattle.program_parser.proofs.calls.function_of.Goals as goal
 
 pub returns-in-29 : goal.returns-in-29

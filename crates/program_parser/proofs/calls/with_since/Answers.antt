@@ -1,6 +1,4 @@
 use borrow.Author.Tests.{le-leb, lt-leb}
-use Rattle.program_parser.proofs.calls.with_since.Reads as reads
-use Rattle.program_parser.proofs.calls.with_since.Lts as lts
 use Rattle.program_parser.proofs.calls.with_since.Goals as goal
 
 pub returns-then-since-edition : goal.returns-then-since-edition

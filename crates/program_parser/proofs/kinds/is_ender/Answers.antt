@@ -1,6 +1,4 @@
 use Rattle.program_parser.proofs.Sets.{ender-kind}
-use Rattle.program_parser.proofs.kinds.is_ender.Reads as reads
-use Rattle.program_parser.proofs.kinds.is_ender.Lts as lts
 use Rattle.program_parser.proofs.kinds.is_ender.Goals as goal
 
 pub returns : goal.returns

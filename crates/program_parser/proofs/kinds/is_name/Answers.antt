@@ -1,6 +1,4 @@
 use Rattle.program_parser.proofs.Sets.{name-kind}
-use Rattle.program_parser.proofs.kinds.is_name.Reads as reads
-use Rattle.program_parser.proofs.kinds.is_name.Lts as lts
 use Rattle.program_parser.proofs.kinds.is_name.Goals as goal
 
 pub returns : goal.returns

@@ -1,6 +1,4 @@
 use Rattle.program_parser.proofs.Sets.{prefix-kind}
-use Rattle.program_parser.proofs.kinds.is_prefix.Reads as reads
-use Rattle.program_parser.proofs.kinds.is_prefix.Lts as lts
 use Rattle.program_parser.proofs.kinds.is_prefix.Goals as goal
 
 pub returns : goal.returns

@@ -1,6 +1,4 @@
 use Rattle.program_parser.proofs.Sets.{form-kind}
-use Rattle.program_parser.proofs.kinds.starts_form.Reads as reads
-use Rattle.program_parser.proofs.kinds.starts_form.Lts as lts
 use Rattle.program_parser.proofs.kinds.starts_form.Goals as goal
 
 pub returns : goal.returns

@@ -2,11 +2,6 @@ use Rattle.program_tree.specs.Functions.{function_of}
 use Rattle.program_grammar.specs.Sets.{starts_joined}
 use Rattle.program_lexer.specs.Coded.{kind_of}
 use Rattle.program_parser.proofs.Others.{coded-function}
-use borrow.Author.Rules.{rules}
-use Rattle.program_parser.proofs.kinds.starts_joined.Reads as reads
-use Rattle.program_parser.proofs.kinds.starts_joined.Lts as lts
-use Rattle.program_parser.proofs.calls.function_of.Reads as function-of-reads
-use Rattle.program_parser.proofs.kinds.starts_operand.Reads as starts-operand-reads
 use Rattle.program_parser.proofs.kinds.starts_joined.Goals as goal
 
 pub returns : goal.returns

@@ -1,10 +1,5 @@
 use Rattle.program_grammar.specs.Sets.{starts_statement}
 use Rattle.program_parser.proofs.Sets.{next-kind}
-use borrow.Author.Rules.{rules}
-use Rattle.program_parser.proofs.kinds.starts_statement.Reads as reads
-use Rattle.program_parser.proofs.kinds.starts_statement.Lts as lts
-use Rattle.program_parser.proofs.kinds.starts_expression.Reads as starts-expression-reads
-use Rattle.program_parser.proofs.kinds.starts_form.Reads as starts-form-reads
 use Rattle.program_parser.proofs.kinds.starts_statement.Goals as goal
 
 pub returns : goal.returns

@@ -1,10 +1,4 @@
 use Rattle.program_parser.proofs.Codes.{closed-no, closed-refused, closed-ok}
-use borrow.Author.Rules.{rules}
-use Rattle.program_parser.proofs.read.closed.Reads as reads
-use Rattle.program_parser.proofs.read.closed.Lts as lts
-use Rattle.program_lexer.proofs.token_after.Reads as token-after-reads
-use Rattle.program_parser.proofs.read.ok.Reads as ok-reads
-use Rattle.program_parser.proofs.read.refuse.Reads as refuse-reads
 use Rattle.program_parser.proofs.read.closed.Goals as goal
 
 pub returns-then-r-ne0 : goal.returns-then-r-ne0

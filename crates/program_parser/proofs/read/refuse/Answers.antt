@@ -2,10 +2,6 @@ use mathlib.Core.Path.{ap, ◌∙◌}
 use Prim.Native.Nat.{ℕ}
 use Rattle.program_parser.specs.Reading.{refusal}
 use Rattle.program_parser.proofs.Codes.{refused-bad, refused-ere, refused-place}
-use borrow.Author.Rules.{rules}
-use Rattle.program_parser.proofs.read.refuse.Reads as reads
-use Rattle.program_parser.proofs.read.refuse.Lts as lts
-use Rattle.program_parser.proofs.read.no.Reads as no_reads
 use Rattle.program_parser.proofs.read.refuse.Goals as goal
 
 pub returns-then-kind-eq-BAD : goal.returns-then-kind-eq-BAD

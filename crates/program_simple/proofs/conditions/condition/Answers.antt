@@ -1,7 +1,6 @@
 use native.Mathlib.Omega.{arith}
 use Rattle.program_simple.proofs.Answers.{expression-known}
 use Rattle.program_simple.proofs.Choosing.{condition-unopened, condition-ready, condition-closed}
-use borrow.Author.Rules.{rules}
 use Rattle.program_simple.proofs.conditions.condition.Goals as goal
 
 pub returns-then-u-ne-OPEN_PAREN : goal.returns-then-u-ne-OPEN_PAREN

@@ -1,7 +1,4 @@
-use Prim.Native.Nat.{◌-◌}
-use lib.ListN.{length}
-use borrow.Author.Rules.{rules}
-use Rattle.program_simple.proofs.Choosing.{ElseTurn, else-start, else-none, else-found, else-nearer, else-more}
+use Rattle.program_simple.proofs.Choosing.{else-start, else-none, else-found, else-nearer, else-more}
 use Rattle.program_simple.proofs.conditions.else_after.Goals as goal
 
 pub loop-ended-init : goal.loop-ended-init

@@ -1,7 +1,6 @@
 use Prim.Native.Nat.{◌-◌}
 use lib.ListN.{length}
-use borrow.Author.Rules.{rules}
-use Rattle.program_simple.proofs.Choosing.{ElseTurn, else-start, else-none, else-found, else-nearer, else-more}
+use Rattle.program_simple.proofs.Choosing.{ElseTurn}
 use Rattle.program_simple.proofs.conditions.else_after.Given as goal
 
 abbrev pub invariant-loop-ended : goal.invariant-loop-ended

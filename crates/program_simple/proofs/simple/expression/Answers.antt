@@ -1,6 +1,5 @@
 use native.Mathlib.Omega.{arith}
 use Rattle.program_simple.proofs.Printing.{count_small, expression-refused, expression-dropped}
-use borrow.Author.Rules.{rules}
 use Rattle.program_simple.proofs.simple.expression.Goals as goal
 
 pub returns-then-r-ne0 : goal.returns-then-r-ne0

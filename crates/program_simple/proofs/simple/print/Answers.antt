@@ -1,6 +1,5 @@
 use mathlib.Core.Path.{sym, ◌∙◌}
 use Rattle.program_simple.proofs.Printing.{print-ready, print-listed, print-bare}
-use borrow.Author.Rules.{rules}
 use Rattle.program_simple.proofs.simple.print.Goals as goal
 
 pub starts_expression-requires : goal.starts_expression-requires

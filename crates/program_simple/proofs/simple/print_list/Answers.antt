@@ -1,9 +1,6 @@
-use mathlib.Core.Path.{◌≡◌, refl}
-use Prim.Native.Nat.{◌-◌}
+use mathlib.Core.Path.{refl}
 use native.Mathlib.Omega.{arith}
-use lib.ListN.{length}
-use borrow.Author.Rules.{rules}
-use Rattle.program_simple.proofs.Printing.{ListTurn, list-start, list-failed, list-small, list_done, list-passing, list-nearer, list-more}
+use Rattle.program_simple.proofs.Printing.{list-start, list-failed, list-small, list_done, list-passing, list-nearer, list-more}
 use Rattle.program_simple.proofs.simple.print_list.Goals as goal
 
 pub loop-edition-init : goal.loop-edition-init

@@ -1,9 +1,7 @@
-use mathlib.Core.Path.{◌≡◌, refl}
+use mathlib.Core.Path.{◌≡◌}
 use Prim.Native.Nat.{◌-◌}
-use native.Mathlib.Omega.{arith}
 use lib.ListN.{length}
-use borrow.Author.Rules.{rules}
-use Rattle.program_simple.proofs.Printing.{ListTurn, list-start, list-failed, list-small, list_done, list-passing, list-nearer, list-more}
+use Rattle.program_simple.proofs.Printing.{ListTurn}
 use Rattle.program_simple.proofs.simple.print_list.Given as goal
 
 abbrev pub invariant-loop-edition : goal.invariant-loop-edition

@@ -1,7 +1,6 @@
 use Rattle.program_tokens.specs.Tokens.{token_after}
 use Rattle.program_lexer.specs.Coded.{decoded}
 use Rattle.program_simple.proofs.Answers.{answers}
-use borrow.Author.Rules.{rules}
 use Rattle.program_simple.proofs.simple.single.Goals as goal
 
 pub returns : goal.returns

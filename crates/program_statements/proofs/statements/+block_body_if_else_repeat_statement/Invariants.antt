@@ -1,17 +1,9 @@
-use Rattle.program_statements.proofs.Blocks.{turn-nearer, turn_more}
-use mathlib.Core.Path.{◌≡◌, refl, sym, ◌∙◌}
-use Prim.Native.Nat.{ℕ, ◌+◌, ◌*◌, ◌-◌, ◌<◌}
-use native.Mathlib.Omega.{arith}
+use mathlib.Core.Path.{◌≡◌}
+use Prim.Native.Nat.{◌+◌, ◌*◌, ◌-◌}
 use lib.ListN.{length}
-use borrow.Author.Rules.{rules}
 use Rattle.program_reader.specs.Statements.{statement_at}
 use Rattle.program_lexer.specs.Coded.{decoded}
-use Rattle.program_simple.specs.Statements.{body_of}
-use Rattle.program_simple.proofs.Answers.{statement-known}
-use Rattle.program_statements.proofs.Cases.{kind-block, kind-print, kind-expression}
-use Rattle.program_statements.proofs.Forms.{statement-is, block-deep, after-ready, if-read, while-read, empty-read, exit_read, next-read}
-use Rattle.program_statements.proofs.Blocks.{BlockTurn, first-token, first-place, block-begun, block-ready, block-done, line-nearer, block-line, statement-ready, block-failed}
-use Rattle.program_statements.proofs.Bodies.{body-ready, body-deep, body-bad, body-read, if-unmet, while-unmet, then_ready, met-small, then-failed, while-failed, done-small, done-ready, while-done, if-done, else-ready, else-failed, other-small, else-done}
+use Rattle.program_statements.proofs.Blocks.{BlockTurn}
 use Rattle.program_statements.proofs.statements.+block_body_if_else_repeat_statement.Given as goal
 
 abbrev pub decreases-block : goal.decreases-block

@@ -1,6 +1,5 @@
 use mathlib.Core.Path.{sym, ◌∙◌}
 use Rattle.program_statements.proofs.Blocks.{followed_same, followed-ended, followed-closed, followed-refused}
-use borrow.Author.Rules.{rules}
 use Rattle.program_statements.proofs.statements.followed.Goals as goal
 
 pub returns-then-r : goal.returns-then-r

@@ -1,6 +1,5 @@
 -- `enter`: the number that is found, and the entry stored where none is.
-use mathlib.Core.Path.{◌≡◌, refl}
-use borrow.Author.Rules.{rules}
+use mathlib.Core.Path.{refl}
 use Rattle.program_tables.specs.Tables.{with_entry}
 use Rattle.program_tables.proofs.Entries.{entered-new, entered-old}
 use Rattle.program_tables.proofs.tables.enter.Goals as goal

@@ -1,12 +1,10 @@
 -- `find`: the number is what was passed and what is left of it.
-use mathlib.Core.Path.{◌≡◌, sym, subst, ap, ◌∙◌}
-use Prim.Native.Nat.{◌+◌, ◌-◌, ◌≤◌}
+use mathlib.Core.Path.{sym, subst, ap, ◌∙◌}
 use native.Mathlib.Omega.{arith}
-use borrow.Author.Rules.{rules}
 use Rattle.program_numbering.specs.Numbering.{same_constant}
 use Rattle.program_tables.specs.declared.tables.Entry.{Entry}
 use Rattle.program_tables.specs.Tables.{meant, InsideText}
-use Rattle.program_tables.proofs.Entries.{Number, number-starts, number-found, number_more, number-none}
+use Rattle.program_tables.proofs.Entries.{number-starts, number-found, number_more, number-none}
 use Rattle.program_tables.proofs.tables.find.Goals as goal
 
 pub loop-k-init : goal.loop-k-init

@@ -1,12 +1,8 @@
 -- `find`: the number is what was passed and what is left of it.
-use mathlib.Core.Path.{◌≡◌, sym, subst, ap, ◌∙◌}
+use mathlib.Core.Path.{◌≡◌}
 use Prim.Native.Nat.{◌+◌, ◌-◌, ◌≤◌}
-use native.Mathlib.Omega.{arith}
-use borrow.Author.Rules.{rules}
-use Rattle.program_numbering.specs.Numbering.{same_constant}
-use Rattle.program_tables.specs.declared.tables.Entry.{Entry}
-use Rattle.program_tables.specs.Tables.{meant, InsideText}
-use Rattle.program_tables.proofs.Entries.{Number, number-starts, number-found, number_more, number-none}
+use Rattle.program_tables.specs.Tables.{meant}
+use Rattle.program_tables.proofs.Entries.{Number}
 use Rattle.program_tables.proofs.tables.find.Given as goal
 
 abbrev pub invariant-loop-k : goal.invariant-loop-k

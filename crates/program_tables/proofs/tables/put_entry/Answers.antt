@@ -1,6 +1,5 @@
 -- `put_entry`: both words, or none.
-use mathlib.Core.Path.{◌≡◌, sym}
-use borrow.Author.Rules.{rules}
+use mathlib.Core.Path.{sym}
 use Rattle.program_tables.proofs.Entries.{stored, no_room}
 use Rattle.program_tables.proofs.tables.put_entry.Goals as goal
 

@@ -1,6 +1,5 @@
 -- `same_entry`: numbers by value, texts by their bytes.
-use mathlib.Core.Path.{◌≡◌, sym, ◌∙◌}
-use borrow.Author.Rules.{rules}
+use mathlib.Core.Path.{sym, ◌∙◌}
 use Rattle.program_tables.proofs.Entries.{number_same, text-number, text_same}
 use Rattle.program_tables.proofs.tables.same_entry.Goals as goal
 

@@ -1,12 +1,9 @@
 -- `put_value`: the room with what is left from the index on is the room with the whole value.
-use mathlib.Core.Path.{◌≡◌, refl, sym, ap, ◌∙◌}
+use mathlib.Core.Path.{◌≡◌}
 use Prim.Native.Nat.{◌+◌, ◌-◌, ◌≤◌}
-use native.Mathlib.Omega.{arith}
 use lib.ListN.{length}
-use borrow.Author.Rules.{rules}
 use Rattle.varint.specs.Room.{with_all}
 use Rattle.program_tables.specs.Texts.{value_in}
-use Rattle.program_tables.proofs.Values.{value-end, put_next, put-none}
 use Rattle.program_tables.proofs.texts.put_value.Given as goal
 
 abbrev pub invariant-loop-i : goal.invariant-loop-i

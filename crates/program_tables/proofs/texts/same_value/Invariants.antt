@@ -1,13 +1,8 @@
 -- `same_value`: what is left of both is equal as the whole of both is.
-use mathlib.Core.Path.{◌≡◌, refl, sym, ◌∙◌}
-use Prim.Native.Nat.{◌+◌, ◌-◌, ◌≤◌}
-use native.Mathlib.Omega.{arith}
-use borrow.Author.Rules.{rules}
-use borrow.Author.Tests.{ltb-true}
-use Rattle.lists.proofs.Tests.{and-true}
+use mathlib.Core.Path.{◌≡◌}
+use Prim.Native.Nat.{◌-◌, ◌≤◌}
 use Rattle.program_tokens.specs.Words.{same_bytes}
 use Rattle.program_tables.specs.Texts.{value_in}
-use Rattle.program_tables.proofs.Values.{both-inside, same_next, same_differs, same_ends}
 use Rattle.program_tables.proofs.texts.same_value.Given as goal
 
 abbrev pub invariant-loop-i : goal.invariant-loop-i

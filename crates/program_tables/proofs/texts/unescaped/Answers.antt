@@ -1,8 +1,7 @@
 -- `unescaped`: the byte that is spelled, or the byte itself.
-use mathlib.Core.Path.{◌≡◌, refl, sym, ap, ◌∙◌}
+use mathlib.Core.Path.{◌≡◌, sym, ap, ◌∙◌}
 use mathlib.Core.Option.{Option}
 use Prim.Native.Nat.{ℕ}
-use borrow.Author.Rules.{rules}
 use Rattle.ere_grammar.specs.Escapes.{escaped_of}
 use Rattle.ere_grammar.specs.declared.Escaped.{Escaped}
 use Rattle.program_tables.specs.Texts.{byte_or}

@@ -1,9 +1,8 @@
 -- `value_at`: an escape, or any other byte.
-use mathlib.Core.Path.{◌≡◌, sym, ap, ◌∙◌}
+use mathlib.Core.Path.{sym, ap, ◌∙◌}
 use mathlib.Core.List.{◌∷◌}
 use Prim.Native.Nat.{ℕ, ◌+◌}
 use native.Mathlib.Omega.{arith}
-use borrow.Author.Rules.{rules}
 use Rattle.program_tables.specs.Texts.{value_in}
 use Rattle.program_tables.proofs.Values.{value-escape, value-plain, escape-inside}
 use Rattle.program_tables.proofs.texts.value_at.Goals as goal

@@ -1,10 +1,7 @@
 -- `value_length`: what is counted and what is left are the value's bytes.
-use mathlib.Core.Path.{◌≡◌, ap}
-use Prim.Native.Nat.{◌+◌, ◌-◌, ◌≤◌}
+use mathlib.Core.Path.{ap}
 use native.Mathlib.Omega.{arith}
 use lib.ListN.{length}
-use borrow.Author.Rules.{rules}
-use Rattle.program_tables.specs.Texts.{value_in}
 use Rattle.program_tables.proofs.Values.{value-end}
 use Rattle.program_tables.proofs.texts.value_length.Goals as goal
 

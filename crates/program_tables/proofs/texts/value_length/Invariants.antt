@@ -1,11 +1,8 @@
 -- `value_length`: what is counted and what is left are the value's bytes.
-use mathlib.Core.Path.{◌≡◌, ap}
+use mathlib.Core.Path.{◌≡◌}
 use Prim.Native.Nat.{◌+◌, ◌-◌, ◌≤◌}
-use native.Mathlib.Omega.{arith}
 use lib.ListN.{length}
-use borrow.Author.Rules.{rules}
 use Rattle.program_tables.specs.Texts.{value_in}
-use Rattle.program_tables.proofs.Values.{value-end}
 use Rattle.program_tables.proofs.texts.value_length.Given as goal
 
 abbrev pub invariant-loop-i : goal.invariant-loop-i

@@ -3,7 +3,6 @@ use mathlib.Core.Path.{sym, ◌∙◌}
 use native.Mathlib.Omega.{arith}
 use borrow.Author.Tests.{not-true, not-false}
 use Rattle.program_writer.proofs.Storing.{judged-counts, judged-depths, judged-constants, judged-fits}
-use borrow.Author.Rules.{rules}
 use Rattle.program_writer.proofs.writing.write_fitting.Goals as goal
 use mathlib.Core.Path.{ap}
 use mathlib.Core.Bool.{not}

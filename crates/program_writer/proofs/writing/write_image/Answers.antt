@@ -1,6 +1,5 @@
 -- `write_image`: a first pass that only measures, and a second one that writes.
 use Rattle.program_writer.proofs.Storing.{nothing_lent, stored-small, stored-done}
-use borrow.Author.Rules.{rules}
 use Rattle.program_writer.proofs.writing.write_image.Goals as goal
 
 pub returns-then-image-n : goal.returns-then-image-n

@@ -3,7 +3,6 @@ use mathlib.Core.Path.{◌∙◌}
 use mathlib.Core.Bool.{true, false}
 use mathlib.Core.List.{[]}
 use native.Mathlib.Omega.{arith}
-use borrow.Author.Rules.{rules}
 use Rattle.program_entries.specs.Variables.{variables_of}
 use Rattle.translator.proofs.Whole.{none-held, variables-hold}
 use Rattle.translator.proofs.numbering.number_words.Goals as goal

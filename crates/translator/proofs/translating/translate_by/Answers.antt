@@ -1,7 +1,6 @@
 -- `translate_by`: the refusals of a text as a whole come first.
 use Rattle.program_writer.proofs.Storing.{too_long, nul-there, no_nul}
 use native.Mathlib.Omega.{arith}
-use borrow.Author.Rules.{rules}
 use Rattle.translator.proofs.translating.translate_by.Goals as goal
 
 pub returns-then-text-gt-FILTER_TEXT : goal.returns-then-text-gt-FILTER_TEXT

@@ -1,6 +1,5 @@
 -- `translate_text`: a refusal, a section that is too long, or the words of a program.
 use mathlib.Core.Path.{refl}
-use borrow.Author.Rules.{rules}
 use Rattle.translator.proofs.Answers.{text-refused, text-long, lengths-within, text-read, section-of}
 use Rattle.translator.proofs.translating.translate_text.Goals as goal
 

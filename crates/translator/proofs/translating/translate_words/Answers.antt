@@ -1,7 +1,5 @@
 -- `translate_words`: tables of its own, the words by number, and the image.
 use mathlib.Core.Path.{refl, ◌∙◌}
-use native.Mathlib.Omega.{arith}
-use borrow.Author.Rules.{rules}
 use Rattle.translator.proofs.Whole.{tabulated-ready, tabulated-answer, still-sectioned}
 use Rattle.translator.proofs.translating.translate_words.Goals as goal
 
