@@ -13,13 +13,7 @@ pub fn flowawk_split(record: &[u8], fs: &[u8], count: &mut u64) -> u64
 }
 
 // Finds field k of a record, by the first edition: the outcome of splitting it, and the field's place and length.
-pub fn flowawk_field(
-    record: &[u8],
-    fs: &[u8],
-    k: u64,
-    start: &mut u64,
-    length: &mut u64,
-) -> u64
+pub fn flowawk_field(record: &[u8], fs: &[u8], k: u64, start: &mut u64, length: &mut u64) -> u64
     ensures { (result ≡ (count_of (split_of first_edition fs.now «record».now)).outcome)
         × (span start.new length.new
         ≡ field_of first_edition fs.now «record».now k) }
