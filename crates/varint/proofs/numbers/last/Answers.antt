@@ -15,4 +15,3 @@ overflow_mul-n c = omega (arith, group-fits c.args.scale c.args.g c.requires.1 c
 
 pub overflow_add-n : goal.overflow_add-n
 overflow_add-n c = omega (arith, group-fits c.args.scale c.args.g c.requires.1 c.requires.2)
-
