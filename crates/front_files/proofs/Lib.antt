@@ -1,0 +1,2 @@
+-- Laws on files.
+pub mod Rooms

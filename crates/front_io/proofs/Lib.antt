@@ -1,0 +1,2 @@
+-- Proofs that several functions use.
+pub mod Loads
