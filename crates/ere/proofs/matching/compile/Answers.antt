@@ -39,4 +39,4 @@ returns c =
     let same : c.put_first_bytes.new.t ≡ finished u g.entry.first g.entry.later =
     c.put_first_bytes.ensures ∙ ap sealed (c.put_row-2.ensures ∙ ap (λ (x : List ℕ). with_row x 1 g.entry.later) c.put_row.ensures) in
     subst (λ (x : List ℕ). Compiles d l x true) (sym same)
-    (compiles-some (q.read o).0 (group-whole d l a.t.now u g c.if-end-gt-ERE_BYTES.false q o c.if-g-end.false) (group-serves d l a.t.now u g c.if-end-gt-ERE_BYTES.false q o full))
+    (compiles-some (q.read o).0 (group-whole d l a.t.now u g c.if-end-gt-ERE_BYTES.false q o (omega arith)) (group-serves d l a.t.now u g c.if-end-gt-ERE_BYTES.false q o full))

@@ -13,7 +13,7 @@ pub returns-then-whole-gt-NUMBER : goal.returns-then-whole-gt-NUMBER
 returns-then-whole-gt-NUMBER c = record { answer = sym (judged-over _ _ _ c.if-whole-gt-NUMBER.true); bounded = tt }
 
 pub returns-then-fraction-gt0 : goal.returns-then-fraction-gt0
-returns-then-fraction-gt0 c = record { answer = sym (judged-broken _ _ _ c.if-whole-gt-NUMBER.false c.if-fraction-gt0.true); bounded = tt }
+returns-then-fraction-gt0 c = record { answer = sym (judged-broken _ _ _ (omega arith) c.if-fraction-gt0.true); bounded = tt }
 
 pub returns-then-negative : goal.returns-then-negative
 returns-then-negative c =
