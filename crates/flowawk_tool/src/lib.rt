@@ -2,7 +2,9 @@
 #![tactic(auto)]
 
 mod acting;
+mod exported;
 mod growing;
 
 pub use acting::tool;
+pub use exported::flowawk_main;
 pub use growing::tool_growing;
