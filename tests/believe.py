@@ -138,7 +138,7 @@ STATEMENTS = {
 TO_COME = {'sound', 'sound_cases'}
 
 NAME = r"[^\s(){};,.λ\"⌜⌝⟦⟧]+"
-USE = re.compile(r"^\s*(?:ghost )?use Rattle·([a-z_]+)(?:·specs\.specs|\.specs)\.([A-Za-z]+)(?:\.\{([^}]*)\}|\s+as\s+\S+)?;?\s*$")
+USE = re.compile(r"^\s*(?:ghost )?use Rattle\.([a-z_]+)\.specs\.([A-Za-z]+)(?:\.\{([^}]*)\}|\s+as\s+\S+)?;?\s*$")
 DECLARES = re.compile(r"^(?:(?:abbrev|unfoldable|pub) )*(data|record)? ?(%s)" % NAME)
 
 
