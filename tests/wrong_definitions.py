@@ -130,7 +130,7 @@ WRONG = [
     ('set field leaves field text', ACTION,
      [('(λ w. gives (effect (a ∷ []) w)))', '(λ w. gives (effect (field_text (text_of a) ∷ []) w)))')]),
     ('fields above NF are the empty text', ACTION,
-     [('getD w.current.fields k unset', 'getD w.current.fields k (text [])')]),
+     [('get_or w.current.fields k unset', 'get_or w.current.fields k (text [])')]),
     ('gaps filled by growth as text', ACTION,
      [('replicate (k - length fs) unset', 'replicate (k - length fs) (text [])')]),
     ('fields joined with ORS', ACTION,

@@ -26,6 +26,8 @@ fn status(rt: &HostRuntime) -> Result<u64, AllocError> {
     let mut content = Vec::new(rt.alloc());
     let mut lines = Growing::new(rt.alloc(), LINES);
     let mut output = Growing::new(rt.alloc(), OUTPUT);
+    // a first room, so that what prints little runs once
+    output.grow();
     let mut work = [0u8; Edition::WORKING_ROOM];
     Ok(flowawk_tool::tool_growing(
         rt,
