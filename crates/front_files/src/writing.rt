@@ -3,8 +3,8 @@ ghost use Rattle.std.specs.Prelude.{◌≤◌, length, OnOk};
 ghost use Rattle.std.specs.Io.KnownBytes.{Appends};
 ghost use Rattle.front_files.specs.Filling.{WrittenFrom, TakenFrom};
 
+use std::hint;
 use std::io::{Error, ErrorKind, Result, Write};
-use std::thread;
 
 // What one write did: it took this many bytes, or the call failed.
 #[derive(Drop)]
@@ -14,14 +14,14 @@ enum WriteStep {
 }
 
 // Tells whether a call that failed is to be made again: a signal interrupted it, or a descriptor that does not block
-// takes nothing yet. In the second case another process is let run first: there is no call that waits.
+// takes nothing yet. There is no call that waits.
 fn again(error: &Error) -> bool {
     let kind = error.kind();
     if kind == ErrorKind::Interrupted {
         return true;
     }
     if kind == ErrorKind::WouldBlock {
-        thread::yield_now();
+        hint::spin_loop();
         return true;
     }
     false
