@@ -43,7 +43,8 @@ fn status(rt: &HostRuntime) -> Result<u64, AllocError> {
 
 fn main(rt: HostRuntime) -> ExitCode {
     match status(&rt) {
-        Ok(s) => ExitCode::from(s as u8),
+        // the system takes the low byte of a status
+        Ok(s) => ExitCode::from((s % 256) as u8),
         Err(_) => {
             front_io::say(&rt, b"flowawk: Cannot allocate memory\n");
             ExitCode::from(74)
