@@ -2,3 +2,4 @@
 pub mod Parsing
 pub mod Elements
 pub mod Digit
+pub mod Answers
