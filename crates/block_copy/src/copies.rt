@@ -3,40 +3,13 @@ ghost use Rattle.std.specs.Prelude.{◌≡◌, ◌+◌, ◌≤◌, ◌<◌, leng
 ghost use Rattle.buffer.specs.Parts.{part, put};
 ghost use Rattle.block_copy.specs.Rounded.{blocks};
 
-use little_endian::{get_word, put_word};
-
-// Copies the 16 bytes of `src` from index `from` on into `dst` from index `to` on. All are read before one is written.
-fn copy_16(dst: &mut [u8], to: usize, src: &[u8], from: usize)
-    requires { (to + 16 ≤ length dst.old) × (from + 16 ≤ length src.now) }
-    ensures { dst.new ≡ put dst.old to (part from 16 src.now) }
+// Copies the `N` bytes of `src` from index `from` on into `dst` from index `to` on. All are read before one is written:
+// 4, 8 or 16 bytes are compiled to one read and one write.
+fn copy_block<const N: usize>(dst: &mut [u8], to: usize, src: &[u8], from: usize)
+    requires { (to + N ≤ length dst.old) × (from + N ≤ length src.now) }
+    ensures { dst.new ≡ put dst.old to (part from N src.now) }
 {
-    let a = get_word(src, from);
-    let b = get_word(src, from + 8);
-    put_word(dst, to, a);
-    put_word(dst, to + 8, b);
-}
-
-// Copies eight bytes in the same way.
-fn copy_8(dst: &mut [u8], to: usize, src: &[u8], from: usize)
-    requires { (to + 8 ≤ length dst.old) × (from + 8 ≤ length src.now) }
-    ensures { dst.new ≡ put dst.old to (part from 8 src.now) }
-{
-    put_word(dst, to, get_word(src, from));
-}
-
-// Copies four bytes in the same way; they are compiled to one read and one write.
-fn copy_4(dst: &mut [u8], to: usize, src: &[u8], from: usize)
-    requires { (to + 4 ≤ length dst.old) × (from + 4 ≤ length src.now) }
-    ensures { dst.new ≡ put dst.old to (part from 4 src.now) }
-{
-    let a = src[from];
-    let b = src[from + 1];
-    let c = src[from + 2];
-    let d = src[from + 3];
-    dst[to] = a;
-    dst[to + 1] = b;
-    dst[to + 2] = c;
-    dst[to + 3] = d;
+    buffer::copy(dst, to, &buffer::bytes_at::<N>(src, from));
 }
 
 // Copies at most three bytes: the first, the middle and the last one, which may be the same. No branch tells one from
@@ -58,24 +31,24 @@ pub fn copy_few(dst: &mut [u8], at: usize, src: &[u8])
     dst[at + last] = c;
 }
 
-// Copies at most 16 bytes: the first eight and the last eight, which may overlap, or four and four, or byte by byte.
+// Copies at most 16 bytes: the first eight and the last eight, which may overlap, or four and four, or at most three.
 pub fn copy_short(dst: &mut [u8], at: usize, src: &[u8])
     requires { (at + length src.now ≤ length dst.old) × (length src.now ≤ 16) }
     ensures { dst.new ≡ put dst.old at src.now }
 {
     if src.len() < 4 {
-        buffer::copy(dst, at, src);
+        copy_few(dst, at, src);
         return;
     }
     if src.len() <= 8 {
         let last = src.len() - 4;
-        copy_4(dst, at, src, 0);
-        copy_4(dst, at + last, src, last);
+        copy_block::<4>(dst, at, src, 0);
+        copy_block::<4>(dst, at + last, src, last);
         return;
     }
     let last = src.len() - 8;
-    copy_8(dst, at, src, 0);
-    copy_8(dst, at + last, src, last);
+    copy_block::<8>(dst, at, src, 0);
+    copy_block::<8>(dst, at + last, src, last);
 }
 
 // Copies all of `src` into `dst` from index `at` on: blocks of 16 bytes, and the last 16 bytes, which may overlap the
@@ -89,12 +62,10 @@ pub fn copy(dst: &mut [u8], at: usize, src: &[u8])
         return;
     }
     let last = src.len() - 16;
-    let mut k = 0;
-    while k < last {
-        copy_16(dst, at + k, src, k);
-        k += 16;
+    for k in (0..last).step_by(16) {
+        copy_block::<16>(dst, at + k, src, k);
     }
-    copy_16(dst, at + last, src, last);
+    copy_block::<16>(dst, at + last, src, last);
 }
 
 // Copies `n` bytes of `src` from index `from` on into `dst` from index `at` on, and those after them up to a multiple
@@ -103,10 +74,8 @@ fn copy_over_long(dst: &mut [u8], at: usize, src: &[u8], from: usize, n: usize)
     requires { (at + n + 15 ≤ length dst.old) × (from + n + 15 ≤ length src.now) }
     ensures { dst.new ≡ put dst.old at (part from (blocks n) src.now) }
 {
-    let mut k = 0;
-    while k < n {
-        copy_16(dst, at + k, src, from + k);
-        k += 16;
+    for k in (0..n).step_by(16) {
+        copy_block::<16>(dst, at + k, src, from + k);
     }
 }
 
@@ -120,6 +89,6 @@ pub fn copy_over(dst: &mut [u8], at: usize, src: &[u8], from: usize, n: usize)
         return;
     }
     if 0 < n {
-        copy_16(dst, at, src, from);
+        copy_block::<16>(dst, at, src, from);
     }
 }

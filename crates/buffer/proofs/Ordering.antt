@@ -1,14 +1,20 @@
 -- Laws on the order of byte strings, and on the test for equal ones.
 use mathlib.Core.Path.{◌≡◌, refl, sym, ap, ap₂, ◌∙◌}
-use mathlib.Core.Bool.{Bool, true, false, false≢true}
+use mathlib.Core.Bool.{Bool, true, false, false≢true, cond, ◌&&◌}
 use mathlib.Core.List.{List, [], ◌∷◌, ◌++◌, append-nil}
 use Prim.Native.Nat.{ℕ, ◌+◌, ◌<◌}
 use native.Mathlib.Decide.{ℕ_discrete, dec_lt}
 use native.Mathlib.Omega.{arith}
+use lib.Dec.{eqb}
 use lib.ListN.{length, drop, get_or}
+use lib.Pointwise.{pointwise}
 use borrow.Author.Tests.{lt-ltb, le-ltb, eq-eqb, ne_eqb}
-use Rattle.buffer.specs.Order.{ordering, equal_bytes, swapped, Before, shorter, lower}
-use Rattle.buffer.specs.declared.search.Order.TheVariants.{Less, Equal, Greater}
+use Rattle.std.specs.declared.cmp.Ordering.TheVariants.{Less, Equal, Greater}
+use Rattle.std.specs.declared.cmp.Ordering.{Ordering}
+use Rattle.std.specs.Ordering.{ordering_reverse, ordering_then, nat_cmp}
+use Rattle.std.specs.Cmp.{nat_cmp_is}
+use Rattle.std.specs.Cmp.Lexicographic.{slice_cmp}
+use Rattle.buffer.specs.Order.{ordering, equal_bytes, Before, shorter, lower}
 use Rattle.buffer.proofs.Parts.{drop-next}
 
 -- ---- the test for equal strings holds of these alone
@@ -28,6 +34,18 @@ same_self (x ∷ a) = rw (eq-eqb x x refl) (same_self a)
 
 pub same-equal : (a b : List ℕ) → a ≡ b → equal_bytes a b ≡ true
 same-equal a b e = ap (equal_bytes a) (sym e) ∙ same_self a
+
+-- the library's test of slices, by the one of bytes, is the test
+both : (u v : Bool) → (u && v) ≡ cond u v false
+both true v = refl
+both false v = refl
+
+pub slices-equal : (a b : List ℕ) → pointwise eqb a b ≡ equal_bytes a b
+unfolding equal_bytes
+slices-equal [] [] = refl
+slices-equal [] (y ∷ b) = refl
+slices-equal (x ∷ a) [] = refl
+slices-equal (x ∷ a) (y ∷ b) = both (eqb x y) (pointwise eqb a b) ∙ ap (λ (v : Bool). cond (eqb x y) v false) (slices-equal a b)
 
 -- a test that cannot hold fails
 pub unless : (t : Bool) → (t ≡ true → ⊥) → t ≡ false
@@ -80,6 +98,19 @@ module _ (a b : List ℕ) (k : ℕ) (ha : k < length a) (hb : k < length b) wher
   pub same_at : get_or a k 0 ≡ get_or b k 0 → ordering (drop k a) (drop k b) ≡ ordering (drop (k + 1) a) (drop (k + 1) b)
   same_at h = both-next ∙ ordering-on _ _ _ _ h
 
+-- the library's comparison of slices, by the one of bytes
+pub slices-ordering : (a b : List ℕ) → slice_cmp nat_cmp a b ≡ ordering a b
+unfolding ordering
+slices-ordering [] [] = refl
+slices-ordering [] (y ∷ b) = refl
+slices-ordering (x ∷ a) [] = refl
+slices-ordering (x ∷ a) (y ∷ b) =
+    let first = λ (r : Ordering) (is : r ≡ nat_cmp x y). ap (λ (q : Ordering). ordering_then q (slice_cmp nat_cmp a b)) (sym is) in
+    by_order x y
+    (λ l. first Less (nat_cmp_is x y Less l) ∙ sym (ordering-less x y a b l))
+    (λ m. first Greater (nat_cmp_is x y Greater m) ∙ sym (ordering-more x y a b m))
+    (λ e. first Equal (nat_cmp_is x y Equal e) ∙ slices-ordering a b ∙ sym (ordering-on x y a b e))
+
 -- a common front does not count
 pub ordering-front : (p a b : List ℕ) → ordering (p ++ a) (p ++ b) ≡ ordering a b
 ordering-front [] a b = refl
@@ -101,17 +132,17 @@ pub same-ordering : (a b : List ℕ) → a ≡ b → ordering a b ≡ Equal
 unfolding ordering
 same-ordering a b e = ap (ordering a) (sym e) ∙ ap₂ ordering (sym (append-nil a)) (sym (append-nil a)) ∙ ordering-front a [] []
 
--- read from the other side the order is swapped
-pub ordering-swap : (a b : List ℕ) → ordering b a ≡ swapped (ordering a b)
+-- read from the other side the order is reversed
+pub ordering-swap : (a b : List ℕ) → ordering b a ≡ ordering_reverse (ordering a b)
 unfolding ordering
 ordering-swap [] [] = refl
 ordering-swap [] (y ∷ b) = refl
 ordering-swap (x ∷ a) [] = refl
 ordering-swap (x ∷ a) (y ∷ b) =
     by_order x y
-    (λ l. ordering-more y x b a l ∙ ap swapped (sym (ordering-less x y a b l)))
-    (λ m. ordering-less y x b a m ∙ ap swapped (sym (ordering-more x y a b m)))
-    (λ e. ordering-on y x b a (sym e) ∙ ordering-swap a b ∙ ap swapped (sym (ordering-on x y a b e)))
+    (λ l. ordering-more y x b a l ∙ ap ordering_reverse (sym (ordering-less x y a b l)))
+    (λ m. ordering-less y x b a m ∙ ap ordering_reverse (sym (ordering-more x y a b m)))
+    (λ e. ordering-on y x b a (sym e) ∙ ordering-swap a b ∙ ap ordering_reverse (sym (ordering-on x y a b e)))
 
 -- ---- less in order is what comes before
 

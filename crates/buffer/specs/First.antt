@@ -3,8 +3,6 @@ use Rattle.std.specs.Prelude.{ℕ, suc, ◌+◌, ◌≤◌, ◌≡◌, Bool, con
 use Rattle.std.proofs.Math.Option.{Option, some, none}
 use Rattle.buffer.specs.Order.{equal_bytes}
 use Rattle.buffer.specs.Parts.{part}
-use Rattle.buffer.specs.declared.search.Found.{Found}
-use Rattle.buffer.specs.declared.search.Found.TheVariants.{At, Nothing}
 
 -- how many bytes are before the first b; all of them where there is no b
 unfoldable pub first_byte : ℕ → List ℕ → ℕ
@@ -38,8 +36,3 @@ pub record FirstAt (t s : List ℕ) (k : ℕ) : Type 0 where
 abbrev pub IsFirst : List ℕ → List ℕ → Option ℕ → Type 0
 IsFirst t s (some k) = FirstAt t s k
 IsFirst t s none = (j : ℕ) → Stands t s j → ⊥
-
--- what an answer says
-abbrev pub found_of : Found → Option ℕ
-found_of (At k) = some k
-found_of Nothing = none

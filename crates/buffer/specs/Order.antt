@@ -1,20 +1,14 @@
 -- Document 01, "Values": texts are compared "of unsigned bytes, the shorter first": dictionary order, a proper prefix
 -- first.
 use Rattle.std.specs.Prelude.{ℕ, ◌<◌, ◌≡◌, Bool, true, false, cond, List, [], ◌∷◌, ◌++◌, ltb, eqb}
-use Rattle.buffer.specs.declared.search.Order.{Order}
-use Rattle.buffer.specs.declared.search.Order.TheVariants.{Less, Equal, Greater}
+use Rattle.std.specs.declared.cmp.Ordering.{Ordering}
+use Rattle.std.specs.declared.cmp.Ordering.TheVariants.{Less, Equal, Greater}
 
-unfoldable pub ordering : List ℕ → List ℕ → Order
+unfoldable pub ordering : List ℕ → List ℕ → Ordering
 ordering [] [] = Equal
 ordering [] (y ∷ b) = Less
 ordering (x ∷ a) [] = Greater
 ordering (x ∷ a) (y ∷ b) = cond (ltb x y) Less (cond (ltb y x) Greater (ordering a b))
-
--- the order read from the other side
-abbrev pub swapped : Order → Order
-swapped Less = Greater
-swapped Equal = Equal
-swapped Greater = Less
 
 -- a comes before b: b goes on where a ends, or at the first place where they differ a has the lower byte
 pub data Before (a b : List ℕ) : Type 0 where

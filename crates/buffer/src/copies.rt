@@ -7,11 +7,17 @@ pub fn copy(dst: &mut [u8], at: usize, src: &[u8])
     requires { at + length src.now ≤ length dst.old }
     ensures { dst.new ≡ put dst.old at src.now }
 {
-    let mut k = 0;
-    while k < src.len() {
-        dst[at + k] = src[k];
-        k += 1;
-    }
+    dst[at..at + src.len()].copy_from_slice(src);
+}
+
+// Returns the `N` bytes of `s` from index `at` on.
+pub fn bytes_at<const N: usize>(s: &[u8], at: usize) -> [u8; N]
+    requires { at + N ≤ length s.now }
+    ensures { result ≡ part at N s.now }
+{
+    let mut bytes = [0; N];
+    bytes.copy_from_slice(&s[at..at + N]);
+    bytes
 }
 
 // Copies the `n` bytes from index `from` to index `to`, as if by way of another buffer: the two parts may overlap.
@@ -19,35 +25,7 @@ pub fn copy_within(s: &mut [u8], from: usize, to: usize, n: usize)
     requires { (from + n ≤ length s.old) × (to + n ≤ length s.old) }
     ensures { s.new ≡ put s.old to (part from n s.old) }
 {
-    if to <= from {
-        copy_down(s, from, to, n);
-    } else {
-        copy_up(s, from, to, n);
-    }
-}
-
-// Copies to a lower index, the first byte first: no byte is overwritten before it is read.
-fn copy_down(s: &mut [u8], from: usize, to: usize, n: usize)
-    requires { (from + n ≤ length s.old) × (to ≤ from) }
-    ensures { s.new ≡ put s.old to (part from n s.old) }
-{
-    let mut k = 0;
-    while k < n {
-        s[to + k] = s[from + k];
-        k += 1;
-    }
-}
-
-// Copies to a higher index, the last byte first: no byte is overwritten before it is read.
-fn copy_up(s: &mut [u8], from: usize, to: usize, n: usize)
-    requires { (to + n ≤ length s.old) × (from ≤ to) }
-    ensures { s.new ≡ put s.old to (part from n s.old) }
-{
-    let mut k = n;
-    while 0 < k {
-        k -= 1;
-        s[to + k] = s[from + k];
-    }
+    s.copy_within(from..from + n, to);
 }
 
 // Fills `n` bytes from index `at` on with `b`.
@@ -55,9 +33,5 @@ pub fn fill(s: &mut [u8], at: usize, n: usize, b: u8)
     requires { at + n ≤ length s.old }
     ensures { s.new ≡ put s.old at (replicate n b) }
 {
-    let mut k = 0;
-    while k < n {
-        s[at + k] = b;
-        k += 1;
-    }
+    s[at..at + n].fill(b);
 }

@@ -4,5 +4,5 @@
 mod copies;
 mod search;
 
-pub use copies::{copy, copy_within, fill};
-pub use search::{Found, Order, compare, equal, first_byte};
+pub use copies::{bytes_at, copy, copy_within, fill};
+pub use search::{compare, equal, first_byte};

@@ -28,18 +28,16 @@ fn first_pair_by_1(s: &[u8], at: usize, a: u8, b: u8) -> usize
     requires { at ≤ length s.now }
     ensures { result ≡ at + leading (neither a b) (drop at s.now) }
 {
-    let mut k = at;
-    while k < s.len() {
+    for k in at..s.len() {
         if is_either(s[k], a, b) {
             return k;
         }
-        k += 1;
     }
-    k
+    s.len()
 }
 
 // Returns the index of the first `a` or `b` from index `at` on, or the length of `s`: eight bytes at a time, and one by
-// one at the end.
+// one at the end. No `for` over a `step_by`: the search goes on from the index that the loop ends at.
 pub fn first_of_two(s: &[u8], at: usize, a: u8, b: u8) -> usize
     requires { at ≤ length s.now }
     ensures { result ≡ at + leading (neither a b) (drop at s.now) }
@@ -60,14 +58,12 @@ pub fn past_two(s: &[u8], at: usize, a: u8, b: u8) -> usize
     requires { at ≤ length s.now }
     ensures { result ≡ at + leading (one_of (a ∷ b ∷ [])) (drop at s.now) }
 {
-    let mut k = at;
-    while k < s.len() {
+    for k in at..s.len() {
         if !is_either(s[k], a, b) {
             return k;
         }
-        k += 1;
     }
-    k
+    s.len()
 }
 
 // Returns the index of the first `b` from index `at` on, or the length of `s`: as `first_of_two`, which suits short

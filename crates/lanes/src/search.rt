@@ -36,7 +36,7 @@ fn first_in_32(s: &[u8], at: usize, b: u8) -> usize
 }
 
 // Finds the first `b`, which is at index `from` or after it, eight bytes at a time. The last eight may overlap those
-// before them.
+// before them. A loop with a `step_by` tests twice at each step: it took a tenth longer.
 fn first_by_8(s: &[u8], b: u8, from: usize) -> usize
     requires { (8 ≤ length s.now) × (from ≤ first_byte b s.now) }
     ensures { result ≡ first_byte b s.now }
@@ -53,7 +53,8 @@ fn first_by_8(s: &[u8], b: u8, from: usize) -> usize
     last + first_in_8(s, last, b)
 }
 
-// Finds the first `b`, which is at index `from` or after it, by blocks of 32 bytes, and after them by eight.
+// Finds the first `b`, which is at index `from` or after it, by blocks of 32 bytes, and after them by eight. No `for`
+// over a `step_by`: the search goes on from the index that the loop ends at.
 fn first_by_32(s: &[u8], b: u8, from: usize) -> usize
     requires { (8 ≤ length s.now) × (from ≤ first_byte b s.now) }
     ensures { result ≡ first_byte b s.now }

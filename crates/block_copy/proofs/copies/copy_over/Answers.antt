@@ -1,16 +1,12 @@
 -- `copy_over` meets its contract: one block, none, or one after the other.
 use native.Mathlib.Omega.{arith}
 use Rattle.block_copy.proofs.Copied.{over_none, over-end}
-use borrow.Author.Rules.{rules}
 use Rattle.block_copy.proofs.copies.copy_over.Goals as goal
-
-pub copy_16-requires : goal.copy_16-requires
-copy_16-requires c = (omega arith, omega arith)
 
 pub returns-then-n-gt0 : goal.returns-then-n-gt0
 returns-then-n-gt0 c =
     let a = c.args in
-    over-end a.dst.now a.at a.src.now a.from a.n 16 (omega arith) c.copy_16.ensures
+    over-end a.dst.now a.at a.src.now a.from a.n 16 (omega arith) c.copy_block.ensures
 
 pub returns-else-n-gt0 : goal.returns-else-n-gt0
 returns-else-n-gt0 c =

@@ -1,69 +1,7 @@
--- `compare` meets its contract: k bytes are passed, and the order of what is left is the order of all.
-use Prim.Native.Nat.{◌-◌, ◌≤◌}
-use native.Mathlib.Omega.{arith}
-use mathlib.Core.Path.{◌≡◌, refl, sym, ap₂, ◌∙◌}
-use lib.ListN.{length, drop, drop_of_length-le}
-use Rattle.buffer.specs.Order.{ordering}
-use Rattle.buffer.proofs.Parts.{drop-next}
-use Rattle.buffer.proofs.Ordering.{less-at, more-at, same_at}
+-- `compare` meets its contract: the library's comparison of slices is the order.
+use mathlib.Core.Path.{◌∙◌}
+use Rattle.buffer.proofs.Ordering.{slices-ordering}
 use Rattle.buffer.proofs.search.compare.Goals as goal
 
-pub loop-k-init : goal.loop-k-init
-loop-k-init c = (omega arith, omega arith, refl)
-
-pub returns-then-b-k : goal.returns-then-b-k
-unfolding ordering
-returns-then-b-k c =
-    let a = c.args in
-    let l = c.loop-k in
-    sym (l.invariant.2 ∙ ap₂ ordering (drop-next a.a.now l.k (omega arith)) (drop_of_length-le a.b.now {i = l.k} (omega arith)))
-
-pub bounds-a-k : goal.bounds-a-k
-bounds-a-k c = omega arith
-
-pub bounds-b-k : goal.bounds-b-k
-bounds-b-k c = omega arith
-
-pub returns-then-a-k : goal.returns-then-a-k
-returns-then-a-k c =
-    let a = c.args in
-    let l = c.loop-k in
-    sym (l.invariant.2 ∙ less-at a.a.now a.b.now l.k (omega arith) (omega arith) (omega arith))
-
-pub bounds-b-k-in-loop-k : goal.bounds-b-k-in-loop-k
-bounds-b-k-in-loop-k c = omega arith
-
-pub bounds-a-k-in-loop-k : goal.bounds-a-k-in-loop-k
-bounds-a-k-in-loop-k c = omega arith
-
-pub returns-then-b-k-2 : goal.returns-then-b-k-2
-returns-then-b-k-2 c =
-    let a = c.args in
-    let l = c.loop-k in
-    sym (l.invariant.2 ∙ more-at a.a.now a.b.now l.k (omega arith) (omega arith) (omega arith))
-
-pub overflow_add-k : goal.overflow_add-k
-overflow_add-k c = omega arith
-
-pub loop-k-smaller : goal.loop-k-smaller
-loop-k-smaller c = omega arith
-
-pub loop-k-preserved : goal.loop-k-preserved
-loop-k-preserved c =
-    let a = c.args in
-    let l = c.loop-k in
-    (omega arith, omega arith, l.invariant.2 ∙ same_at a.a.now a.b.now l.k (omega arith) (omega arith) (omega arith))
-
-pub returns-then-k-b : goal.returns-then-k-b
-unfolding ordering
-returns-then-k-b c =
-    let a = c.args in
-    let l = c.loop-k in
-    sym (l.invariant.2 ∙ ap₂ ordering (drop_of_length-le a.a.now {i = l.k} (omega arith)) (drop-next a.b.now l.k (omega arith)))
-
 pub returns : goal.returns
-unfolding ordering
-returns c =
-    let a = c.args in
-    let l = c.loop-k in
-    sym (l.invariant.2 ∙ ap₂ ordering (drop_of_length-le a.a.now {i = l.k} (omega arith)) (drop_of_length-le a.b.now {i = l.k} (omega arith)))
+returns c = c.cmp.ensures ∙ slices-ordering c.args.a.now c.args.b.now

@@ -1,6 +1,5 @@
 -- `seen` meets its contract.
-use borrow.Author.Rules.{rules}
-use mathlib.Core.Path.{◌≡◌, ap, sym}
+use mathlib.Core.Path.{ap, sym}
 use mathlib.Core.Bool.{Bool, cond, true}
 use lib.Dec.{eqb}
 use Rattle.lanes.proofs.blocks.seen.Goals as goal

@@ -2,7 +2,6 @@
 use native.Mathlib.Omega.{arith}
 use lib.ListN.{drop}
 use Rattle.lanes.proofs.Runs.{leading-pair}
-use borrow.Author.Rules.{rules}
 use Rattle.lanes.proofs.pairs.first_byte_from.Goals as goal
 
 pub returns : goal.returns

@@ -1,22 +1,12 @@
 -- `first_of_two` meets its contract: the run from `at` on goes to index k and on from there.
-use Prim.Native.Nat.{◌+◌, ◌-◌, ◌≤◌}
-use mathlib.Core.Path.{◌≡◌, refl, sym, ◌∙◌}
+use mathlib.Core.Path.{refl, sym, ◌∙◌}
 use native.Mathlib.Omega.{arith}
-use lib.ListN.{length, drop}
-use Rattle.lists.specs.Elements.{leading}
 use Rattle.lanes.specs.Pair.{neither}
 use Rattle.lanes.proofs.Runs.{run-passed, run-part}
-use borrow.Author.Rules.{rules}
 use Rattle.lanes.proofs.pairs.first_of_two.Goals as goal
 
 pub loop-k-init : goal.loop-k-init
 loop-k-init c = (c.requires, refl)
-
-pub overflow_sub-s : goal.overflow_sub-s
-overflow_sub-s c = omega arith
-
-pub first_pair_in_8-i-requires : goal.first_pair_in_8-i-requires
-first_pair_in_8-i-requires c = omega arith
 
 pub overflow_add-result : goal.overflow_add-result
 overflow_add-result c =
@@ -27,12 +17,6 @@ pub returns-then-i-lt8 : goal.returns-then-i-lt8
 returns-then-i-lt8 c =
     let a = c.args in
     omega (arith, c.loop-k.invariant.1, c.first_pair_in_8-i.ensures, run-part (neither a.a a.b) c.loop-k.k 8 a.s.now)
-
-pub overflow_add-k : goal.overflow_add-k
-overflow_add-k c = omega arith
-
-pub loop-k-smaller : goal.loop-k-smaller
-loop-k-smaller c = omega arith
 
 pub loop-k-preserved : goal.loop-k-preserved
 loop-k-preserved c =

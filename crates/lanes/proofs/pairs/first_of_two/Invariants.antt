@@ -1,12 +1,9 @@
 -- `first_of_two` meets its contract: the run from `at` on goes to index k and on from there.
 use Prim.Native.Nat.{◌+◌, ◌-◌, ◌≤◌}
-use mathlib.Core.Path.{◌≡◌, refl, sym, ◌∙◌}
-use native.Mathlib.Omega.{arith}
+use mathlib.Core.Path.{◌≡◌}
 use lib.ListN.{length, drop}
 use Rattle.lists.specs.Elements.{leading}
 use Rattle.lanes.specs.Pair.{neither}
-use Rattle.lanes.proofs.Runs.{run-passed, run-part}
-use borrow.Author.Rules.{rules}
 use Rattle.lanes.proofs.pairs.first_of_two.Given as goal
 
 abbrev pub invariant-loop-k : goal.invariant-loop-k

@@ -6,7 +6,6 @@ use Rattle.buffer.specs.Parts.{part}
 use Rattle.buffer.proofs.Parts.{length_part}
 use Rattle.lanes.proofs.Lanes.{lowest-of-8, or-lowest}
 use Rattle.lanes.proofs.Runs.{leading-pair}
-use borrow.Author.Rules.{rules}
 use Rattle.lanes.proofs.pairs.first_pair_in_8.Goals as goal
 
 pub overflow_cast-result : goal.overflow_cast-result

@@ -1,8 +1,7 @@
 -- `is_either` meets its contract.
-use mathlib.Core.Path.{◌≡◌, refl, sym, ap, ◌∙◌}
+use mathlib.Core.Path.{sym, ◌∙◌}
 use borrow.Author.Tests.{eq-eqb}
 use Rattle.lanes.proofs.Runs.{is-first, or-second}
-use borrow.Author.Rules.{rules}
 use Rattle.lanes.proofs.pairs.is_either.Goals as goal
 
 pub returns-then-x-a : goal.returns-then-x-a

@@ -1,39 +1,27 @@
 -- `past_two` meets its contract: the run from `at` on goes to index k and on from there.
-use Prim.Native.Nat.{◌+◌, ◌-◌, ◌≤◌}
-use mathlib.Core.Path.{◌≡◌, refl, sym, ap, ◌∙◌}
+use mathlib.Core.Path.{refl, sym, ap}
 use mathlib.Core.Bool.{not}
 use mathlib.Core.List.{[], ◌∷◌}
 use native.Mathlib.Omega.{arith}
-use lib.ListN.{length, drop}
-use Rattle.lists.specs.Elements.{one_of, leading}
+use Rattle.lists.specs.Elements.{one_of}
 use Rattle.lists.proofs.Leading.{leading-more, leading-stop, leading_end}
 use Rattle.lists.proofs.Tests.{was-true, was-false}
-use borrow.Author.Rules.{rules}
 use Rattle.lanes.proofs.pairs.past_two.Goals as goal
 
 pub loop-k-init : goal.loop-k-init
-loop-k-init c = (c.requires, refl)
-
-pub bounds-s-k : goal.bounds-s-k
-bounds-s-k c = omega arith
+loop-k-init c = refl
 
 pub returns-then-not-is_either : goal.returns-then-not-is_either
 returns-then-not-is_either c =
     let a = c.args in
-    omega (arith, c.loop-k.invariant.1, leading-stop (one_of (a.a ∷ a.b ∷ [])) a.s.now c.loop-k.k (omega arith) (sym (was-false (ap not c.if-not-is_either.true) c.is_either.ensures)))
-
-pub overflow_add-k : goal.overflow_add-k
-overflow_add-k c = omega arith
-
-pub loop-k-smaller : goal.loop-k-smaller
-loop-k-smaller c = omega arith
+    omega (arith, c.loop-k.invariant, leading-stop (one_of (a.a ∷ a.b ∷ [])) a.s.now c.loop-k.k (omega arith) (sym (was-false (ap not c.if-not-is_either.true) c.is_either.ensures)))
 
 pub loop-k-preserved : goal.loop-k-preserved
 loop-k-preserved c =
     let a = c.args in
-    (omega arith, omega (arith, c.loop-k.invariant.1, leading-more (one_of (a.a ∷ a.b ∷ [])) a.s.now c.loop-k.k (omega arith) (sym (was-true (ap not c.if-not-is_either.false) c.is_either.ensures))))
+    omega (arith, c.loop-k.invariant, leading-more (one_of (a.a ∷ a.b ∷ [])) a.s.now c.loop-k.k (omega arith) (sym (was-true (ap not c.if-not-is_either.false) c.is_either.ensures)))
 
 pub returns : goal.returns
 returns c =
     let a = c.args in
-    omega (arith, c.loop-k.invariant.1, leading_end (one_of (a.a ∷ a.b ∷ [])) a.s.now c.loop-k.k (omega arith))
+    omega (arith, c.loop-k.invariant, leading_end (one_of (a.a ∷ a.b ∷ [])) a.s.now c.loop-k.k (omega arith))

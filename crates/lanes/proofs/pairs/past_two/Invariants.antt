@@ -1,18 +1,10 @@
 -- `past_two` meets its contract: the run from `at` on goes to index k and on from there.
-use Prim.Native.Nat.{◌+◌, ◌-◌, ◌≤◌}
-use mathlib.Core.Path.{◌≡◌, refl, sym, ap, ◌∙◌}
-use mathlib.Core.Bool.{not}
+use Prim.Native.Nat.{◌+◌}
+use mathlib.Core.Path.{◌≡◌}
 use mathlib.Core.List.{[], ◌∷◌}
-use native.Mathlib.Omega.{arith}
-use lib.ListN.{length, drop}
+use lib.ListN.{drop}
 use Rattle.lists.specs.Elements.{one_of, leading}
-use Rattle.lists.proofs.Leading.{leading-more, leading-stop, leading_end}
-use Rattle.lists.proofs.Tests.{was-true, was-false}
-use borrow.Author.Rules.{rules}
 use Rattle.lanes.proofs.pairs.past_two.Given as goal
 
 abbrev pub invariant-loop-k : goal.invariant-loop-k
-invariant-loop-k l = (l.k ≤ length l.s) × (l.at + leading (one_of (l.a ∷ l.b ∷ [])) (drop l.at l.s) ≡ l.k + leading (one_of (l.a ∷ l.b ∷ [])) (drop l.k l.s))
-
-abbrev pub decreases-loop-k : goal.decreases-loop-k
-decreases-loop-k l = length l.s - l.k
+invariant-loop-k l = l.at + leading (one_of (l.a ∷ l.b ∷ [])) (drop l.at l.s) ≡ l.k + leading (one_of (l.a ∷ l.b ∷ [])) (drop l.k l.s)

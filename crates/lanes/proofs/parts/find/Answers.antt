@@ -1,6 +1,5 @@
 -- `find` meets its contract: an empty part is at the front.
 use mathlib.Core.Path.{sym}
-use borrow.Author.Rules.{rules}
 use Rattle.lanes.proofs.Standing.{empty_first}
 use Rattle.lanes.proofs.parts.find.Goals as goal
 

@@ -1,23 +1,15 @@
 -- `find_some` meets its contract: `t` is nowhere below k.
-use Prim.Native.Nat.{ℕ, ◌+◌, ◌-◌, ◌≤◌}
+use Prim.Native.Nat.{◌+◌}
 use mathlib.Core.Path.{◌≡◌, refl, sym, ◌∙◌}
 use mathlib.Core.Bool.{false≢true}
 use native.Mathlib.Omega.{arith}
 use lib.ListN.{length}
 use Rattle.buffer.specs.Parts.{part}
-use Rattle.buffer.specs.First.{Stands}
 use Rattle.buffer.proofs.Lent.{part-lent}
 use Rattle.buffer.proofs.Ordering.{equal-same, same-equal}
 use Rattle.buffer.proofs.First.{some-first-part, none-first-part}
 use Rattle.lanes.proofs.Standing.{stands_from, stands_after, first-within}
-use borrow.Author.Rules.{rules}
 use Rattle.lanes.proofs.parts.find_some.Goals as goal
-
-pub bounds-t-0 : goal.bounds-t-0
-bounds-t-0 c = omega arith
-
-pub first_byte_from-k-requires : goal.first_byte_from-k-requires
-first_byte_from-k-requires c = omega arith
 
 pub loop-k-init : goal.loop-k-init
 loop-k-init c =
@@ -28,21 +20,6 @@ loop-k-init c =
       stands_from a.t.now a.s.now some 0 f.result _ refl f.ensures (λ j w. omega arith),
     )
 
-pub overflow_sub-s : goal.overflow_sub-s
-overflow_sub-s c = omega arith
-
-pub overflow_add-e : goal.overflow_add-e
-overflow_add-e c = omega arith
-
-pub slice_bounds-equal-count : goal.slice_bounds-equal-count
-slice_bounds-equal-count c = omega arith
-
-pub slice_bounds-equal-start : goal.slice_bounds-equal-start
-slice_bounds-equal-start c = omega arith
-
-pub slice_bounds-equal-end : goal.slice_bounds-equal-end
-slice_bounds-equal-end c = omega arith
-
 pub returns-then-equal : goal.returns-then-equal
 returns-then-equal c =
     let a = c.args in
@@ -52,12 +29,6 @@ returns-then-equal c =
     let lent = part-lent s l.k (l.k + length t) (length t) refl in
     let same = sym lent ∙ equal-same _ _ (sym c.equal.ensures ∙ c.if-equal.true) in
     sym (some-first-part t s l.k (record { stands = record { fits = omega arith; same = same }; least = l.invariant.1 }))
-
-pub overflow_add-k : goal.overflow_add-k
-overflow_add-k c = omega arith
-
-pub first_byte_from-k-requires-in-loop-k : goal.first_byte_from-k-requires-in-loop-k
-first_byte_from-k-requires-in-loop-k c = omega arith
 
 pub loop-k-smaller : goal.loop-k-smaller
 loop-k-smaller c = omega (arith, c.first_byte_from-k-in-loop-k.ensures)

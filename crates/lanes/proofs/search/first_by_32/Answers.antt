@@ -1,17 +1,10 @@
 -- `first_by_32` meets its contract: no b is before index k.
-use Prim.Native.Nat.{◌-◌, ◌≤◌}
 use native.Mathlib.Omega.{arith}
 use mathlib.Core.Path.{sym, ◌∙◌}
-use lib.ListN.{length}
-use Rattle.buffer.specs.First.{first_byte}
 use Rattle.buffer.proofs.First.{first-byte-most}
 use Rattle.lanes.proofs.Passed.{block-passed}
 use Rattle.lanes.proofs.Nearing.{some-among}
-use borrow.Author.Rules.{rules}
 use Rattle.lanes.proofs.search.first_by_32.Goals as goal
-
-pub loop-k-init : goal.loop-k-init
-loop-k-init c = omega arith
 
 pub overflow_sub-s : goal.overflow_sub-s
 overflow_sub-s c = omega (arith, first-byte-most c.args.b c.args.s.now)

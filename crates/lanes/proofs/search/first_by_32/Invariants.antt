@@ -1,13 +1,7 @@
 -- `first_by_32` meets its contract: no b is before index k.
 use Prim.Native.Nat.{◌-◌, ◌≤◌}
-use native.Mathlib.Omega.{arith}
-use mathlib.Core.Path.{sym, ◌∙◌}
 use lib.ListN.{length}
 use Rattle.buffer.specs.First.{first_byte}
-use Rattle.buffer.proofs.First.{first-byte-most}
-use Rattle.lanes.proofs.Passed.{block-passed}
-use Rattle.lanes.proofs.Nearing.{some-among}
-use borrow.Author.Rules.{rules}
 use Rattle.lanes.proofs.search.first_by_32.Given as goal
 
 abbrev pub invariant-loop-k : goal.invariant-loop-k

@@ -1,18 +1,10 @@
 -- `first_by_8` meets its contract: no b is before index k, nor before the last eight bytes at the end.
-use Prim.Native.Nat.{◌-◌, ◌≤◌}
+use Prim.Native.Nat.{◌-◌}
 use native.Mathlib.Omega.{arith}
 use lib.ListN.{length}
-use Rattle.buffer.specs.First.{first_byte}
 use Rattle.buffer.proofs.First.{first-byte-most}
 use Rattle.lanes.proofs.Passed.{first_part}
-use borrow.Author.Rules.{rules}
 use Rattle.lanes.proofs.search.first_by_8.Goals as goal
-
-pub overflow_sub-last : goal.overflow_sub-last
-overflow_sub-last c = omega arith
-
-pub loop-k-init : goal.loop-k-init
-loop-k-init c = omega arith
 
 pub overflow_add-result : goal.overflow_add-result
 overflow_add-result c =
@@ -23,12 +15,6 @@ pub returns-then-i-lt8 : goal.returns-then-i-lt8
 returns-then-i-lt8 c =
     let a = c.args in
     omega (arith, c.first_in_8-i.ensures, first_part a.b c.loop-k.k 8 a.s.now c.loop-k.invariant)
-
-pub overflow_add-k : goal.overflow_add-k
-overflow_add-k c = omega arith
-
-pub loop-k-smaller : goal.loop-k-smaller
-loop-k-smaller c = omega arith
 
 pub loop-k-preserved : goal.loop-k-preserved
 loop-k-preserved c =

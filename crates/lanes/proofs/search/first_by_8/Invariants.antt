@@ -1,11 +1,6 @@
 -- `first_by_8` meets its contract: no b is before index k, nor before the last eight bytes at the end.
 use Prim.Native.Nat.{◌-◌, ◌≤◌}
-use native.Mathlib.Omega.{arith}
-use lib.ListN.{length}
 use Rattle.buffer.specs.First.{first_byte}
-use Rattle.buffer.proofs.First.{first-byte-most}
-use Rattle.lanes.proofs.Passed.{first_part}
-use borrow.Author.Rules.{rules}
 use Rattle.lanes.proofs.search.first_by_8.Given as goal
 
 abbrev pub invariant-loop-k : goal.invariant-loop-k

@@ -1,6 +1,5 @@
 -- `first_byte` meets its contract: each of the ways does.
 use native.Mathlib.Omega.{arith}
-use borrow.Author.Rules.{rules}
 use Rattle.lanes.proofs.search.first_byte.Goals as goal
 
 pub returns-then-s-lt8 : goal.returns-then-s-lt8
@@ -11,9 +10,6 @@ first_by_8-requires c = (omega arith, omega arith)
 
 pub returns-then-s-lt16 : goal.returns-then-s-lt16
 returns-then-s-lt16 c = c.first_by_8.ensures
-
-pub first_in_long-requires : goal.first_in_long-requires
-first_in_long-requires c = omega arith
 
 pub returns : goal.returns
 returns c = c.first_in_long.ensures

@@ -2,7 +2,6 @@
 use native.Mathlib.Omega.{arith}
 use Rattle.buffer.proofs.First.{first-byte-most}
 use Rattle.lanes.proofs.Passed.{first_part}
-use borrow.Author.Rules.{rules}
 use Rattle.lanes.proofs.search.first_in_32.Goals as goal
 
 pub pass_8-word-requires : goal.pass_8-word-requires

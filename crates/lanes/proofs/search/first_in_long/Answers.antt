@@ -1,7 +1,6 @@
 -- `first_in_long` meets its contract: the words that are tried first have no b, or the first one.
 use native.Mathlib.Omega.{arith}
 use Rattle.lanes.proofs.Passed.{first_part}
-use borrow.Author.Rules.{rules}
 use Rattle.lanes.proofs.search.first_in_long.Goals as goal
 
 pub returns-then-i-lt8 : goal.returns-then-i-lt8

@@ -1,11 +1,6 @@
 -- `pass_16` meets its contract: 16 bytes without a mark are passed.
-use mathlib.Core.Path.{◌≡◌, refl, sym, ◌∙◌}
-use Prim.Native.Nat.{ℕ, ◌+◌, ◌≤◌, ◌<◌}
-use native.Mathlib.Omega.{arith}
-use native.Mathlib.Decide.{dec_lt}
-use Rattle.buffer.specs.First.{first_byte}
+use mathlib.Core.Path.{refl}
 use Rattle.lanes.proofs.Nearing.{unmarked-16, marked-16, nearer-on, nearer-here}
-use borrow.Author.Rules.{rules}
 use Rattle.lanes.proofs.search.pass_16.Goals as goal
 
 pub returns-then-m-eq0 : goal.returns-then-m-eq0

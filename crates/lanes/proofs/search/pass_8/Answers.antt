@@ -1,7 +1,6 @@
 -- `pass_8` meets its contract: eight bytes without a mark are passed.
 use mathlib.Core.Path.{refl, sym, ◌∙◌}
 use Rattle.lanes.proofs.Nearing.{unmarked, marked, nearer-on, nearer-here}
-use borrow.Author.Rules.{rules}
 use Rattle.lanes.proofs.search.pass_8.Goals as goal
 
 pub returns-then-marks_at-eq0 : goal.returns-then-marks_at-eq0

@@ -4,7 +4,6 @@ use lib.Count.{trailing_le}
 use Rattle.buffer.specs.Parts.{part}
 use Rattle.buffer.proofs.Parts.{length_part}
 use Rattle.lanes.proofs.Lanes.{lowest-of-8}
-use borrow.Author.Rules.{rules}
 use Rattle.lanes.proofs.words.first_in_8.Goals as goal
 
 pub overflow_cast-result : goal.overflow_cast-result

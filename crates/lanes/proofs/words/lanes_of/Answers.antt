@@ -3,7 +3,6 @@ use Prim.Native.Nat.{ℕ, ◌*◌}
 use mathlib.Core.Path.{◌≡◌, ap, ◌∙◌}
 use native.Mathlib.Omega.{arith}
 use lib.Bits.{bit_xor}
-use borrow.Author.Rules.{rules}
 use Rattle.little_endian.specs.Words.{le_bytes}
 use Rattle.lanes.specs.Marks.{marks}
 use Rattle.lanes.proofs.Lanes.{each, xor-marks}
