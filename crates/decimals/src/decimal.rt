@@ -44,10 +44,8 @@ fn write_digits(out: &mut [u8], at: usize, n: u64, count: usize)
     requires { (count ≡ length (decimal_digits n)) × (at + count ≤ length out.old) }
     ensures { out.new ≡ put out.old at (decimal_digits n) }
 {
-    let mut i = count;
     let mut rest = n;
-    while 0 < i {
-        i -= 1;
+    for i in (0..count).rev() {
         out[at + i] = b'0' + (rest % 10) as u8;
         rest /= 10;
     }
@@ -65,7 +63,8 @@ pub fn decimal_length(w: u64) -> usize
     }
 }
 
-// Writes a number's text from index `at` on, and answers its length.
+// Writes a number's text from index `at` on, and answers its length. `write!` is no plainer here: it answers a Result,
+// though the text is known to fit, and the number's sign has to be told from its distance first.
 pub fn write_decimal(out: &mut [u8], at: usize, w: u64) -> usize
     requires { (w ≤ top) × (at + length (decimal_text (unbias w)) ≤ length out.old) }
     ensures { (result ≡ length (decimal_text (unbias w)))

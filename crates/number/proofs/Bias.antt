@@ -6,7 +6,7 @@ use native.Mathlib.Decide.{dec_le}
 use native.Mathlib.Omega.{arith}
 use lib.IntN.{ℤ, pos, negsuc, neg_ℤ, nat_abs, ◌+ℤ◌, ◌-ℤ◌}
 use lib.Signed.{mag}
-use borrow.Author.Tests.{leb-true}
+use borrow.Author.Tests.{lt-leb}
 use mir.Syntax.{w64}
 use mir.Val.{SFits, to_z, of_z}
 use Rattle.edition.specs.Limits.{number_bound}
@@ -74,10 +74,7 @@ pub zero-not : (w : ℕ) → (w ≡ number_bound → ⊥) → nat_abs (unbias w)
 zero-not w ne h =
     elim (dec_le number_bound w) [ yes p ↦ ne (omega (arith, ap nat_abs (unbias-above w p))) | no p ↦ absurd (omega (arith, ap nat_abs (unbias-below w (omega arith)))) ]
 
--- a number that the range's test passes, and one that it does not
-pub in-range : (z : ℤ) → in_range z ≡ true → InRange z
-in-range z h = record { within = leb-true (nat_abs z) number_bound h }
-
+-- a number that passes the range's test, and one that does not
 pub ranged-in : (z : ℤ) → in_range z ≡ true → ranged z ≡ number z
 unfolding ranged
 ranged-in z h = rw h
@@ -85,6 +82,11 @@ ranged-in z h = rw h
 pub ranged-out : (z : ℤ) → in_range z ≡ false → ranged z ≡ stop number_out_of_range
 unfolding ranged
 ranged-out z h = rw h
+
+-- one that does not fit 64 bits is out of range
+pub ranged-wide : (z : ℤ) → (SFits w64 z → ⊥) → ranged z ≡ stop number_out_of_range
+ranged-wide z h =
+    elim (dec_le (nat_abs z) number_bound) [ yes p ↦ absurd (h (abs-fits z (omega arith))) | no p ↦ ranged-out z (lt-leb (nat_abs z) number_bound (omega arith)) ]
 
 -- a number that a call gave for a distance, as it is passed on: it is in range, and 0 for one distance alone
 module _ {x : ℤ} {w : ℕ} (ok : mag x < 2 ^ 63) (e : x ≡ unbias w) where

@@ -2,18 +2,16 @@
 -- first laws carry that to x once for every operation. The bounds are on `nat_abs`, in ℕ.
 use mathlib.Core.Path.{◌≡◌, refl, sym, ap, ap₂, ◌∙◌, subst}
 use mathlib.Core.Bool.{Bool, true, false, cond}
-use Prim.Native.Nat.{ℕ, zero, suc, ◌+◌, ◌-◌, ◌*◌, ◌/◌, ◌%◌, ◌≤◌, ◌<◌, ◌^◌}
+use Prim.Native.Nat.{ℕ, zero, suc, ◌+◌, ◌-◌, ◌/◌, ◌%◌, ◌≤◌, ◌<◌, ◌^◌}
 use native.Mathlib.Nat.{div-le_self, mod-le}
 use native.Mathlib.Omega.{arith}
-use lib.IntN.{ℤ, pos, negsuc, neg_ℤ, nat_abs, sub_ℕ, ◌+ℤ◌, ◌-ℤ◌, ◌*ℤ◌}
-use lib.Signed.{mag, quot_z, rem_z, le_z, lt_z, mag_rem}
+use lib.IntN.{ℤ, pos, negsuc, neg_ℤ, nat_abs, sub_ℕ}
+use lib.Signed.{mag, quot_z, rem_z}
 use lib.Dec.{ltb}
-use borrow.Author.Tests.{leb-true, leb-false, ltb-true, lt-ltb, le-ltb, le-leb, lt-leb}
+use borrow.Author.Tests.{lt-ltb, le-ltb}
 use mir.Syntax.{w64}
 use mir.Val.{SFits, to_z, of_z}
 use mir.ValLaws.{to_z-of_z}
-use Rattle.edition.specs.Limits.{number_bound}
-use Rattle.number.specs.Range.{in_range}
 
 -- what the machine reads back
 module _ {a : ℤ} (fa : SFits w64 a) where
@@ -22,20 +20,6 @@ module _ {a : ℤ} (fa : SFits w64 a) where
 
   pub back1 : (f : ℤ → ℤ) → SFits w64 (f a) → to_z w64 (of_z w64 (f (to_z w64 (of_z w64 a)))) ≡ f a
   back1 f h = ap (λ (x : ℤ). to_z w64 (of_z w64 (f x))) (to_z-of_z w64 a fa) ∙ to_z-of_z w64 (f a) h
-
-  -- a fact of the number, as one of what is read back, and the other way
-  pub read : (P : ℤ → Type 0) → P a → P (to_z w64 (of_z w64 a))
-  read P h = subst P (sym (to_z-of_z w64 a fa)) h
-
-  pub plain : (P : ℤ → Type 0) → P (to_z w64 (of_z w64 a)) → P a
-  plain P h = subst P (to_z-of_z w64 a fa) h
-
-module _ {a b : ℤ} (fa : SFits w64 a) (fb : SFits w64 b) where
-  pub fits2 : (f : ℤ → ℤ → ℤ) → SFits w64 (f a b) → SFits w64 (f (to_z w64 (of_z w64 a)) (to_z w64 (of_z w64 b)))
-  fits2 f h = fits1 fa (λ x. f x (to_z w64 (of_z w64 b))) (fits1 fb (λ x. f a x) h)
-
-  pub back2 : (f : ℤ → ℤ → ℤ) → SFits w64 (f a b) → to_z w64 (of_z w64 (f (to_z w64 (of_z w64 a)) (to_z w64 (of_z w64 b)))) ≡ f a b
-  back2 f h = ap₂ (λ (x y : ℤ). to_z w64 (of_z w64 (f x y))) (to_z-of_z w64 a fa) (to_z-of_z w64 b fb) ∙ to_z-of_z w64 (f a b) h
 
 -- a signed value that a call gave, as it is passed on: `passed c.f.ok c.f.ensures`
 pub passed : {z v : ℤ} → mag z < 2 ^ 63 → z ≡ v → to_z w64 (of_z w64 z) ≡ v
@@ -62,25 +46,10 @@ abs-sub-by false a b = omega arith
 pub abs-sub : (a b : ℕ) → nat_abs (sub_ℕ a b) ≤ suc (a + b)
 abs-sub a b = abs-sub-by (ltb a b) a b
 
-pub abs-add : (a b : ℤ) → nat_abs (a +ℤ b) ≤ suc (nat_abs a + nat_abs b)
-abs-add (pos a) (pos b) = omega arith
-abs-add (pos a) (negsuc b) = abs-sub a (suc b)
-abs-add (negsuc a) (pos b) = omega (arith, abs-sub b (suc a))
-abs-add (negsuc a) (negsuc b) = omega arith
-
 pub abs_neg : (a : ℤ) → nat_abs (neg_ℤ a) ≡ nat_abs a
 abs_neg (pos zero) = refl
 abs_neg (pos (suc n)) = refl
 abs_neg (negsuc n) = refl
-
-pub abs-difference : (a b : ℤ) → nat_abs (a -ℤ b) ≤ suc (nat_abs a + nat_abs b)
-abs-difference a b = omega (arith, abs-add a (neg_ℤ b), abs_neg b)
-
-pub abs-mul : (a b : ℤ) → nat_abs (a *ℤ b) ≡ nat_abs a * nat_abs b
-abs-mul (pos a) (pos b) = refl
-abs-mul (pos a) (negsuc b) = abs_neg (pos (a * suc b))
-abs-mul (negsuc a) (pos b) = abs_neg (pos (suc a * b))
-abs-mul (negsuc a) (negsuc b) = refl
 
 pub abs-quot : (a b : ℤ) → nat_abs (quot_z a b) ≤ nat_abs a
 abs-quot (pos a) (pos b) = div-le_self a b
@@ -91,33 +60,6 @@ abs-quot (negsuc a) (negsuc b) = div-le_self (suc a) (suc b)
 pub abs-rem : (a b : ℤ) → nat_abs (rem_z a b) ≤ nat_abs a
 abs-rem (pos a) b = mod-le a (nat_abs b)
 abs-rem (negsuc a) b = omega (arith, abs_neg (pos (suc a % nat_abs b)), mod-le (suc a) (nat_abs b))
-
-pub rem-fits : (a b : ℤ) → SFits w64 a → SFits w64 (rem_z a b)
-rem-fits a b f = record { sfits = omega (arith, mag_rem a b) }
-
--- bits are 0 at 0 alone
-pub bits_pos : (b : ℤ) → SFits w64 b → (b ≡ pos 0 → ⊥) → 0 < of_z w64 b
-bits_pos (pos zero) f h = absurd (h refl)
-bits_pos (pos (suc n)) f h = omega arith
-bits_pos (negsuc n) f h = omega arith
-
--- the two tests of the range
-pub range-high : (z : ℤ) → le_z (negsuc (number_bound - 1)) z ≡ true → le_z z (pos number_bound) ≡ in_range z
-range-high (pos n) h = refl
-range-high (negsuc n) h = sym (le-leb (suc n) number_bound (omega (arith, leb-true n (number_bound - 1) h)))
-
-pub range-low : (z : ℤ) → le_z (negsuc (number_bound - 1)) z ≡ false → le_z (negsuc (number_bound - 1)) z ≡ in_range z
-range-low (pos n) h = cc
-range-low (negsuc n) h = h ∙ sym (lt-leb (suc n) number_bound (omega (arith, leb-false n (number_bound - 1) h)))
-
--- a number's sign by a test against 0
-pub below-zero : (a : ℤ) → lt_z a (pos 0) ≡ true → neg_ℤ a ≡ pos (nat_abs a)
-below-zero (pos n) h = absurd (omega (arith, ltb-true n 0 h))
-below-zero (negsuc n) h = refl
-
-pub not-below : (a : ℤ) → lt_z a (pos 0) ≡ false → a ≡ pos (nat_abs a)
-not-below (pos n) h = refl
-not-below (negsuc n) h = cc
 
 -- two numbers that calls gave, and what a third call made of them, as it is passed on
 pub handed : {x y z a b : ℤ} (f : ℤ → ℤ → ℤ) → mag x < 2 ^ 63 → x ≡ a → mag y < 2 ^ 63 → y ≡ b → mag z < 2 ^ 63

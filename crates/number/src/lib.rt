@@ -7,4 +7,4 @@
 mod arithmetic;
 mod signed;
 
-pub use arithmetic::{Computed, TOP, ZERO, add, divide, multiply, negate, remainder, subtract};
+pub use arithmetic::{Stop, TOP, ZERO, add, divide, multiply, negate, remainder, subtract};

@@ -1,7 +1,6 @@
 // Signed 64-bit arithmetic within the range of numbers.
-ghost use Rattle.std.specs.Prelude.{◌≡◌, ◌*◌, ◌≤◌, leb, pos, neg_ℤ, nat_abs, ◌+ℤ◌, ◌-ℤ◌, ◌*ℤ◌};
+ghost use Rattle.std.specs.Prelude.{◌≡◌, ◌≤◌, pos, neg_ℤ, ◌+ℤ◌, ◌-ℤ◌};
 ghost use Rattle.std.specs.Int.Signed.{rem_z, quot_z};
-ghost use Rattle.edition.specs.Limits.{number_bound};
 ghost use Rattle.number.specs.Range.{InRange, in_range, unbias, top};
 
 use edition::Edition;
@@ -49,14 +48,6 @@ pub fn difference(a: i64, b: i64) -> i64
     a - b
 }
 
-// Multiplies two numbers whose product is in range.
-pub fn product(a: i64, b: i64) -> i64
-    requires { nat_abs a * nat_abs b ≤ number_bound }
-    ensures { result ≡ a *ℤ b }
-{
-    a * b
-}
-
 // Returns the quotient, rounded toward 0.
 pub fn quotient(a: i64, b: i64) -> i64
     requires { InRange a × (b ≡ pos 0 → ⊥) }
@@ -79,22 +70,4 @@ pub fn negated(a: i64) -> i64
     ensures { result ≡ neg_ℤ a }
 {
     -a
-}
-
-// Returns a number without its sign.
-pub fn magnitude(a: i64) -> u64
-    requires { InRange a }
-    ensures { result ≡ nat_abs a }
-{
-    if a < 0 { (-a) as u64 } else { a as u64 }
-}
-
-// Tells whether a product is in range, by its factors' magnitudes: the product itself may pass 64 bits.
-pub fn product_fits(p: u64, q: u64) -> bool
-    ensures { result ≡ leb (p * q) number_bound }
-{
-    if q == 0 {
-        return true;
-    }
-    p <= Edition::NUMBER / q
 }

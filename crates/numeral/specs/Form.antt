@@ -1,5 +1,5 @@
 -- Document 01, "Values": the form of a number in a text. What a text's number is is apart, in Judgement.antt.
-use Rattle.std.specs.Prelude.{◌≡◌, Bool, true, false, cond, List, [], ◌∷◌, ◌++◌, ℕ, suc, ◌+◌, ◌<◌, length, get_or, take, drop, eqb, leb}
+use Rattle.std.specs.Prelude.{◌≡◌, Bool, true, false, cond, List, [], ◌∷◌, ◌++◌, ℕ, ◌+◌, ◌<◌, length, get_or, take, drop, eqb, leb}
 use Rattle.lists.specs.Elements.{All, leading}
 
 -- "blanks (space, tab)"

@@ -26,21 +26,19 @@ pub fn is_blank(b: u8) -> bool
 pub fn is_digit(b: u8) -> bool
     ensures { result ≡ is_digit b }
 {
-    b'0' <= b && b <= b'9'
+    b.is_ascii_digit()
 }
 
 // Returns how many blanks the text begins with.
 pub fn count_blanks(t: &[u8]) -> usize
     ensures { result ≡ leading is_blank t.now }
 {
-    let mut k = 0;
-    while k < t.len() {
-        if !is_blank(t[k]) {
+    for (k, b) in t.iter().enumerate() {
+        if !is_blank(*b) {
             return k;
         }
-        k += 1;
     }
-    k
+    t.len()
 }
 
 // Returns a value with one digit more, up to one past the greatest number.
@@ -49,11 +47,7 @@ fn with_digit(value: u64, digit: u8) -> u64
     ensures { result ≡ capped (appended value digit) }
 {
     let next = value * 10 + (digit - b'0') as u64;
-    if next <= Edition::NUMBER {
-        next
-    } else {
-        Edition::NUMBER + 1
-    }
+    next.min(Edition::NUMBER + 1)
 }
 
 // Reads the digits that the text begins with.
@@ -61,14 +55,14 @@ pub fn read_digits(t: &[u8]) -> Digits
     ensures { ReadsDigits result t.now }
 {
     let mut value: u64 = 0;
-    let mut k = 0;
-    while k < t.len() {
-        let b = t[k];
-        if !is_digit(b) {
+    for (k, b) in t.iter().enumerate() {
+        if !is_digit(*b) {
             return Digits { count: k, value };
         }
-        value = with_digit(value, b);
-        k += 1;
+        value = with_digit(value, *b);
     }
-    Digits { count: k, value }
+    Digits {
+        count: t.len(),
+        value,
+    }
 }

@@ -6,4 +6,4 @@ mod prefix;
 mod reading;
 
 pub use digits::{Digits, is_blank, is_digit, read_digits};
-pub use reading::{Reading, Value, read_number};
+pub use reading::{Reading, Unreadable, read_number};

@@ -5,8 +5,8 @@ ghost use Rattle.numeral.specs.Capped.{ReadsPrefix};
 
 use crate::digits;
 
-// A prefix: its length, 0 where there is none, its sign, and the values of its digits before and after the point, each
-// up to one past the greatest number.
+// A prefix: its length, its sign, and the values of its digits before and after the point, each up to one past the
+// greatest number. The length is 0 where there is none, and no Option: `prefix_length` of the definitions has it so.
 #[derive(Drop)]
 pub struct Prefix {
     pub length: usize,
@@ -33,7 +33,7 @@ fn is_sign(b: u8) -> bool
 fn sign_length(first: u8) -> usize
     ensures { result ≡ cond (is_sign first) 1 0 }
 {
-    if is_sign(first) { 1 } else { 0 }
+    usize::from(is_sign(first))
 }
 
 // Returns a prefix, if it has a digit: one without is none.

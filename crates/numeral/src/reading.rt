@@ -1,17 +1,28 @@
 // A text's number and its numeric look.
 ghost use Rattle.std.specs.Prelude.{◌≡◌, cond, false, ◌+◌, ◌≤◌, eqb};
 ghost use Rattle.numeral.specs.Capped.{judged_by};
-ghost use Rattle.numeral.specs.Answers.{Values, ReadsStripped, Reads};
+ghost use Rattle.numeral.specs.Answers.{outcome_of, Values, ReadsStripped, Reads};
 
 use crate::{digits, prefix};
-use edition::Edition;
+use edition::{Edition, Outcome};
 
-// A text's number; or why there is none.
-#[derive(Drop)]
-pub enum Value {
-    Is(u64),
+// Why a text has no number. It isn't `number::Stop`, whose third case, a divisor of 0, no text has.
+#[derive(Clone, Copy, PartialEq, Eq)]
+pub enum Unreadable {
     OutOfRange,
     NotWhole,
+}
+
+impl Unreadable {
+    // Returns the outcome number that document 01 gives it.
+    pub fn outcome(self) -> u64
+        ensures { result ≡ outcome_of self }
+    {
+        match self {
+            Unreadable::OutOfRange => Outcome::NUMBER_OUT_OF_RANGE,
+            Unreadable::NotWhole => Outcome::NUMBER_NOT_WHOLE,
+        }
+    }
 }
 
 // What a text says as a number: the length of the numeric prefix after its leading blanks, 0 where there is none;
@@ -20,23 +31,23 @@ pub enum Value {
 pub struct Reading {
     pub length: usize,
     pub numeric: bool,
-    pub value: Value,
+    pub value: Result<u64, Unreadable>,
 }
 
 // Returns a number by its sign and the values of its digits before and after the point, or 11 or 12.
-fn judge(negative: bool, whole: u64, fraction: u64) -> Value
+fn judge(negative: bool, whole: u64, fraction: u64) -> Result<u64, Unreadable>
     ensures { Values result (judged_by negative whole fraction) }
 {
     if Edition::NUMBER < whole {
-        return Value::OutOfRange;
+        return Err(Unreadable::OutOfRange);
     }
     if 0 < fraction {
-        return Value::NotWhole;
+        return Err(Unreadable::NotWhole);
     }
     if negative {
-        Value::Is(Edition::NUMBER - whole)
+        Ok(Edition::NUMBER - whole)
     } else {
-        Value::Is(Edition::NUMBER + whole)
+        Ok(Edition::NUMBER + whole)
     }
 }
 

@@ -5,7 +5,6 @@ use lib.ListN.{length}
 use Rattle.edition.specs.Limits.{number_bound}
 use Prim.Native.Nat.{◌-◌}
 use Rattle.decimals.proofs.Decimals.{text-below, text-above, length-bound}
-use borrow.Author.Rules.{rules}
 use Rattle.decimals.proofs.decimal.decimal_length.Goals as goal
 
 pub overflow_add-result : goal.overflow_add-result

@@ -2,7 +2,6 @@
 use native.Mathlib.Omega.{arith}
 use Prim.Native.Nat.{◌/◌}
 use Rattle.decimals.proofs.Decimals.{length-split, length-within}
-use borrow.Author.Rules.{rules}
 use Rattle.decimals.proofs.decimal.digit_count.Goals as goal
 
 pub overflow_add-result : goal.overflow_add-result

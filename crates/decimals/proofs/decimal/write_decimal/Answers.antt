@@ -9,7 +9,6 @@ use Rattle.buffer.specs.Parts.{put}
 use Rattle.buffer.proofs.Parts.{put_one, put-append}
 use Rattle.decimals.specs.Decimal.{decimal_digits}
 use Rattle.decimals.proofs.Decimals.{text-below, text-above, length-bound}
-use borrow.Author.Rules.{rules}
 use Rattle.decimals.proofs.decimal.write_decimal.Goals as goal
 
 -- a minus, and digits right after it

@@ -1,7 +1,7 @@
 -- `write_digits`: the digits from index i on stand, and those before it are the rest's.
 use mathlib.Core.Path.{◌≡◌, sym, ap, ap₂, ◌∙◌}
 use mathlib.Core.List.{List}
-use Prim.Native.Nat.{ℕ, ◌+◌, ◌-◌, ◌≤◌, ◌<◌}
+use Prim.Native.Nat.{ℕ, ◌+◌, ◌-◌, ◌<◌}
 use native.Mathlib.Omega.{arith}
 use lib.ListN.{length, take, drop, set, length-set, drop_of_length-le}
 use lib.Seq.{take_all}
@@ -21,24 +21,6 @@ loop-i-init c =
       λ h. take_all k d (omega arith),
     )
 
-pub overflow_sub-i : goal.overflow_sub-i
-overflow_sub-i c = omega arith
-
-pub overflow_cast-out : goal.overflow_cast-out
-overflow_cast-out c = omega arith
-
-pub overflow_add-out : goal.overflow_add-out
-overflow_add-out c = omega arith
-
-pub overflow_add-out-in-loop-i : goal.overflow_add-out-in-loop-i
-overflow_add-out-in-loop-i c = omega arith
-
-pub bounds-out-at : goal.bounds-out-at
-bounds-out-at c = omega arith
-
-pub loop-i-smaller : goal.loop-i-smaller
-loop-i-smaller c = omega arith
-
 pub loop-i-preserved : goal.loop-i-preserved
 loop-i-preserved c =
     let a = c.args in
@@ -57,12 +39,3 @@ loop-i-preserved c =
       simp length-set (omega arith),
       front-digits d k c.loop-i.rest b h,
     )
-
-pub returns : goal.returns
-returns c =
-    let a = c.args in
-    let e : c.loop-i.i ≡ 0 = omega arith in
-    let z : a.at + 0 ≡ a.at = omega arith in
-    c.loop-i.invariant.1
-    ∙ ap (λ (j : ℕ). put a.out.now (a.at + j) (drop j (decimal_digits a.n))) e
-    ∙ ap (λ (j : ℕ). put a.out.now j (decimal_digits a.n)) z

@@ -1,14 +1,11 @@
 -- `add`: the machine's sum is the numbers', and far within 64 bits.
 use mathlib.Core.Path.{◌≡◌, ap, ◌∙◌}
-use native.Mathlib.Omega.{arith}
-use lib.IntN.{nat_abs, ◌+ℤ◌}
+use lib.IntN.{◌+ℤ◌}
 use mir.Syntax.{w64}
 use mir.Val.{to_z, of_z}
 use Rattle.number.specs.Range.{unbias, ranged}
 use Rattle.number.specs.Arithmetic.{sum_of}
-use Rattle.number.proofs.Integers.{handed, abs-add}
-use Rattle.number.proofs.Bias.{down-range}
-use borrow.Author.Rules.{rules}
+use Rattle.number.proofs.Integers.{handed}
 use Rattle.number.proofs.arithmetic.add.Goals as goal
 use Rattle.number.proofs.arithmetic.add.Goals.{After-sum}
 
@@ -16,11 +13,6 @@ total : (c : After-sum) → to_z w64 (of_z w64 c.sum.result) ≡ ◌+ℤ◌ (unb
 total c =
     handed ◌+ℤ◌ c.unbiased-x.type_inv c.unbiased-x.ensures.0 c.unbiased-y.type_inv c.unbiased-y.ensures.0
     c.sum.type_inv c.sum.ensures
-
-pub checked-requires : goal.checked-requires
-checked-requires c =
-    let a = c.args in
-    omega (arith, ap nat_abs (total c), abs-add (unbias a.a) (unbias a.b), down-range a.a (omega arith), down-range a.b (omega arith))
 
 pub returns : goal.returns
 unfolding sum_of

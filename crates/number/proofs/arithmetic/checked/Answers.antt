@@ -2,18 +2,13 @@
 use mathlib.Core.Path.{◌≡◌, sym, ap, ◌∙◌}
 use mir.Syntax.{w64}
 use mir.ValLaws.{to_z-of_z}
-use Rattle.number.specs.Range.{InRange, in_range, number}
-use Rattle.number.proofs.Integers.{read}
-use Rattle.number.proofs.Bias.{in-range, ranged-in, ranged-out}
-use borrow.Author.Rules.{rules}
+use Rattle.number.specs.Range.{in_range, number}
+use Rattle.number.proofs.Bias.{ranged-in, ranged-out}
 use Rattle.number.proofs.arithmetic.checked.Goals as goal
 use Rattle.number.proofs.arithmetic.checked.Goals.{After-in_range}
 
 tested : (c : After-in_range) → c.in_range.result ≡ in_range c.args.z
 tested c = c.in_range.ensures ∙ ap in_range (to_z-of_z w64 _ c.ranges.z)
-
-pub biased-requires : goal.biased-requires
-biased-requires c = read c.ranges.z InRange (in-range _ (sym (tested (goal.at.biased-requires c).After-in_range) ∙ c.if-in_range.true))
 
 pub returns-then-in_range : goal.returns-then-in_range
 returns-then-in_range c =

@@ -6,10 +6,9 @@ use lib.Signed.{rem_z, quot_z}
 use mir.Syntax.{w64}
 use mir.Val.{to_z, of_z}
 use Rattle.number.specs.Range.{unbias, ranged}
-use Rattle.number.proofs.Integers.{handed, abs-rem, abs-quot}
-use Rattle.number.proofs.Bias.{down-range, zero_is, zero-not, range-passed, nonzero-passed}
+use Rattle.number.proofs.Integers.{handed}
+use Rattle.number.proofs.Bias.{zero_is, zero-not, range-passed, nonzero-passed}
 use Rattle.number.proofs.Quotients.{quotient-zero, quotient-exact, quotient-inexact}
-use borrow.Author.Rules.{rules}
 use Rattle.number.proofs.arithmetic.divide.Goals as goal
 use Rattle.number.proofs.arithmetic.divide.Goals.{After-biased-m, After-quotient, After-rest}
 
@@ -32,19 +31,9 @@ pub rest-requires : goal.rest-requires
 rest-requires c =
     (range-passed c.unbiased-x.type_inv c.unbiased-x.ensures.0 (omega arith), nonzero-passed c.unbiased-y.type_inv c.unbiased-y.ensures.0 c.if-b-eq-ZERO.false)
 
-pub biased-m-requires : goal.biased-m-requires
-biased-m-requires c =
-    let a = c.args in
-    record { within = omega (arith, ap nat_abs (left c), abs-rem (unbias a.a) (unbias a.b), down-range a.a (omega arith)) }
-
 pub quotient-requires : goal.quotient-requires
 quotient-requires c =
     (range-passed c.unbiased-x.type_inv c.unbiased-x.ensures.0 (omega arith), nonzero-passed c.unbiased-y.type_inv c.unbiased-y.ensures.0 c.if-b-eq-ZERO.false)
-
-pub checked-requires : goal.checked-requires
-checked-requires c =
-    let a = c.args in
-    omega (arith, ap nat_abs (whole c), abs-quot (unbias a.a) (unbias a.b), down-range a.a (omega arith))
 
 pub returns-then-m-eq-ZERO : goal.returns-then-m-eq-ZERO
 returns-then-m-eq-ZERO c =

@@ -1,24 +1,16 @@
 -- `negate`: a number's negation is in range.
 use mathlib.Core.Path.{◌≡◌, ap, ◌∙◌}
-use native.Mathlib.Omega.{arith}
-use lib.IntN.{nat_abs, neg_ℤ}
+use lib.IntN.{neg_ℤ}
 use mir.Syntax.{w64}
 use mir.Val.{to_z, of_z}
 use Rattle.number.specs.Range.{unbias, ranged}
 use Rattle.number.specs.Arithmetic.{negation_of}
-use Rattle.number.proofs.Integers.{passed, abs_neg}
-use Rattle.number.proofs.Bias.{down-range}
-use borrow.Author.Rules.{rules}
+use Rattle.number.proofs.Integers.{passed}
 use Rattle.number.proofs.arithmetic.negate.Goals as goal
 use Rattle.number.proofs.arithmetic.negate.Goals.{After-negated}
 
 negation : (c : After-negated) → to_z w64 (of_z w64 c.negated.result) ≡ neg_ℤ (unbias c.args.a)
 negation c = passed c.negated.type_inv (c.negated.ensures ∙ ap neg_ℤ (passed c.unbiased.type_inv c.unbiased.ensures.0))
-
-pub checked-requires : goal.checked-requires
-checked-requires c =
-    let a = c.args.a in
-    omega (arith, ap nat_abs (negation c), abs_neg (unbias a), down-range a (omega arith))
 
 pub returns : goal.returns
 unfolding negation_of

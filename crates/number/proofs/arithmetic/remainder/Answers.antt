@@ -1,15 +1,13 @@
 -- `remainder`: a divisor of 0 aside, the machine's remainder is the numbers'.
 use mathlib.Core.Path.{◌≡◌, sym, ap, ◌∙◌}
 use native.Mathlib.Omega.{arith}
-use lib.IntN.{nat_abs}
 use lib.Signed.{rem_z}
 use mir.Syntax.{w64}
 use mir.Val.{to_z, of_z}
 use Rattle.number.specs.Range.{unbias, ranged}
-use Rattle.number.proofs.Integers.{handed, abs-rem}
-use Rattle.number.proofs.Bias.{down-range, zero_is, zero-not, range-passed, nonzero-passed}
+use Rattle.number.proofs.Integers.{handed}
+use Rattle.number.proofs.Bias.{zero_is, zero-not, range-passed, nonzero-passed}
 use Rattle.number.proofs.Quotients.{remainder-zero, remainder-some}
-use borrow.Author.Rules.{rules}
 use Rattle.number.proofs.arithmetic.remainder.Goals as goal
 use Rattle.number.proofs.arithmetic.remainder.Goals.{After-rest}
 
@@ -23,11 +21,6 @@ returns-then-b-eq-ZERO c = record { answer = sym (remainder-zero _ _ (zero_is _ 
 pub rest-requires : goal.rest-requires
 rest-requires c =
     (range-passed c.unbiased-x.type_inv c.unbiased-x.ensures.0 (omega arith), nonzero-passed c.unbiased-y.type_inv c.unbiased-y.ensures.0 c.if-b-eq-ZERO.false)
-
-pub checked-requires : goal.checked-requires
-checked-requires c =
-    let a = c.args in
-    omega (arith, ap nat_abs (left c), abs-rem (unbias a.a) (unbias a.b), down-range a.a (omega arith))
 
 pub returns : goal.returns
 returns c =

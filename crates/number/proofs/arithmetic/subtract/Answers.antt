@@ -1,14 +1,11 @@
 -- `subtract`: the machine's difference is the numbers', and far within 64 bits.
 use mathlib.Core.Path.{◌≡◌, ap, ◌∙◌}
-use native.Mathlib.Omega.{arith}
-use lib.IntN.{nat_abs, ◌-ℤ◌}
+use lib.IntN.{◌-ℤ◌}
 use mir.Syntax.{w64}
 use mir.Val.{to_z, of_z}
 use Rattle.number.specs.Range.{unbias, ranged}
 use Rattle.number.specs.Arithmetic.{difference_of}
-use Rattle.number.proofs.Integers.{handed, abs-difference}
-use Rattle.number.proofs.Bias.{down-range}
-use borrow.Author.Rules.{rules}
+use Rattle.number.proofs.Integers.{handed}
 use Rattle.number.proofs.arithmetic.subtract.Goals as goal
 use Rattle.number.proofs.arithmetic.subtract.Goals.{After-difference}
 
@@ -16,11 +13,6 @@ total : (c : After-difference) → to_z w64 (of_z w64 c.difference.result) ≡ �
 total c =
     handed ◌-ℤ◌ c.unbiased-x.type_inv c.unbiased-x.ensures.0 c.unbiased-y.type_inv c.unbiased-y.ensures.0
     c.difference.type_inv c.difference.ensures
-
-pub checked-requires : goal.checked-requires
-checked-requires c =
-    let a = c.args in
-    omega (arith, ap nat_abs (total c), abs-difference (unbias a.a) (unbias a.b), down-range a.a (omega arith), down-range a.b (omega arith))
 
 pub returns : goal.returns
 unfolding difference_of

@@ -2,14 +2,12 @@
 use mathlib.Core.Path.{◌≡◌, sym, subst, ◌∙◌}
 use Prim.Native.Nat.{◌≤◌}
 use native.Mathlib.Omega.{arith}
-use lib.Dec.{T}
 use lib.IntN.{ℤ, pos, nat_abs, ◌+ℤ◌}
-use lib.Signed.{non_neg}
 use mir.Syntax.{w64}
-use mir.Val.{Fits, SFits, to_z, of_z}
+use mir.Val.{SFits, to_z, of_z}
 use Rattle.edition.specs.Limits.{number_bound}
 use Rattle.number.specs.Range.{unbias, top}
-use Rattle.number.proofs.Integers.{fits1, back1, abs-fits}
+use Rattle.number.proofs.Integers.{back1, abs-fits}
 use Rattle.number.proofs.Bias.{up, up-eq, up-down, up_top}
 use Rattle.number.proofs.signed.biased.Goals as goal
 use Rattle.number.proofs.signed.biased.Goals.{Start}
@@ -21,13 +19,6 @@ lifted-fits c =
 
 lifted : (c : Start) → to_z w64 (of_z w64 (to_z w64 (of_z w64 c.args.z) +ℤ pos number_bound)) ≡ pos (up c.args.z)
 lifted c = back1 c.ranges.z (λ x. x +ℤ pos number_bound) (lifted-fits c) ∙ up-eq c.args.z c.requires.within
-
-pub overflow_add-result : goal.overflow_add-result
-overflow_add-result c = fits1 c.ranges.z (λ x. x +ℤ pos number_bound) (lifted-fits c)
-
-pub overflow_cast-result : goal.overflow_cast-result
-overflow_cast-result c =
-    subst (λ (x : ℤ). T (non_neg x) × Fits w64 (nat_abs x)) (sym (lifted c)) (tt, omega (arith, up_top c.args.z c.requires.within))
 
 pub returns : goal.returns
 returns c =

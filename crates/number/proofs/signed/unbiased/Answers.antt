@@ -1,19 +1,14 @@
 -- `unbiased`: the distance less the bound is the number.
-use mathlib.Core.Path.{◌≡◌, sym, ap, subst, ◌∙◌}
+use mathlib.Core.Path.{◌≡◌, ap, ◌∙◌}
 use native.Mathlib.Omega.{arith}
 use lib.IntN.{ℤ, pos, nat_abs, ◌-ℤ◌}
 use mir.Syntax.{w64}
-use mir.Val.{SFits, to_z, of_z}
+use mir.Val.{to_z, of_z}
 use mir.ValLaws.{to_z-of_z, to_z_pos}
 use Rattle.edition.specs.Limits.{number_bound}
 use Rattle.number.specs.Range.{unbias}
 use Rattle.number.proofs.Bias.{down_fits, down-range}
-use borrow.Author.Rules.{rules}
 use Rattle.number.proofs.signed.unbiased.Goals as goal
-
-pub overflow_sub-result : goal.overflow_sub-result
-overflow_sub-result c =
-    subst (λ (x : ℤ). SFits w64 (x -ℤ pos number_bound)) (sym (to_z_pos w64 c.args.w (omega arith))) (down_fits _ c.requires)
 
 pub returns : goal.returns
 unfolding unbias

@@ -1,5 +1,4 @@
 -- `read_prefix`: sign, digits, and by the byte after them a point with its digits.
-use borrow.Author.Rules.{rules}
 use borrow.Author.Tests.{eq-eqb, ne_eqb}
 use mathlib.Core.Path.{◌≡◌, sym, ap, ap₂, ◌∙◌}
 use mathlib.Core.Bool.{cond, true, false}
@@ -12,7 +11,7 @@ use Rattle.numeral.specs.Form.{is_sign, sign_length, whole_digits, digits_from, 
 use Rattle.numeral.specs.Judgement.{digits_value}
 use Rattle.numeral.specs.Capped.{capped}
 use Rattle.numeral.proofs.Values.{value_none}
-use Rattle.numeral.proofs.Prefixes.{sign-inside, digits-inside, digits-counted, digits-valued, point-inside, after-point, fraction-none, fraction-some, prefix-unpointed, prefix-pointed}
+use Rattle.numeral.proofs.Prefixes.{digits-inside, digits-counted, digits-valued, point-inside, after-point, fraction-none, fraction-some, prefix-unpointed, prefix-pointed}
 use Rattle.numeral.proofs.prefix.read_prefix.Goals as goal
 use Rattle.numeral.proofs.prefix.read_prefix.Goals.{After-byte_at, After-read_digits-fraction, After-read_digits-whole, After-sign_length-sign, Else-byte_at-ne46, Then-byte_at-ne46}
 use Rattle.numeral.proofs.prefix.read_prefix.Lts.View.{up-After-byte_at, up-After-read_digits-whole, up-After-sign_length-sign, up-Else-byte_at-ne46}
@@ -76,12 +75,6 @@ end-inside c =
     let h = has-point (up-Else-byte_at-ne46 _ _ _ c.before.before.before) in
     omega (arith, digits-inside t (point_at t + 1) (after-point t h), ap length (fraction-some t h))
 
-pub slice_bounds-read_digits-count : goal.slice_bounds-read_digits-count
-slice_bounds-read_digits-count c = omega (arith, sign-is c, sign-inside c.args.t.now)
-
-pub slice_bounds-read_digits-start : goal.slice_bounds-read_digits-start
-slice_bounds-read_digits-start c = omega (arith, sign-is c, sign-inside c.args.t.now)
-
 pub overflow_add-point : goal.overflow_add-point
 overflow_add-point c = omega (arith, point-is c, point-inside c.args.t.now)
 
@@ -98,15 +91,6 @@ returns-then-byte_at-ne46 c =
       whole_valued = whole_is (goal.at.returns-then-byte_at-ne46 c).After-read_digits-whole;
       fraction_valued = value_none ∙ ap (λ (f : List ℕ). capped (digits_value f)) (sym (fraction-none t n));
     }
-
-pub overflow_add-from : goal.overflow_add-from
-overflow_add-from c = omega (arith, point-is (goal.at.overflow_add-from c).After-read_digits-whole, after-point c.args.t.now (has-point c))
-
-pub slice_bounds-read_digits-count-2 : goal.slice_bounds-read_digits-count-2
-slice_bounds-read_digits-count-2 c = omega (arith, point-is (goal.at.slice_bounds-read_digits-count-2 c).After-read_digits-whole, after-point c.args.t.now (has-point c))
-
-pub slice_bounds-read_digits-start-2 : goal.slice_bounds-read_digits-start-2
-slice_bounds-read_digits-start-2 c = omega (arith, point-is (goal.at.slice_bounds-read_digits-start-2 c).After-read_digits-whole, after-point c.args.t.now (has-point c))
 
 pub overflow_add-count : goal.overflow_add-count
 overflow_add-count c = omega (arith, fraction-counted c, point-is (goal.at.overflow_add-count c).After-read_digits-whole, end-inside c)

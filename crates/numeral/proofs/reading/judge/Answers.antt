@@ -6,7 +6,6 @@ use Rattle.number.specs.Range.{number}
 use Rattle.number.proofs.Bias.{unbias-plus, unbias-minus}
 use Rattle.numeral.specs.Judgement.{with_sign}
 use Rattle.numeral.proofs.Judging.{judged-over, judged-broken, judged-whole}
-use borrow.Author.Rules.{rules}
 use Rattle.numeral.proofs.reading.judge.Goals as goal
 
 pub returns-then-whole-gt-NUMBER : goal.returns-then-whole-gt-NUMBER

@@ -1,5 +1,4 @@
 -- `read_stripped`: the prefix, what comes after it, and the judgement.
-use borrow.Author.Rules.{rules}
 use mathlib.Core.Path.{◌≡◌, ap, ap₂, ◌∙◌}
 use mathlib.Core.Bool.{cond, false}
 use Prim.Native.Nat.{ℕ, ◌+◌}
