@@ -1,20 +1,20 @@
 -- Laws on the class of a place: of a byte, of any byte, and of a whole bracket.
 use mathlib.Core.Path.{◌≡◌, refl, sym, ap, ◌∙◌}
-use mathlib.Core.Bool.{Bool, true, false, true≢false, not, cond}
+use mathlib.Core.Bool.{Bool, true, false, true≢false, not}
 use mathlib.Core.List.{List, [], ◌∷◌}
-use mathlib.Core.Option.{some, none}
+use mathlib.Core.Option as maybe
 use Prim.Native.Nat.{ℕ, ◌+◌, ◌≤◌, ◌<◌}
 use native.Mathlib.Omega.{arith}
 use lib.ListN.{drop}
-use Rattle.lists.proofs.Tests.{or_right}
+use Rattle.std.specs.Prelude.{Option, Some, None}
 use Rattle.lists.specs.Parsing.{Parsed, parsed}
 use Rattle.ere_meaning.specs.Tree.{Range, in_some, accepts, only, any_byte}
 use Rattle.ere_grammar.specs.Grammar.{range}
 use Rattle.ere_grammar.specs.Read.{begins, tail, Items, bracket_of, read_bracket}
 use Rattle.ere_byte_set.specs.Words.{in_class, no_byte, every_byte, with_byte, with_spans, other_bytes}
-use Rattle.ere_bracket.specs.Items.{items_of, worded, leads_to, Ended}
-use Rattle.ere_bracket.specs.Answer.{BracketReads}
-use Rattle.ere_bracket.specs.declared.brackets.Step.{Step}
+use Rattle.ere_bracket.specs.Items.{items_of, worded, Ended}
+use Rattle.ere_bracket.specs.Answer.{ClassRead, ClassReads}
+use Rattle.ere_bracket.specs.declared.brackets.Bracket.{Bracket}
 use Rattle.ere_byte_set.proofs.Laws.{bytes_one, four-none, four-spans, in-ranges, in-other, class-bit}
 use Rattle.ere_bracket.proofs.Steps.{tail-drop}
 
@@ -43,10 +43,10 @@ bracket-plain t e = rw (← e)
 
 -- ---- items that are words
 
-worded-none : (c : List ℕ) (i : Items) → none ≡ worded c i → i ≡ none
+worded-none : (c : List ℕ) (i : Items) → maybe.none ≡ worded c i → i ≡ maybe.none
 unfolding worded
-worded-none c none e = refl
-worded-none c (some g) e = let z : ◌≡◌ {A = ℕ} 0 1 = cc in absurd (omega arith)
+worded-none c maybe.none e = refl
+worded-none c (maybe.some g) e = let z : ◌≡◌ {A = ℕ} 0 1 = cc in absurd (omega arith)
 
 -- the items that some words come from
 record From (c w t : List ℕ) (i : Items) : Type 0 where
@@ -56,58 +56,51 @@ record From (c w t : List ℕ) (i : Items) : Type 0 where
 
 worded-some : (c w t : List ℕ) (i : Items) → parsed w t ≡ worded c i → From c w t i
 unfolding worded
-worded-some c w t none e = let z : ◌≡◌ {A = ℕ} 0 1 = cc in absurd (omega arith)
-worded-some c w t (some g) e =
+worded-some c w t maybe.none e = let z : ◌≡◌ {A = ℕ} 0 1 = cc in absurd (omega arith)
+worded-some c w t (maybe.some g) e =
     let z : ◌≡◌ {A = Parsed (List ℕ)} (record { value = w; rest = t }) (record { value = with_spans c g.value; rest = g.rest }) = cc in
     record { ranges = g.value; same = ap (λ (x : Parsed (List ℕ)). parsed g.value x.rest) (sym z); words = ap (λ (x : Parsed (List ℕ)). x.value) z }
 
 -- ---- the answer
 
-module _ (s : Step) (l : List ℕ) (from : ℕ) (w : Ended s l from (worded no_byte (items_of true (drop from l)))) where
-  ended : cond s.ok (parsed s.words (drop s.at l)) none ≡ worded no_byte (items_of true (drop from l))
-  unfolding leads_to
-  ended = rw w.over at w.leads.same
-
-  ended-bad : s.ok ≡ false → items_of true (drop from l) ≡ none
-  ended-bad e = worded-none no_byte (items_of true (drop from l)) (rw e at ended)
-
-  ended-read : s.ok ≡ true → From no_byte s.words (drop s.at l) (items_of true (drop from l))
-  ended-read e = worded-some no_byte s.words (drop s.at l) (items_of true (drop from l)) (rw e at ended)
-
+module _ (r : Bracket) (l : List ℕ) (from : ℕ) (w : Ended (Some r) l from (worded no_byte (items_of true (drop from l)))) where
   answer : (at : ℕ) (negated : Bool) (c : List ℕ) → at ≤ from → read_bracket (drop at l) ≡ bracket_of negated (items_of true (drop from l))
-      → ((rs : List Range) → s.words ≡ with_spans no_byte rs → (b : ℕ) → b < 256 → in_class c b ≡ accepts (record { negated = negated; ranges = rs }) b)
-      → BracketReads (record { ok = s.ok; next = s.at; words = c }) l at
+      → ((rs : List Range) → r.words ≡ with_spans no_byte rs → (b : ℕ) → b < 256 → in_class c b ≡ accepts (record { negated = negated; ranges = rs }) b)
+      → ClassRead (record { next = r.next; words = c }) l at (read_bracket (drop at l))
   unfolding bracket_of
   answer at negated c h e same =
+      let i = worded-some no_byte r.words (drop r.next l) (items_of true (drop from l)) w.0 in
       record {
-        refused = λ k. e ∙ ap (bracket_of negated) (ended-bad k);
-        read =
-            λ k.
-            let i = ended-read k in
-            let f = w.leads.further (or_right s.more s.ok k) in
-            record {
-              class = record { negated = negated; ranges = i.ranges };
-              same = e ∙ ap (bracket_of negated) i.same;
-              further = omega arith;
-              inside = omega arith;
-              bytes = same i.ranges i.words;
-            };
+        class = record { negated = negated; ranges = i.ranges };
+        same = e ∙ ap (bracket_of negated) i.same;
+        further = omega arith;
+        inside = omega arith;
+        bytes = same i.ranges i.words;
       }
 
-module _ (s : Step) (l : List ℕ) (at : ℕ) where
-  pub answer-plain : Ended s l at (worded no_byte (items_of true (drop at l))) → false ≡ begins (94 ∷ []) (drop at l)
-      → BracketReads (record { ok = s.ok; next = s.at; words = s.words }) l at
-  unfolding accepts
-  answer-plain w e =
-      answer s l at w at false s.words (omega arith) (bracket-plain (drop at l) e)
+module _ (l : List ℕ) (at : ℕ) where
+  pub answer-plain : (r : Option Bracket) → Ended r l at (worded no_byte (items_of true (drop at l))) → false ≡ begins (94 ∷ []) (drop at l)
+      → ClassReads r l at (read_bracket (drop at l))
+  unfolding accepts bracket_of
+  answer-plain None w e = bracket-plain (drop at l) e ∙ ap (bracket_of false) (worded-none no_byte (items_of true (drop at l)) w)
+  answer-plain (Some r) w e =
+      answer r l at w at false r.words (omega arith) (bracket-plain (drop at l) e)
       (λ rs z b h. ap (λ (c : List ℕ). in_class c b) z ∙ in-ranges rs b h)
 
-  pub answer-other : (c : List ℕ) → Ended s l (at + 1) (worded no_byte (items_of true (drop (at + 1) l))) → true ≡ begins (94 ∷ []) (drop at l)
-      → c ≡ other_bytes s.words → BracketReads (record { ok = s.ok; next = s.at; words = c }) l at
-  unfolding accepts
-  answer-other c w e k =
-      answer s l (at + 1) w at true c (omega arith) (bracket-other (drop at l) e ∙ ap (λ (t : List ℕ). bracket_of true (items_of true t)) (tail-drop at l))
-      (λ rs z b h.
-      ap (λ (d : List ℕ). in_class d b) (k ∙ ap other_bytes z)
-      ∙ in-other (with_spans no_byte rs) b (four-spans no_byte rs four-none) h
-      ∙ ap not (in-ranges rs b h))
+  module _ (e : true ≡ begins (94 ∷ []) (drop at l)) where
+    others : read_bracket (drop at l) ≡ bracket_of true (items_of true (drop (at + 1) l))
+    others = bracket-other (drop at l) e ∙ ap (λ (t : List ℕ). bracket_of true (items_of true t)) (tail-drop at l)
+
+    pub answer-none : Ended None l (at + 1) (worded no_byte (items_of true (drop (at + 1) l))) → ClassReads None l at (read_bracket (drop at l))
+    unfolding bracket_of
+    answer-none w = others ∙ ap (bracket_of true) (worded-none no_byte (items_of true (drop (at + 1) l)) w)
+
+    pub answer-other : (r : Bracket) (c : List ℕ) → Ended (Some r) l (at + 1) (worded no_byte (items_of true (drop (at + 1) l))) → c ≡ other_bytes r.words
+        → ClassRead (record { next = r.next; words = c }) l at (read_bracket (drop at l))
+    unfolding accepts
+    answer-other r c w k =
+        answer r l (at + 1) w at true c (omega arith) others
+        (λ rs z b h.
+        ap (λ (d : List ℕ). in_class d b) (k ∙ ap other_bytes z)
+        ∙ in-other (with_spans no_byte rs) b (four-spans no_byte rs four-none) h
+        ∙ ap not (in-ranges rs b h))

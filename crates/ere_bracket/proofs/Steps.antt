@@ -1,59 +1,69 @@
 -- Laws on the steps in which the items of a bracket are read.
-use mathlib.Core.Path.{◌≡◌, refl, sym, ap, ◌∙◌}
-use mathlib.Core.Bool.{Bool, true, false, true≢false, ◌||◌}
+use mathlib.Core.Path.{◌≡◌, refl, ap, subst, ◌∙◌}
+use mathlib.Core.Bool.{Bool, true, false}
 use mathlib.Core.List.{List, [], ◌∷◌}
-use mathlib.Core.Option.{Option, some, none}
+use mathlib.Core.Option as maybe
 use Prim.Native.Nat.{ℕ, zero, suc, ◌+◌, ◌-◌, ◌≤◌, ◌<◌}
 use native.Mathlib.Numerals.{add-one}
 use native.Mathlib.Omega.{arith}
 use lib.ListN.{length, drop, get_or, drop_of_length-le}
 use borrow.Author.Tests.{eq-eqb, ne_eqb, le-leb, lt-leb}
+use Rattle.std.specs.Prelude.{Option, Some, None}
 use Rattle.lists.specs.Parsing.{Parsed, parsed}
 use Rattle.buffer.proofs.Parts.{drop-next}
 use Rattle.ere_meaning.specs.Tree.{Range}
 use Rattle.ere_grammar.specs.Grammar.{range}
 use Rattle.ere_grammar.specs.Read.{begins, tail, read_member, joins, Items, with_range, last_hyphen, range_to, after_byte}
 use Rattle.ere_byte_set.specs.Words.{with_byte, with_bytes, with_span, with_spans}
-use Rattle.ere_bracket.specs.Items.{items_of, worded, goes_on, closed_at, refused_at, leads_to, Leads}
+use Rattle.ere_bracket.specs.Items.{items_of, worded, leads_to, Onward, Further, Leads, Ended}
+use Rattle.ere_bracket.specs.declared.brackets.Bracket.{Bracket}
 use Rattle.ere_bracket.specs.declared.brackets.Step.{Step}
+use Rattle.ere_bracket.specs.declared.brackets.Step.TheVariants.{GoesOn, Closed}
 use Rattle.ere_byte_set.proofs.Laws.{bytes_one}
 use Rattle.ere_bracket.proofs.Turns.{items-end, items-first, items-later}
 
 -- ---- steps
 
-module _ (l : List ℕ) (at : ℕ) {read : Option (Parsed (List ℕ))} (s : Step) (k : ℕ) (c : List ℕ) where
-  pub refuses : s ≡ refused_at k c → none ≡ read → Leads s l at read
+module _ (l : List ℕ) (at : ℕ) {read : maybe.Option (Parsed (List ℕ))} where
+  pub refuses : maybe.none ≡ read → Leads None l at read
   unfolding leads_to
-  refuses q e = rw q (record { same = e; further = λ h. absurd (true≢false (sym h)) })
+  refuses e = record { same = e; further = tt }
 
-  pub goes_on_lem : s ≡ goes_on k c → (at < k) × (k ≤ length l) → worded c (items_of false (drop k l)) ≡ read → Leads s l at read
+  pub goes_on : (k : ℕ) (c : List ℕ) → (at < k) × (k ≤ length l) → worded c (items_of false (drop k l)) ≡ read
+      → Leads (Some (GoesOn (record { next = k; words = c }))) l at read
   unfolding leads_to
-  goes_on_lem q h e = rw q (record { same = e; further = λ z. h })
+  goes_on k c h e = record { same = e; further = h }
 
-  pub closes : s ≡ closed_at k c → (at < k) × (k ≤ length l) → parsed c (drop k l) ≡ read → Leads s l at read
+  pub closes : (k : ℕ) (c : List ℕ) → (at < k) × (k ≤ length l) → parsed c (drop k l) ≡ read
+      → Leads (Some (Closed (record { next = k; words = c }))) l at read
   unfolding leads_to
-  closes q h e = rw q (record { same = e; further = λ z. h })
+  closes k c h e = record { same = e; further = h }
+
+further-from : (s : Option Step) (l : List ℕ) (at from : ℕ) → from ≤ at → Further s l at → Further s l from
+further-from (Some (GoesOn b)) l at from h f = (omega arith, omega arith)
+further-from (Some (Closed b)) l at from h f = (omega arith, omega arith)
+further-from None l at from h f = tt
 
 -- a step from an index is one from each index before it
-pub leads-from : (s : Step) (l : List ℕ) (at from : ℕ) {read whole : Option (Parsed (List ℕ))}
+pub leads-from : (s : Option Step) (l : List ℕ) (at from : ℕ) {read whole : maybe.Option (Parsed (List ℕ))}
     → from ≤ at → Leads s l at read → read ≡ whole → Leads s l from whole
-leads-from s l at from h w e = record { same = w.same ∙ e; further = λ z. let f = w.further z in (omega arith, omega arith) }
+leads-from s l at from h w e = record { same = w.same ∙ e; further = further-from s l at from h w.further }
 
 -- ---- the words of one range more
 
 worded-range : (c : List ℕ) (r : Range) (i : Items) → worded (with_span c r) i ≡ worded c (with_range r i)
 unfolding worded with_range with_spans
-worded-range c r none = refl
-worded-range c r (some g) = refl
+worded-range c r maybe.none = refl
+worded-range c r (maybe.some g) = refl
 
 -- ---- a range
 
-module _ (c : List ℕ) (a : ℕ) (o : Option (Parsed ℕ)) where
-  pub up-to-bad : none ≡ o → none ≡ worded c (range_to (items_of false) a o)
+module _ (c : List ℕ) (a : ℕ) (o : maybe.Option (Parsed ℕ)) where
+  pub up-to-bad : maybe.none ≡ o → maybe.none ≡ worded c (range_to (items_of false) a o)
   unfolding worded range_to
   up-to-bad e = rw (← e)
 
-  pub up-to-back : (b : ℕ) (t : List ℕ) → parsed b t ≡ o → b < a → none ≡ worded c (range_to (items_of false) a o)
+  pub up-to-back : (b : ℕ) (t : List ℕ) → parsed b t ≡ o → b < a → maybe.none ≡ worded c (range_to (items_of false) a o)
   unfolding worded range_to
   up-to-back b t e h = rw (← e, lt-leb a b h)
 
@@ -71,8 +81,8 @@ tail-drop zero (x ∷ l) = refl
 tail-drop (suc k) [] = rw add-one
 tail-drop (suc k) (x ∷ l) = rw add-one (tail-drop k l ∙ ap (λ (n : ℕ). drop n l) (add-one k))
 
-module _ (c : List ℕ) (o : Option (Parsed ℕ)) where
-  pub after-bad : none ≡ o → none ≡ worded c (after_byte (items_of false) o)
+module _ (c : List ℕ) (o : maybe.Option (Parsed ℕ)) where
+  pub after-bad : maybe.none ≡ o → maybe.none ≡ worded c (after_byte (items_of false) o)
   unfolding worded after_byte
   after-bad e = rw (← e)
 
@@ -94,7 +104,7 @@ module _ (c l : List ℕ) (at : ℕ) where
   unfolding worded last_hyphen with_spans
   hyphen-last w e k = rw (← e, tail-drop at l, k) (ap (λ (d : List ℕ). parsed d (drop (at + 1) l)) (bytes_one c 45))
 
-  pub hyphen-bad : false ≡ begins (93 ∷ []) (drop at l) → none ≡ worded c (last_hyphen (drop at l))
+  pub hyphen-bad : false ≡ begins (93 ∷ []) (drop at l) → maybe.none ≡ worded c (last_hyphen (drop at l))
   unfolding worded last_hyphen
   hyphen-bad e = rw (← e)
 
@@ -115,16 +125,23 @@ module _ (c l : List ℕ) (at : ℕ) where
     turn-item n m = rw (later, drop-next l at h, items-later, ne_eqb (get_or l at 0) 93 n, ne_eqb (get_or l at 0) 45 m)
 
   -- no bytes are left
-  pub turn-none : (first : Bool) → length l ≤ at → none ≡ worded c (items_of first (drop at l))
+  pub turn-none : (first : Bool) → length l ≤ at → maybe.none ≡ worded c (items_of first (drop at l))
   unfolding worded
   turn-none first h = rw (drop_of_length-le l {i = at} h, ← items-end first)
 
 -- ---- what a step tells
 
-module _ {s : Step} {l : List ℕ} {at : ℕ} {read : Option (Parsed (List ℕ))} (w : Leads s l at read) where
-  pub more-read : s.more ≡ true → worded s.words (items_of false (drop s.at l)) ≡ read
+module _ {s : Step} {l : List ℕ} {at from : ℕ} {read whole : maybe.Option (Parsed (List ℕ))} {b : Bracket}
+    (h : from ≤ at) (w : Leads (Some s) l at read) (e : read ≡ whole) where
+  pub goes-same : s ≡ GoesOn b → worded b.words (items_of false (drop b.next l)) ≡ whole
   unfolding leads_to
-  more-read e = rw e at w.same
+  goes-same k = (rw k at w.same) ∙ e
 
-  pub more-further : s.more ≡ true → (at < s.at) × (s.at ≤ length l)
-  more-further e = w.further (ap (λ (m : Bool). m || s.ok) e)
+  pub goes-further : s ≡ GoesOn b → Onward b l at
+  goes-further k = subst (λ (x : Step). Further (Some x) l at) k w.further
+
+  pub closed-ended : s ≡ Closed b → Ended (Some b) l from whole
+  unfolding leads_to
+  closed-ended k =
+      let f : Onward b l at = subst (λ (x : Step). Further (Some x) l at) k w.further in
+      ((rw k at w.same) ∙ e, (omega arith, omega arith))

@@ -1,4 +1,5 @@
-// Classes of bytes as four words of 64 bits: the byte b is bit b % 64 of word b / 64.
+// Classes of bytes as four words of 64 bits: the byte b is bit b % 64 of word b / 64. They are arrays and no struct of
+// their own, since `ere_table` stores their words in its table as they are.
 ghost use Rattle.std.specs.Prelude.{◌≡◌, ◌+◌, ◌-◌, ◌≤◌};
 ghost use Rattle.ere_byte_set.specs.Words.{in_class, no_byte, every_byte, with_byte, with_bytes, other_word, other_bytes};
 
@@ -6,31 +7,29 @@ ghost use Rattle.ere_byte_set.specs.Words.{in_class, no_byte, every_byte, with_b
 pub fn empty() -> [u64; 4]
     ensures { result ≡ no_byte }
 {
-    [0, 0, 0, 0]
+    [0; 4]
 }
 
 // Returns the class of every byte.
 pub fn full() -> [u64; 4]
     ensures { result ≡ every_byte }
 {
-    [u64::MAX, u64::MAX, u64::MAX, u64::MAX]
+    [u64::MAX; 4]
 }
 
 // Tells whether the byte b is in the class c.
 pub fn has(c: [u64; 4], b: u8) -> bool
     ensures { result ≡ in_class c b }
 {
-    let k = (b / 64) as usize;
-    (c[k] >> (b % 64)) % 2 == 1
+    (c[(b / 64) as usize] >> (b % 64)) % 2 == 1
 }
 
 // Returns the class c with the byte b.
 pub fn with_byte(c: [u64; 4], b: u8) -> [u64; 4]
     ensures { result ≡ with_byte c b }
 {
-    let k = (b / 64) as usize;
     let mut d = c;
-    d[k] = d[k] | (1 << (b % 64));
+    d[(b / 64) as usize] |= 1 << (b % 64);
     d
 }
 
@@ -38,7 +37,7 @@ pub fn with_byte(c: [u64; 4], b: u8) -> [u64; 4]
 pub fn single(b: u8) -> [u64; 4]
     ensures { result ≡ with_byte no_byte b }
 {
-    with_byte([0, 0, 0, 0], b)
+    with_byte(empty(), b)
 }
 
 // Returns the class c with the bytes from lo up to hi, both of them in it.
@@ -47,11 +46,10 @@ pub fn with_range(c: [u64; 4], lo: u8, hi: u8) -> [u64; 4]
     ensures { result ≡ with_bytes c lo (hi + 1 - lo) }
 {
     let mut d = c;
-    let mut n: u8 = 0;
-    while n < hi - lo {
-        let next = with_byte(d, lo + n);
+    // The last byte comes after the loop: the end of `lo..=hi` would be 256 where hi is 255, which is no u8.
+    for b in lo..hi {
+        let next = with_byte(d, b);
         d = next;
-        n += 1;
     }
     with_byte(d, hi)
 }

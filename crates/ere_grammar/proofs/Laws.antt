@@ -1,16 +1,15 @@
 -- Small laws of the tests that the reader makes, and of what it hands back.
 -- Assumes nothing.
 use mathlib.Core.Path.{◌≡◌, refl, sym}
-use mathlib.Core.Bool.{Bool, true, false, not, cond, ◌&&◌, ◌||◌}
+use mathlib.Core.Bool.{Bool, true, false, cond}
 use mathlib.Core.List.{List, [], ◌∷◌, ◌++◌}
 use mathlib.Core.Option.{Option, some, none}
 use Prim.Native.Nat.{ℕ}
-use native.Mathlib.Omega.{arith}
 use lib.Dec.{eqb}
 use borrow.Author.Tests.{eqb-true}
 use Rattle.lists.specs.Elements.{one_of}
 use Rattle.lists.specs.Parsing.{Parsed}
-use Rattle.lists.proofs.Tests.{clash, or-false, and-true, and-false}
+use Rattle.lists.proofs.Tests.{clash, or-false}
 use Rattle.ere_grammar.specs.Grammar.{Clear, at-end, before}
 use Rattle.ere_grammar.specs.Read.{begins, tail}
 

@@ -1,5 +1,5 @@
 -- Document 01, "EREs" and "Tokens and grammar": kinds of bytes in an ERE.
-use Rattle.std.specs.Prelude.{Bool, true, false, not, cond, ◌||◌, List, [], ◌∷◌, ℕ, eqb}
+use Rattle.std.specs.Prelude.{Bool, not, cond, ◌||◌, List, [], ◌∷◌, ℕ, eqb}
 use Rattle.std.proofs.Math.Option.{Option, some, none}
 use Rattle.lists.specs.Elements.{one_of}
 

@@ -1,6 +1,6 @@
 -- Document 01, "EREs": the bytes of an ERE and the tree that they spell, one constructor a rule.
-use Rattle.std.specs.Prelude.{◌≡◌, ◌⊎◌, Bool, true, false, List, [], ◌∷◌, ◌++◌, ℕ, suc, ◌≤◌, length}
-use Rattle.std.proofs.Math.Option.{Option, some, none}
+use Rattle.std.specs.Prelude.{◌≡◌, Bool, true, false, List, [], ◌∷◌, ◌++◌, ℕ, suc, ◌≤◌, length}
+use Rattle.std.proofs.Math.Option.{some}
 use Rattle.lists.specs.Elements.{one_of}
 use Rattle.edition.specs.Limits.{ere_bytes, ere_places, ere_groups}
 use Rattle.ere_meaning.specs.Tree.{Range, Class, only, any_byte, Ere, place, bol, eol, cat, alt, star, plus, opt, places}

@@ -2,16 +2,9 @@
 #![tactic(auto)]
 
 ghost use Rattle.std.specs.Prelude.{◌≡◌};
+ghost use Rattle.lists.specs.Answers.{option_of};
 ghost use Rattle.lists.specs.Elements.{one_of};
 ghost use Rattle.ere_grammar.specs.Bytes.{marks, lookup, string_escapes, escape_of, is_plain};
-ghost use Rattle.ere_grammar.specs.Escapes.{escaped_of};
-
-// What a backslash and another byte spell: a byte, or nothing.
-#[derive(Drop)]
-pub enum Escaped {
-    Byte(u8),
-    Nothing,
-}
 
 // The control bytes that have no letter of their own in code.
 const BELL: u8 = 7;
@@ -39,31 +32,33 @@ pub fn is_plain(b: u8) -> bool
     (b == b']') | !((b == b'\\') | is_mark(b))
 }
 
-// Returns the byte that a backslash and `b` spell in a STRING.
-pub fn string_escape_of(b: u8) -> Escaped
-    ensures { escaped_of result ≡ lookup string_escapes b }
+// Returns the byte that a backslash and `b` spell in a STRING, if they spell one.
+#[tactic(auto, unfolding(crate::specs::Bytes::lookup))]
+pub fn string_escape_of(b: u8) -> Option<u8>
+    ensures { option_of result ≡ lookup string_escapes b }
 {
     match b {
-        b'"' => Escaped::Byte(b'"'),
-        b'\\' => Escaped::Byte(b'\\'),
-        b'/' => Escaped::Byte(b'/'),
-        b'a' => Escaped::Byte(BELL),
-        b'b' => Escaped::Byte(BACKSPACE),
-        b't' => Escaped::Byte(b'\t'),
-        b'n' => Escaped::Byte(b'\n'),
-        b'v' => Escaped::Byte(VERTICAL_TAB),
-        b'f' => Escaped::Byte(FORM_FEED),
-        b'r' => Escaped::Byte(b'\r'),
-        _ => Escaped::Nothing,
+        b'"' => Some(b'"'),
+        b'\\' => Some(b'\\'),
+        b'/' => Some(b'/'),
+        b'a' => Some(BELL),
+        b'b' => Some(BACKSPACE),
+        b't' => Some(b'\t'),
+        b'n' => Some(b'\n'),
+        b'v' => Some(VERTICAL_TAB),
+        b'f' => Some(FORM_FEED),
+        b'r' => Some(b'\r'),
+        _ => None,
     }
 }
 
-// Returns the byte that a backslash and `b` spell in an ERE.
-pub fn escape_of(b: u8) -> Escaped
-    ensures { escaped_of result ≡ escape_of b }
+// Returns the byte that a backslash and `b` spell in an ERE, if they spell one.
+#[tactic(auto, unfolding(crate::specs::Bytes::escape_of))]
+pub fn escape_of(b: u8) -> Option<u8>
+    ensures { option_of result ≡ escape_of b }
 {
     if is_mark(b) {
-        Escaped::Byte(b)
+        Some(b)
     } else {
         string_escape_of(b)
     }

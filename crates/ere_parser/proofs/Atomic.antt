@@ -1,38 +1,31 @@
 -- Atoms that are no groups, by their first byte.
-use mathlib.Core.Path.{◌≡◌, sym, ◌∙◌}
-use mathlib.Core.Bool.{true, false, true≢false}
+use mathlib.Core.Path.{◌≡◌, ◌∙◌}
+use mathlib.Core.Bool.{true, false}
 use mathlib.Core.List.{List}
 use mathlib.Core.Option.{Option, none}
 use Prim.Native.Nat.{ℕ, ◌+◌, ◌≤◌, ◌<◌}
 use native.Mathlib.Omega.{arith}
 use lib.ListN.{length, drop}
 use borrow.Author.Tests.{eq-eqb, ne_eqb}
+use Rattle.std.specs.Prelude.{Option as Answer, Some, None}
 use Rattle.lists.specs.Parsing.{Parsed, parsed}
 use Rattle.ere_meaning.specs.Tree.{Class, accepts, only, any_byte}
 use Rattle.ere_grammar.specs.Bytes.{is_plain}
 use Rattle.ere_grammar.specs.Read.{read_escape, only_byte, read_bracket, read_atom}
 use Rattle.ere_byte_set.specs.Words.{in_class}
 use Rattle.ere_bracket.specs.declared.brackets.Bracket.{Bracket}
-use Rattle.ere_parser.specs.Atom.{AtomReads}
+use Rattle.ere_bracket.specs.Answer.{ClassRead, ClassReads}
 
 module _ {l : List ℕ} {o : Option (Parsed Class)} (at k : ℕ) (w : List ℕ) where
-  pub reads_none : o ≡ none → AtomReads (record { ok = false; next = k; words = w }) l at o
-  reads_none e = record { refused = λ z. e; read = λ z. absurd (true≢false (sym z)) }
-
   pub reads-got : (c : Class) → o ≡ parsed c (drop k l) → at < k → k ≤ length l → ((b : ℕ) → b < 256 → in_class w b ≡ accepts c b)
-      → AtomReads (record { ok = true; next = k; words = w }) l at o
-  reads-got c e f i b =
-      record { refused = λ z. absurd (true≢false z); read = λ z. record { class = c; same = e; further = f; inside = i; bytes = b } }
+      → ClassRead (record { next = k; words = w }) l at o
+  reads-got c e f i b = record { class = c; same = e; further = f; inside = i; bytes = b }
 
 -- an atom whose first byte comes before
-pub reads-from : {r : Bracket} {l : List ℕ} {at : ℕ} {o p : Option (Parsed Class)} → p ≡ o → AtomReads r l (at + 1) o → AtomReads r l at p
-reads-from e h =
-    record {
-      refused = λ z. e ∙ h.refused z;
-      read = λ z.
-          let q = h.read z in
-          record { class = q.class; same = e ∙ q.same; further = omega (arith, q.further); inside = q.inside; bytes = q.bytes };
-    }
+pub reads-from : (r : Answer Bracket) (l : List ℕ) (at : ℕ) {o p : Option (Parsed Class)} → p ≡ o → ClassReads r l (at + 1) o → ClassReads r l at p
+reads-from None l at e h = e ∙ h
+reads-from (Some r) l at e q =
+    record { class = q.class; same = e ∙ q.same; further = omega (arith, q.further); inside = q.inside; bytes = q.bytes }
 
 module _ (b : ℕ) (t : List ℕ) where
   pub atom-escape : b ≡ 92 → read_atom b t ≡ only_byte (read_escape t)

@@ -1,7 +1,6 @@
 -- Each kind of turn, as a move from one state to the next.
 use mathlib.Core.Path.{◌≡◌, refl, sym, ap, subst, ◌∙◌}
-use mathlib.Core.Bool.{Bool, true, false, true≢false, cond, ◌&&◌}
-use mathlib.Core.Logic.{inl, inr}
+use mathlib.Core.Bool.{Bool, true, false, true≢false, cond}
 use mathlib.Core.List.{List, [], ◌∷◌}
 use mathlib.Core.Option.{Option, some, none}
 use Prim.Native.Nat.{ℕ, suc, ◌+◌, ◌-◌, ◌≤◌, ◌<◌}
@@ -10,6 +9,7 @@ use native.Mathlib.Omega.{arith}
 use lib.ListN.{length, get_or, drop}
 use lib.Dec.{eqb, leb}
 use borrow.Author.Tests.{leb-true, leb-false}
+use Rattle.std.specs.Prelude.{Some, None}
 use Rattle.lists.specs.Parsing.{Parsed, parsed}
 use Rattle.edition.specs.Limits.{ere_places}
 use Rattle.buffer.proofs.Parts.{drop-next}
@@ -21,17 +21,17 @@ use Rattle.ere_bracket.specs.declared.brackets.Bracket.{Bracket}
 use Rattle.ere_table.proofs.Rows.{length-row}
 use Rattle.ere_table.proofs.Writes.{length-class}
 use Rattle.ere_parser.specs.Reading.{rest_from}
-use Rattle.ere_pieces.specs.State.{refused_of, ended_of, bar_of, pushed_of, pushed_table, piece_of, repeated_of, repeated_table, bol_entry, eol_entry, anchor_piece, anchor_of, anchor_table, closed_piece, grouped_of, grouped_table, leaf_table, leaf_piece, atom_table, join_entry, start_of, finish_of, refused_piece}
+use Rattle.ere_pieces.specs.State.{bar_of, pushed_of, pushed_table, piece_of, repeated_of, repeated_table, bol_entry, eol_entry, anchor_piece, anchor_of, anchor_table, closed_piece, grouped_of, grouped_table, leaf_table, leaf_piece, atom_table, join_entry, start_of, finish_of}
 use Rattle.ere_parser.specs.Built.{Built}
-use Rattle.ere_parser.specs.Standing.{size_of, AltsOk, SeqOk, Base, Refuses, unread, many, Standing, Closed, at-end, at_paren, Outcome, Safe, SameBelow, Moves, base_of, Under, GroupReads, Begins}
-use Rattle.ere_parser.specs.Atom.{AtomRead}
+use Rattle.ere_parser.specs.Standing.{size_of, AltsOk, SeqOk, Base, Refuses, unread, many, Standing, Closed, at-end, at_paren, Safe, SameBelow, Moves, Turns, base_of, Under, GroupRead, GroupReads, Begins}
+use Rattle.ere_bracket.specs.Answer.{ClassRead}
 use Rattle.ere_pieces.specs.declared.rows.Entry.{Entry}
 use Rattle.ere_pieces.specs.declared.rows.Piece.{Piece}
 use Rattle.ere_pieces.specs.declared.rows.State.{State}
 use Rattle.ere_parser.proofs.Steps.{rest-bol, rest-eol, rest-group, rest-atom, rest_end, rest-close}
 use Rattle.ere_parser.proofs.Grows.{size-or, Grows, from-grows, more-grows, repeated-grows, atom-grows}
 use Rattle.ere_parser.proofs.Built.{built-bol, built-eol, built-leaf}
-use Rattle.ere_parser.proofs.Turning.{alts-more, below-leaf, below-refl, below-trans, below_less, below-linked, standing-below, outcome-ended, outcome-refused, outcome-going, bar-refused, bar-standing, push-standing, begins-at, tail_at, repeat_tree, repeat-rest, repeat-places, repeat-built, repeat-hi, repeat-count, repeat-ends, below-repeated, length-repeated}
+use Rattle.ere_parser.proofs.Turning.{alts-more, below-leaf, below-refl, below-trans, below_less, below-linked, standing-below, bar-refused, bar-standing, push-standing, begins-at, tail_at, repeat_tree, repeat-rest, repeat-places, repeat-built, repeat-hi, repeat-count, repeat-ends, below-repeated, length-repeated}
 use Rattle.ere_pieces.proofs.Grouping.{inside}
 
 -- a goal that reads nothing, or more places than there may be
@@ -44,27 +44,14 @@ pub opened : (l : List ℕ) (at x : ℕ) → at < length l → get_or l at 0 ≡
 opened l at x h e = drop-next l at h ∙ ap (λ (b : ℕ). b ∷ drop (at + 1) l) e
 
 module _ {l : List ℕ} (n : ℕ) {t : List ℕ} (s : State) (safe : Safe l s) where
-  pub moves-refused : ((b : Base) → Standing l n b t s → Refuses b) → Moves l n t t s (refused_of s)
-  moves-refused f =
-      record {
-        safe = record { order = safe.order; fewer = safe.fewer; few = safe.few; inside = safe.inside };
-        kept = below-refl s.lo t;
-        later = le_refl s.lo;
-        onward = le_refl s.at;
-        ahead = inl refl;
-        means = λ b i st. outcome-refused s (f b st);
-      }
+  pub moves-refused : ((b : Base) → Standing l n b t s → Refuses b) → Turns l n t t s None
+  moves-refused f = (below-refl s.lo t, f)
 
-  pub moves-ended : Closed (drop s.at l) → Moves l n t t s (ended_of s)
-  moves-ended c =
-      record {
-        safe = record { order = safe.order; fewer = safe.fewer; few = safe.few; inside = safe.inside };
-        kept = below-refl s.lo t;
-        later = le_refl s.lo;
-        onward = le_refl s.at;
-        ahead = inl refl;
-        means = λ b i st. outcome-ended s st c;
-      }
+  -- where the group ends, what was read stands as it is
+  pub moves-ended : Closed (drop s.at l)
+      → (Safe l s) × (SameBelow s.lo t t)
+      × ((b : Base) → b.lo ≤ s.lo → Standing l n b t s → (Standing l n b t s) × (Closed (drop s.at l)))
+  moves-ended c = (safe, below-refl s.lo t, λ b i st. (st, c))
 
   module _ (h : s.at < length l) where
     pub moves-bar : get_or l s.at 0 ≡ 124 → s.some ≡ true → Moves l n t t s (bar_of s)
@@ -73,12 +60,11 @@ module _ {l : List ℕ} (n : ℕ) {t : List ℕ} (s : State) (safe : Safe l s) w
           safe = record { order = le_refl s.hi; fewer = safe.fewer; few = safe.few; inside = omega arith };
           kept = below-refl s.lo t;
           later = safe.order;
-          onward = omega arith;
-          ahead = inr (omega arith);
-          means = λ b i st. outcome-going (bar_of s) refl refl (bar-standing (drop (s.at + 1) l) (opened l s.at 124 h e) st i safe.order k refl);
+          ahead = omega arith;
+          means = λ b i st. bar-standing (drop (s.at + 1) l) (opened l s.at 124 h e) st i safe.order k refl;
         }
 
-    pub moves-no-bar : get_or l s.at 0 ≡ 124 → s.some ≡ false → Moves l n t t s (refused_of s)
+    pub moves-no-bar : get_or l s.at 0 ≡ 124 → s.some ≡ false → Turns l n t t s None
     moves-no-bar e k = moves-refused (λ b st. bar-refused (drop (s.at + 1) l) (opened l s.at 124 h e) st k)
 
 -- a piece more: u is the table with the piece
@@ -92,11 +78,10 @@ module _ {l : List ℕ} (n : ℕ) {t u : List ℕ} (s : State) (g : Piece) (e : 
         safe = record { order = omega (arith, safe.order); fewer = fewer; few = few; inside = within };
         kept = below-trans (below_less safe.order k) (below-linked u s.lo (s.hi - s.lo) g.entry.later (omega (arith, safe.order, safe.fewer, safe.few)));
         later = le_refl s.lo;
-        onward = omega arith;
-        ahead = inr ahead;
+        ahead = ahead;
         means = λ b i st.
             let q = standing-below safe.order k st in
-            outcome-going (pushed_of s g) refl refl (push-standing g e full i safe.order order (omega arith) built q (sym (next q.A q.S) ∙ q.same) counted);
+            push-standing g e full i safe.order order (omega arith) built q (sym (next q.A q.S) ∙ q.same) counted;
       }
 
 -- an anchor: e, which has one place
@@ -104,7 +89,7 @@ module _ {l : List ℕ} (n : ℕ) {t : List ℕ} (s : State) (x : Entry) (e : Er
     (built : Built t s.hi s.hi x e) (one : places e ≡ 1)
     (next : (A S : Option (Ere Class)) → rest_from n A S (drop s.at l) ≡ rest_from n A (some (and_then S e)) (drop (s.at + 1) l)) where
   anchor-by : (b : Bool) → leb ere_places s.count ≡ b
-      → Moves l n t (cond b t (pushed_table s (anchor_piece s x) t)) s (cond b (refused_of s) (pushed_of s (anchor_piece s x)))
+      → Turns l n t (cond b t (pushed_table s (anchor_piece s x) t)) s (cond b None (Some (pushed_of s (anchor_piece s x))))
   anchor-by true c =
       moves-refused n s safe
       (λ b st. refused-by (rest_from n st.A (some (and_then st.S e)) (drop (s.at + 1) l)) (size_of st.A + size_of st.S + places e)
@@ -114,36 +99,35 @@ module _ {l : List ℕ} (n : ℕ) {t : List ℕ} (s : State) (x : Entry) (e : Er
       moves-push n s (anchor_piece s x) e safe full (below-refl s.hi t) built (le_refl s.hi) (omega (arith, safe.fewer)) (omega (arith, leb-false ere_places s.count c))
       (omega arith) (omega arith) (omega arith) next
 
-  pub moves-anchor : Moves l n t (anchor_table s x t) s (anchor_of s x)
+  pub moves-anchor : Turns l n t (anchor_table s x t) s (anchor_of s x)
   moves-anchor = anchor-by (leb ere_places s.count) refl
 
-module _ {l : List ℕ} (n : ℕ) {t : List ℕ} (s : State) (safe : Safe l s) (full : length t ≡ table_words) (h : s.at < length l) where
-  pub moves-bol : get_or l s.at 0 ≡ 94 → Moves l n t (anchor_table s bol_entry t) s (anchor_of s bol_entry)
+module _ {l : List ℕ} (n : ℕ) (t : List ℕ) (s : State) (safe : Safe l s) (full : length t ≡ table_words) (h : s.at < length l) where
+  pub moves-bol : get_or l s.at 0 ≡ 94 → Turns l n t (anchor_table s bol_entry t) s (anchor_of s bol_entry)
   unfolding places
   moves-bol e =
       moves-anchor n s bol_entry bol safe full h built-bol refl
       (λ A S. ap (rest_from n A S) (opened l s.at 94 h e) ∙ rest-bol n A S (drop (s.at + 1) l))
 
-  pub moves-eol : get_or l s.at 0 ≡ 36 → Moves l n t (anchor_table s eol_entry t) s (anchor_of s eol_entry)
+  pub moves-eol : get_or l s.at 0 ≡ 36 → Turns l n t (anchor_table s eol_entry t) s (anchor_of s eol_entry)
   unfolding places
   moves-eol e =
       moves-anchor n s eol_entry eol safe full h built-eol refl
       (λ A S. ap (rest_from n A S) (opened l s.at 36 h e) ∙ rest-eol n A S (drop (s.at + 1) l))
 
--- ---- a group more, g, which was read after the `(`
+-- ---- a group more, after the `(`
 
-module _ {l : List ℕ} (n : ℕ) {t u : List ℕ} (s : State) (g : Piece) (safe : Safe l s) (full : length u ≡ table_words) (h : s.at < length l) (paren : get_or l s.at 0 ≡ 40)
-    (reads : GroupReads l n (s.at + 1) s.hi s.count t u g) where
+module _ {l : List ℕ} (n : ℕ) (s : State) (safe : Safe l s) (h : s.at < length l) (paren : get_or l s.at 0 ≡ 40) where
   abbrev inner : Tree
   inner = rest_from n none none (drop (s.at + 1) l)
 
-  goal-is : {b : Base} (st : Standing l (suc n) b t s) → b.goal ≡ after_group rest_from (suc n) st.A st.S inner
+  goal-is : {b : Base} {t : List ℕ} (st : Standing l (suc n) b t s) → b.goal ≡ after_group rest_from (suc n) st.A st.S inner
   unfolding read_group
   goal-is st =
       sym st.same ∙ ap (rest_from (suc n) st.A st.S) (opened l s.at 40 h paren) ∙ rest-group (suc n) st.A st.S (drop (s.at + 1) l)
 
   -- the group is refused
-  after-grows : {b : Base} (st : Standing l (suc n) b t s) (x : Parsed (Ere Class)) → Grows (size_of st.A + size_of st.S + places x.value) (after_group rest_from (suc n) st.A st.S (some x))
+  after-grows : {b : Base} {t : List ℕ} (st : Standing l (suc n) b t s) (x : Parsed (Ere Class)) → Grows (size_of st.A + size_of st.S + places x.value) (after_group rest_from (suc n) st.A st.S (some x))
   unfolding after_group
   after-grows st x = by (begins (41 ∷ []) x.rest)
     where
@@ -151,74 +135,67 @@ module _ {l : List ℕ} (n : ℕ) {t u : List ℕ} (s : State) (g : Piece) (safe
       by true = repeated-grows rest_from from-grows (suc n) st.A st.S x.value (tail x.rest)
       by false = tt
 
-  inner-refused : {b : Base} → Standing l (suc n) b t s → Refuses (record { lo = s.hi; count = s.count; goal = inner }) → Refuses b
+  inner-refused : {b : Base} {t : List ℕ} → Standing l (suc n) b t s → Refuses (record { lo = s.hi; count = s.count; goal = inner }) → Refuses b
   unfolding after_group
   inner-refused st (unread e) = unread (goal-is st ∙ ap (after_group rest_from (suc n) st.A st.S) e)
   inner-refused st (many x e m) =
       refused-by (after_group rest_from (suc n) st.A st.S (some x)) (size_of st.A + size_of st.S + places x.value)
       (goal-is st ∙ ap (after_group rest_from (suc n) st.A st.S) e) (after-grows st x) (omega (arith, st.counted))
 
-  -- it is not closed
-  open-refused : {b : Base} → Standing l (suc n) b t s → (e : Ere Class) → inner ≡ parsed e (drop g.at l) → eqb (get_or l g.at 0) 41 ≡ false → Refuses b
-  unfolding after_group
-  open-refused st e q c =
-      unread (goal-is st ∙ ap (after_group rest_from (suc n) st.A st.S) q
-      ∙ ap (λ (x : Bool). cond x (repeated rest_from (suc n) st.A st.S e (tail (drop g.at l))) none) (begins-at l g.at 41 (λ z. omega arith) ∙ c))
+  pub moves-unread : {t u : List ℕ} → GroupReads l n (s.at + 1) s.hi s.count t u None → Turns l (suc n) t u s None
+  moves-unread r = (below_less safe.order r.0, λ b st. inner-refused st r.1)
 
-  refused-moves : ((b : Base) → Standing l (suc n) b t s → Refuses b) → Moves l (suc n) t u s (refused_of s)
-  refused-moves f =
-      record {
-        safe = record { order = safe.order; fewer = safe.fewer; few = safe.few; inside = safe.inside };
-        kept = below_less safe.order reads.kept;
-        later = le_refl s.lo;
-        onward = le_refl s.at;
-        ahead = inl refl;
-        means = λ b i st. outcome-refused s (f b st);
-      }
+  -- the group g was read
+  module _ {t u : List ℕ} (g : Piece) (full : length u ≡ table_words) (reads : GroupRead l n (s.at + 1) s.hi s.count t u g) where
+    -- it is not closed
+    open-refused : {b : Base} {t : List ℕ} → Standing l (suc n) b t s → (e : Ere Class) → inner ≡ parsed e (drop g.at l) → eqb (get_or l g.at 0) 41 ≡ false → Refuses b
+    unfolding after_group
+    open-refused st e q c =
+        unread (goal-is st ∙ ap (after_group rest_from (suc n) st.A st.S) q
+        ∙ ap (λ (x : Bool). cond x (repeated rest_from (suc n) st.A st.S e (tail (drop g.at l))) none) (begins-at l g.at 41 (λ z. omega arith) ∙ c))
 
-  -- it is closed
-  abbrev mark : ℕ
-  mark = get_or l (g.at + 1) 0
+    -- it is closed
+    abbrev mark : ℕ
+    mark = get_or l (g.at + 1) 0
 
-  closed-next : (e : Ere Class) → inner ≡ parsed e (drop g.at l) → eqb (get_or l g.at 0) 41 ≡ true → (A S : Option (Ere Class))
-      → rest_from (suc n) A S (drop s.at l) ≡ rest_from (suc n) A (some (and_then S (repeat_tree mark e))) (drop (repeated_of mark (closed_piece g)).at l)
-  unfolding read_group after_group
-  closed-next e q c A S =
-      ap (rest_from (suc n) A S) (opened l s.at 40 h paren)
-      ∙ rest-group (suc n) A S (drop (s.at + 1) l)
-      ∙ ap (after_group rest_from (suc n) A S) q
-      ∙ ap (λ (x : Bool). cond x (repeated rest_from (suc n) A S e (tail (drop g.at l))) none) (begins-at l g.at 41 (λ z. omega arith) ∙ c)
-      ∙ ap (repeated rest_from (suc n) A S e) (tail_at l g.at (inside l g.at 41 (λ z. omega arith) c))
-      ∙ repeat-rest l (suc n) A S (closed_piece g) e
+    closed-next : (e : Ere Class) → inner ≡ parsed e (drop g.at l) → eqb (get_or l g.at 0) 41 ≡ true → (A S : Option (Ere Class))
+        → rest_from (suc n) A S (drop s.at l) ≡ rest_from (suc n) A (some (and_then S (repeat_tree mark e))) (drop (repeated_of mark (closed_piece g)).at l)
+    unfolding read_group after_group
+    closed-next e q c A S =
+        ap (rest_from (suc n) A S) (opened l s.at 40 h paren)
+        ∙ rest-group (suc n) A S (drop (s.at + 1) l)
+        ∙ ap (after_group rest_from (suc n) A S) q
+        ∙ ap (λ (x : Bool). cond x (repeated rest_from (suc n) A S e (tail (drop g.at l))) none) (begins-at l g.at 41 (λ z. omega arith) ∙ c)
+        ∙ ap (repeated rest_from (suc n) A S e) (tail_at l g.at (inside l g.at 41 (λ z. omega arith) c))
+        ∙ repeat-rest l (suc n) A S (closed_piece g) e
 
-  closed-moves : g.ok ≡ true → eqb (get_or l g.at 0) 41 ≡ true
-      → Moves l (suc n) t (pushed_table s (repeated_of mark (closed_piece g)) (repeated_table mark (closed_piece g) s.hi u)) s (pushed_of s (repeated_of mark (closed_piece g)))
-  closed-moves k c =
-      let r = reads.read k in
-      let q = closed_piece g in
-      let i = inside l g.at 41 (λ z. omega arith) c in
-      let ends = repeat-ends l q (omega arith) in
-      let m : g.hi ≤ ere_places = omega (arith, reads.fewer, reads.few) in
-      let eh = repeat-hi mark q r.0 in
-      let ec = repeat-count mark q r.0 in
-      moves-push (suc n) s (repeated_of mark q) (repeat_tree mark r.0) safe
-      (length-repeated mark q s.hi u ∙ full)
-      (below-trans reads.kept (below-repeated mark q s.hi u reads.order m))
-      (subst (λ (x : ℕ). Built (repeated_table mark q s.hi u) s.hi x (repeated_of mark q).entry (repeat_tree mark r.0)) (sym eh)
-      (repeat-built mark q r.0 s.hi full reads.order m r.3))
-      (omega (arith, reads.order)) (omega (arith, reads.fewer)) (omega (arith, reads.few)) (omega (arith, reads.from, ends.0)) ends.1
-      (omega (arith, repeat-places mark q r.0, r.2)) (closed-next r.0 r.1 c)
+    closed-moves : eqb (get_or l g.at 0) 41 ≡ true
+        → Moves l (suc n) t (pushed_table s (repeated_of mark (closed_piece g)) (repeated_table mark (closed_piece g) s.hi u)) s (pushed_of s (repeated_of mark (closed_piece g)))
+    closed-moves c =
+        let r = reads.read in
+        let q = closed_piece g in
+        let i = inside l g.at 41 (λ z. omega arith) c in
+        let ends = repeat-ends l q (omega arith) in
+        let m : g.hi ≤ ere_places = omega (arith, reads.fewer, reads.few) in
+        let eh = repeat-hi mark q r.0 in
+        let ec = repeat-count mark q r.0 in
+        moves-push (suc n) s (repeated_of mark q) (repeat_tree mark r.0) safe
+        (length-repeated mark q s.hi u ∙ full)
+        (below-trans reads.kept (below-repeated mark q s.hi u reads.order m))
+        (subst (λ (x : ℕ). Built (repeated_table mark q s.hi u) s.hi x (repeated_of mark q).entry (repeat_tree mark r.0)) (sym eh)
+        (repeat-built mark q r.0 s.hi full reads.order m r.3))
+        (omega (arith, reads.order)) (omega (arith, reads.fewer)) (omega (arith, reads.few)) (omega (arith, reads.from, ends.0)) ends.1
+        (omega (arith, repeat-places mark q r.0, r.2)) (closed-next r.0 r.1 c)
 
-  grouped-by : (x y : Bool) → g.ok ≡ x → eqb (get_or l g.at 0) 41 ≡ y
-      → Moves l (suc n) t
-      (cond (x && y) (pushed_table s (repeated_of mark (closed_piece g)) (repeated_table mark (closed_piece g) s.hi u)) u) s
-      (cond (x && y) (pushed_of s (repeated_of mark (closed_piece g))) (refused_of s))
-  grouped-by true true p q = closed-moves p q
-  grouped-by true false p q = refused-moves (λ b st. open-refused st (reads.read p).0 (reads.read p).1 q)
-  grouped-by false y p q = refused-moves (λ b st. inner-refused st (reads.refused p))
+    grouped-by : (y : Bool) → eqb (get_or l g.at 0) 41 ≡ y
+        → Turns l (suc n) t
+        (cond y (pushed_table s (repeated_of mark (closed_piece g)) (repeated_table mark (closed_piece g) s.hi u)) u) s
+        (cond y (Some (pushed_of s (repeated_of mark (closed_piece g)))) None)
+    grouped-by true q = closed-moves q
+    grouped-by false q = (below_less safe.order reads.kept, λ b st. open-refused st reads.read.0 reads.read.1 q)
 
-  pub moves-grouped : Moves l (suc n) t (grouped_table l s g u) s (grouped_of l s g)
-  moves-grouped = grouped-by g.ok (eqb (get_or l g.at 0) 41) refl refl
+    pub moves-grouped : Turns l (suc n) t (grouped_table l s g u) s (grouped_of l s g)
+    moves-grouped = grouped-by (eqb (get_or l g.at 0) 41) refl
 
 -- ---- an atom more that is no group
 
@@ -232,17 +209,17 @@ module _ {l : List ℕ} (n : ℕ) (s : State) (safe : Safe l s) (h : s.at < leng
       ∙ rest-atom n A S (get_or l s.at 0) (drop (s.at + 1) l) b.no_close b.no_bar b.no_bol b.no_eol b.no_open
 
   -- there are as many places as there may be
-  pub moves-full : {t : List ℕ} → ere_places ≤ s.count → Moves l n t t s (refused_of s)
+  pub moves-full : {t : List ℕ} → ere_places ≤ s.count → Turns l n t t s None
   moves-full m =
       moves-refused n s safe
       (λ x st. refused-by (after_atom rest_from n st.A st.S read) (size_of st.A + size_of st.S + 1) (sym st.same ∙ atom-rest st.A st.S)
       (atom-grows rest_from from-grows n st.A st.S read) (omega (arith, st.counted)))
 
-  pub moves-bad : {t : List ℕ} → read ≡ none → Moves l n t t s (refused_of s)
+  pub moves-bad : {t : List ℕ} → read ≡ none → Turns l n t t s None
   unfolding after_atom
   moves-bad e = moves-refused n s safe (λ x st. unread (sym st.same ∙ atom-rest st.A st.S ∙ ap (after_atom rest_from n st.A st.S) e))
 
-  module _ (t : List ℕ) (full : length t ≡ table_words) (r : Bracket) (q : AtomRead r l s.at read) (few : s.count < ere_places) where
+  module _ (t : List ℕ) (full : length t ≡ table_words) (r : Bracket) (q : ClassRead r l s.at read) (few : s.count < ere_places) where
     abbrev leaf : Piece
     leaf = leaf_piece s r.next
 
@@ -275,43 +252,42 @@ module _ {l : List ℕ} (n : ℕ) (s : State) (safe : Safe l s) (h : s.at < leng
 -- ---- a group from its start to its end
 
 pub started : (l : List ℕ) (n at lo count : ℕ) (t : List ℕ)
-    → Outcome l n (base_of l n at lo count) t (start_of at lo count)
+    → Standing l n (base_of l n at lo count) t (start_of at lo count)
 unfolding AltsOk SeqOk size_of
 started l n at lo count t =
-    outcome-going (start_of at lo count) refl refl
-    (record { A = none; S = none; same = refl; counted = omega arith; alts_ok = (refl, refl); seq_ok = (refl, refl, refl) })
+    record { A = none; S = none; same = refl; counted = omega arith; alts_ok = (refl, refl); seq_ok = (refl, refl, refl) }
 
-module _ {l : List ℕ} {n at lo count : ℕ} {t₀ t : List ℕ} (s : State) (under : Under l n at lo count t₀ t s) (over : s.over ≡ true) where
+module _ {l : List ℕ} {n at lo count : ℕ} {t₀ t : List ℕ} (s : State) (under : Under l n at lo count t₀ t s) (closed : Closed (drop s.at l)) where
   abbrev safe : Safe l s
   safe = under.safe
 
-  abbrev out : Outcome l n (base_of l n at lo count) t s
-  out = under.means
+  abbrev st : Standing l n (base_of l n at lo count) t s
+  st = under.means
 
   rest-closed : {u : List ℕ} → Closed u → (A S : Option (Ere Class)) → rest_from n A S u ≡ finished A S u
   rest-closed at-end A S = rest_end n A S
   rest-closed at_paren A S = rest-close n A S _
 
-  piece : (S : Option (Ere Class)) (st : Standing l n (base_of l n at lo count) t s) → s.ok ≡ true → s.some ≡ true
+  piece : (S : Option (Ere Class)) → s.some ≡ true
       → SeqOk t s.lo s.hi s.seq s.some S → count + (size_of st.A + size_of S) ≡ s.count → rest_from n none none (drop at l) ≡ finished st.A S (drop s.at l)
       → (e : Ere Class) × (rest_from n none none (drop at l) ≡ parsed e (drop s.at l)) × (count + places e ≡ s.count)
       × (Built t lo s.hi (join_entry s.alts s.seq) e) × (Closed (drop s.at l))
   unfolding SeqOk size_of finished
-  piece none st o m p c e = absurd (true≢false (sym m ∙ p.0))
-  piece (some x) st o m p c e =
-      (or_else st.A x, e, omega (arith, size-or st.A x), alts-more lo s.alts st.A x under.later safe.order st.alts_ok p.1, out.closed o over)
+  piece none m p c e = absurd (true≢false (sym m ∙ p.0))
+  piece (some x) m p c e =
+      (or_else st.A x, e, omega (arith, size-or st.A x), alts-more lo s.alts st.A x under.later safe.order st.alts_ok p.1, closed)
 
-  goal-finished : (o : s.ok ≡ true) → rest_from n none none (drop at l) ≡ finished (out.standing o).A (out.standing o).S (drop s.at l)
-  goal-finished o = let st = out.standing o in sym st.same ∙ rest-closed (out.closed o over) st.A st.S
+  goal-finished : rest_from n none none (drop at l) ≡ finished st.A st.S (drop s.at l)
+  goal-finished = sym st.same ∙ rest-closed closed st.A st.S
 
   no-piece-none : (A S : Option (Ere Class)) → SeqOk t s.lo s.hi s.seq s.some S → s.some ≡ false → finished A S (drop s.at l) ≡ none
   unfolding SeqOk finished
   no-piece-none A none p e = refl
   no-piece-none A (some x) p e = absurd (true≢false (sym p.0 ∙ e))
 
-  finished-by : (x y : Bool) → s.ok ≡ x → s.some ≡ y
-      → GroupReads l n at lo count t₀ t (cond (x && y) (piece_of s.at s.hi s.count (join_entry s.alts s.seq)) (refused_piece s))
-  finished-by true true o m =
+  finished-by : (y : Bool) → s.some ≡ y
+      → GroupReads l n at lo count t₀ t (cond y (Some (piece_of s.at s.hi s.count (join_entry s.alts s.seq))) None)
+  finished-by true m =
       record {
         order = omega (arith, under.later, safe.order);
         fewer = safe.fewer;
@@ -319,31 +295,9 @@ module _ {l : List ℕ} {n at lo count : ℕ} {t₀ t : List ℕ} (s : State) (u
         from = under.onward;
         inside = safe.inside;
         kept = under.kept;
-        refused = λ z. absurd (true≢false z);
-        read = λ z. let st = out.standing o in piece st.S st o m st.seq_ok st.counted (goal-finished o);
+        read = piece st.S m st.seq_ok st.counted goal-finished;
       }
-  finished-by true false o m =
-      record {
-        order = omega (arith, under.later, safe.order);
-        fewer = safe.fewer;
-        few = safe.few;
-        from = under.onward;
-        inside = safe.inside;
-        kept = under.kept;
-        refused = λ z. let st = out.standing o in unread (goal-finished o ∙ no-piece-none st.A st.S st.seq_ok m);
-        read = λ z. absurd (true≢false (sym z));
-      }
-  finished-by false y o m =
-      record {
-        order = omega (arith, under.later, safe.order);
-        fewer = safe.fewer;
-        few = safe.few;
-        from = under.onward;
-        inside = safe.inside;
-        kept = under.kept;
-        refused = λ z. (out.refused o).1;
-        read = λ z. absurd (true≢false (sym z));
-      }
+  finished-by false m = (under.kept, unread (goal-finished ∙ no-piece-none st.A st.S st.seq_ok m))
 
   pub group-finished : GroupReads l n at lo count t₀ t (finish_of s)
-  group-finished = finished-by s.ok s.some refl refl
+  group-finished = finished-by s.some refl

@@ -23,9 +23,9 @@ use Rattle.ere_table.proofs.Rows.{linked-out, row_other, length-linked}
 use Rattle.ere_table.proofs.Parts.{Kept}
 use Rattle.ere_parser.specs.Reading.{rest_from}
 use Rattle.ere_pieces.proofs.Grouping.{inside}
-use Rattle.ere_pieces.specs.State.{join_entry, link_entry, stop_entry, no_alts, no_seq, refused_of, ended_of, bar_of, pushed_of, pushed_table, piece_of, repeated_of, loop_table, repeated_table, leaf_table}
+use Rattle.ere_pieces.specs.State.{join_entry, link_entry, stop_entry, no_alts, no_seq, bar_of, pushed_of, pushed_table, piece_of, repeated_of, loop_table, repeated_table, leaf_table}
 use Rattle.ere_parser.specs.Built.{Built}
-use Rattle.ere_parser.specs.Standing.{size_of, Base, Refuses, unread, AltsOk, SeqOk, Standing, Closed, Outcome, SameBelow}
+use Rattle.ere_parser.specs.Standing.{size_of, Base, Refuses, unread, AltsOk, SeqOk, Standing, SameBelow}
 use Rattle.ere_pieces.specs.declared.rows.Entry.{Entry}
 use Rattle.ere_pieces.specs.declared.rows.Piece.{Piece}
 use Rattle.ere_pieces.specs.declared.rows.State.{State}
@@ -82,24 +82,6 @@ standing-below {b = b} {s = s} o k st =
       alts_ok = alts-below b.lo s.alts st.A (below_less o k) st.alts_ok;
       seq_ok = seq-below s.lo s.seq s.some st.S k st.seq_ok;
     }
-
--- ---- ends and refusals
-
-module _ {l : List ℕ} {n : ℕ} {b : Base} {t : List ℕ} (s : State) where
-  pub outcome-ended : Standing l n b t s → Closed (drop s.at l) → Outcome l n b t (ended_of s)
-  outcome-ended st c =
-      record {
-        refused = λ e. absurd (true≢false e);
-        standing = λ e. record { A = st.A; S = st.S; same = st.same; counted = st.counted; alts_ok = st.alts_ok; seq_ok = st.seq_ok };
-        closed = λ e f. c;
-      }
-
-  pub outcome-refused : Refuses b → Outcome l n b t (refused_of s)
-  outcome-refused r = record { refused = λ e. (refl, r); standing = λ e. absurd (true≢false (sym e)); closed = λ e f. absurd (true≢false (sym e)) }
-
-  pub outcome-going : s.ok ≡ true → s.over ≡ false → Standing l n b t s → Outcome l n b t s
-  outcome-going k o st =
-      record { refused = λ e. absurd (true≢false (sym k ∙ e)); standing = λ e. st; closed = λ e f. absurd (true≢false (sym f ∙ o)) }
 
 -- the sequence as one alternative more
 pub alts-more : {t : List ℕ} (lo : ℕ) {mid hi : ℕ} (x : Entry) {y : Entry} (A : Option (Ere Class)) (e : Ere Class) → lo ≤ mid → mid ≤ hi → AltsOk t lo mid x A → Built t mid hi y e

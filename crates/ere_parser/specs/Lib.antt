@@ -1,5 +1,4 @@
--- What the reader of EREs keeps, what each turn makes of it, and what reading an atom answers.
-pub mod Atom
+-- What the reader of EREs keeps, and what each turn makes of it.
 pub mod Reading
 pub mod Built
 pub mod Standing

@@ -1,6 +1,6 @@
 -- Internal: cited by private contracts only. What holds while a group is read: the trees so far, in the table, and what
 -- is left to read gives what the whole gives.
-use Rattle.std.specs.Prelude.{◌≡◌, ◌⊎◌, Bool, true, false, List, [], ◌∷◌, ℕ, ◌+◌, ◌≤◌, ◌<◌, length, drop}
+use Rattle.std.specs.Prelude.{◌≡◌, Bool, true, false, Option as Answer, Some, None, List, [], ◌∷◌, ℕ, ◌+◌, ◌≤◌, ◌<◌, length, drop}
 use Rattle.std.proofs.Math.Option.{Option, some, none}
 use Rattle.lists.specs.Parsing.{Parsed, parsed}
 use Rattle.edition.specs.Limits.{ere_places}
@@ -51,11 +51,6 @@ pub data Closed : List ℕ → Type 0 where
   at-end : Closed []
   at_paren : {t : List ℕ} → Closed (41 ∷ t)
 
-pub record Outcome (l : List ℕ) (n : ℕ) (b : Base) (t : List ℕ) (s : State) : Type 0 where
-  pub refused : s.ok ≡ false → (s.over ≡ true) × (Refuses b)
-  pub standing : s.ok ≡ true → Standing l n b t s
-  pub closed : s.ok ≡ true → s.over ≡ true → Closed (drop s.at l)
-
 -- sizes
 pub record Safe (l : List ℕ) (s : State) : Type 0 where
   pub order : s.lo ≤ s.hi
@@ -68,14 +63,18 @@ pub record SameBelow (lo : ℕ) (t u : List ℕ) : Type 0 where
   pub rows : (r : ℕ) → r < lo + 2 → row u r ≡ row t r
   pub classes : (p b : ℕ) → p < lo → b < 256 → accepts_at u p b ≡ accepts_at t p b
 
--- one turn: from s with the table t to r with the table u
+-- a turn that goes on: from s with the table t to r with the table u
 pub record Moves (l : List ℕ) (n : ℕ) (t u : List ℕ) (s r : State) : Type 0 where
   pub safe : Safe l r
   pub kept : SameBelow s.lo t u
   pub later : s.lo ≤ r.lo
-  pub onward : s.at ≤ r.at
-  pub ahead : (r.over ≡ true) ⊎ (s.at < r.at)
-  pub means : (b : Base) → b.lo ≤ s.lo → Standing l n b t s → Outcome l n b u r
+  pub ahead : s.at < r.at
+  pub means : (b : Base) → b.lo ≤ s.lo → Standing l n b t s → Standing l n b u r
+
+-- one turn: it goes on, or the definition refuses
+abbrev pub Turns : List ℕ → ℕ → List ℕ → List ℕ → State → Answer State → Type 0
+Turns l n t u s None = (SameBelow s.lo t u) × ((b : Base) → Standing l n b t s → Refuses b)
+Turns l n t u s (Some r) = Moves l n t u s r
 
 -- where a group from at on begins, whose first place is lo, with count places and anchors before it
 abbrev pub base_of : List ℕ → ℕ → ℕ → ℕ → ℕ → Base
@@ -87,20 +86,23 @@ pub record Under (l : List ℕ) (n at lo count : ℕ) (t₀ t : List ℕ) (s : S
   pub later : lo ≤ s.lo
   pub onward : at ≤ s.at
   pub kept : SameBelow lo t₀ t
-  pub means : Outcome l n (base_of l n at lo count) t s
+  pub means : Standing l n (base_of l n at lo count) t s
 
 -- a group that was read: its bytes are those from at on
-pub record GroupReads (l : List ℕ) (n at lo count : ℕ) (t u : List ℕ) (r : Piece) : Type 0 where
+pub record GroupRead (l : List ℕ) (n at lo count : ℕ) (t u : List ℕ) (r : Piece) : Type 0 where
   pub order : lo ≤ r.hi
   pub fewer : r.hi ≤ r.count
   pub few : r.count ≤ ere_places
   pub from : at ≤ r.at
   pub inside : r.at ≤ length l
   pub kept : SameBelow lo t u
-  pub refused : r.ok ≡ false → Refuses (base_of l n at lo count)
-  pub read : r.ok ≡ true
-      → (e : Ere Class) × (rest_from n none none (drop at l) ≡ parsed e (drop r.at l)) × (count + places e ≡ r.count)
+  pub read : (e : Ere Class) × (rest_from n none none (drop at l) ≡ parsed e (drop r.at l)) × (count + places e ≡ r.count)
       × (Built u lo r.hi r.entry e) × (Closed (drop r.at l))
+
+-- the answer for a group: it was read, or the definition refuses
+abbrev pub GroupReads : List ℕ → ℕ → ℕ → ℕ → ℕ → List ℕ → List ℕ → Answer Piece → Type 0
+GroupReads l n at lo count t u None = (SameBelow lo t u) × Refuses (base_of l n at lo count)
+GroupReads l n at lo count t u (Some r) = GroupRead l n at lo count t u r
 
 -- a byte that begins one
 pub record Begins (b : ℕ) : Type 0 where

@@ -1,59 +1,58 @@
 // The reader of EREs: recursive descent, which calls itself for groups alone; the items of a group are a loop.
 //
-// The loop's invariant (`Outcome`, `Standing`, `Safe` of specs/Standing.antt): the places of the group's alternatives
+// The loop's invariant (`Under`, `Standing`, `Safe` of specs/Standing.antt): the places of the group's alternatives
 // so far end at `s.lo`, those of the sequence since the last `|` at `s.hi`. The table has the rows and classes of both,
 // as parts by themselves, whose first sets are `s.alts` and `s.seq`, and the rows and classes below the group's first
 // place are as they were. To go on reading at `s.at`, with these two trees, gives what the definition gives for the
-// whole group. `s.count` counts places and anchors, 128 at most. A turn (`Moves`) keeps all this and goes on by a byte
-// or ends the group. Where it refuses, the definition reads nothing, or more than 128 places (`Refuses`).
-ghost use Rattle.std.specs.Prelude.{◌≡◌, ℕ, ◌+◌, ◌-◌, ◌≤◌, ◌<◌, length, get_or};
+// whole group. `s.count` counts places and anchors, 128 at most. A turn (`Turns`) keeps all this and goes on by a
+// byte. Where it refuses, the definition reads nothing, or more than 128 places (`Refuses`).
+ghost use Rattle.std.specs.Prelude.{◌≡◌, ◌≢◌, true, false, ℕ, ◌+◌, ◌-◌, ◌≤◌, ◌<◌, length, get_or, drop};
 ghost use Rattle.edition.specs.Limits.{ere_places, ere_bytes};
 ghost use Rattle.ere_table.specs.Table.{table_words};
-ghost use Rattle.ere_parser.specs.Standing.{Safe, Begins, Moves, GroupReads};
+ghost use Rattle.ere_parser.specs.Standing.{Closed, Safe, Begins, Turns, GroupReads};
 
 use crate::atoms;
 use edition::Edition;
 use ere_pieces::{Entry, Piece, State};
 use ere_table::{ACCEPT, ACCEPT_AT_END, NOTHING};
 
+// Tells whether a group ends before an index: at the end, or before a `)`.
+fn ends(ere: &[u8], at: usize) -> bool
+    ensures closed { result ≡ true → Closed (drop at ere.now) }
+    ensures goes_on { result ≡ false → (at < length ere.now) × (get_or ere.now at 0 ≢ 41) }
+{
+    if at >= ere.len() {
+        return true;
+    }
+    ere[at] == b')'
+}
+
 // Appends an atom that is no group, with what repeats it; refuses the 129th place.
-fn atom(ere: &[u8], s: State, t: &mut [u64]) -> State
+fn atom(ere: &[u8], s: State, t: &mut [u64]) -> Option<State>
     requires { (length t.old ≡ table_words) × (length ere.now ≤ ere_bytes) × (s.at < length ere.now)
         × Safe ere.now s × Begins (get_or ere.now s.at 0) }
-    ensures { (n : ℕ) → Moves ere.now n t.old t.new s result }
+    ensures { (n : ℕ) → Turns ere.now n t.old t.new s result }
 {
-    let at = s.at;
     let p = s.hi;
     let count = s.count;
     if count >= Edition::ERE_PLACES {
-        return ere_pieces::refused(s);
+        return None;
     }
-    let a = atoms::read_atom(ere, at);
-    if !a.ok {
-        return ere_pieces::refused(s);
-    }
-    let words = a.words;
-    let next = a.next;
-    let g = ere_pieces::leaf(words, next, p, count, t);
-    let b = ere_pieces::byte_at(ere, next);
+    let a = atoms::read_atom(ere, s.at)?;
+    let g = ere_pieces::leaf(a.words, a.next, p, count, t);
+    let b = ere_pieces::byte_at(ere, a.next);
     let r = ere_pieces::repeated(b, g, p, t);
-    ere_pieces::pushed(s, r, t)
+    Some(ere_pieces::pushed(s, r, t))
 }
 
-// Takes one turn: the end of the group, a `|`, an anchor, a group inside, or another atom.
+// Takes one turn inside a group: a `|`, an anchor, a group inside, or another atom.
 #[cycle(item_read_group)]
-fn item(ere: &[u8], levels: usize, s: State, t: &mut [u64]) -> State
-    requires { (length t.old ≡ table_words) × (length ere.now ≤ ere_bytes) × Safe ere.now s }
-    ensures { Moves ere.now levels t.old t.new s result }
+fn item(ere: &[u8], levels: usize, s: State, t: &mut [u64]) -> Option<State>
+    requires { (length t.old ≡ table_words) × (length ere.now ≤ ere_bytes) × (s.at < length ere.now)
+        × (get_or ere.now s.at 0 ≢ 41) × Safe ere.now s }
+    ensures { Turns ere.now levels t.old t.new s result }
 {
-    let at = s.at;
-    if at >= ere.len() {
-        return ere_pieces::ended(s);
-    }
-    let b = ere[at];
-    if b == b')' {
-        return ere_pieces::ended(s);
-    }
+    let b = ere[s.at];
     if b == b'|' {
         return ere_pieces::choice(s);
     }
@@ -75,9 +74,9 @@ fn item(ere: &[u8], levels: usize, s: State, t: &mut [u64]) -> State
         return atom(ere, s, t);
     }
     if levels == 0 {
-        return ere_pieces::refused(s);
+        return None;
     }
-    let g = read_group(ere, levels - 1, at + 1, s.hi, s.count, t);
+    let g = read_group(ere, levels - 1, s.at + 1, s.hi, s.count, t)?;
     ere_pieces::grouped(ere, s, g, t)
 }
 
@@ -90,14 +89,14 @@ pub fn read_group(
     lo: usize,
     count: usize,
     t: &mut [u64],
-) -> Piece
+) -> Option<Piece>
     requires { (length t.old ≡ table_words) × (length ere.now ≤ ere_bytes) × (at ≤ length ere.now) × (lo ≤ count)
         × (count ≤ ere_places) }
     ensures { GroupReads ere.now levels at lo count t.old t.new result }
 {
     let mut s = ere_pieces::start(at, lo, count);
-    while !s.over {
-        s = item(ere, levels, s, t);
+    while !ends(ere, s.at) {
+        s = item(ere, levels, s, t)?;
     }
     ere_pieces::finish(s)
 }

@@ -1,34 +1,40 @@
--- The ways of `grouped`, by the group's answer and the byte after it.
+-- What a group puts, and where a byte is, by what it is.
 use mathlib.Core.Path.{◌≡◌, refl, sym, ◌∙◌}
-use mathlib.Core.Bool.{Bool, true, false, cond, ◌&&◌}
+use mathlib.Core.Bool.{true}
 use mathlib.Core.List.{List}
 use Prim.Native.Nat.{ℕ, ◌+◌, ◌<◌}
 use native.Mathlib.Decide.{dec_le}
 use native.Mathlib.Omega.{arith}
 use lib.ListN.{length, get_or, get_or-eq_default}
 use lib.Dec.{eqb}
-use borrow.Author.Tests.{eq-eqb, ne_eqb, eqb-true}
-use Rattle.ere_pieces.specs.State.{refused_of, pushed_of, pushed_table, repeated_of, repeated_table, closed_piece, grouped_of, grouped_table}
+use borrow.Author.Tests.{eqb-true, eq-eqb, ne_eqb}
+use Rattle.std.specs.Prelude.{Option, Some, None}
+use Rattle.ere_pieces.specs.State.{pushed_of, pushed_table, repeated_of, repeated_table, closed_piece, grouped_of, grouped_table}
 use Rattle.ere_pieces.specs.declared.rows.Piece.{Piece}
 use Rattle.ere_pieces.specs.declared.rows.State.{State}
 
-module _ (l : List ℕ) (s : State) (g : Piece) (t : List ℕ) where
-  pub grouped-bad : g.ok ≡ false → (refused_of s ≡ grouped_of l s g) × (t ≡ grouped_table l s g t)
-  grouped-bad e = rw e (refl, refl)
+module _ (l t : List ℕ) (s : State) where
+  -- the state and the table after what was read for a group
+  abbrev pub state_after : Option Piece → Option State
+  state_after None = None
+  state_after (Some g) = grouped_of l s g
 
-  pub grouped-open : (get_or l g.at 0 ≡ 41 → ⊥) → (refused_of s ≡ grouped_of l s g) × (t ≡ grouped_table l s g t)
-  grouped-open e = rw (ne_eqb (get_or l g.at 0) 41 e) (by g.ok)
-    where
-      by : (b : Bool)
-          → (refused_of s ≡ cond (b && false) (pushed_of s (repeated_of (get_or l (g.at + 1) 0) (closed_piece g))) (refused_of s))
-          × (t ≡ cond (b && false) (pushed_table s (repeated_of (get_or l (g.at + 1) 0) (closed_piece g)) (repeated_table (get_or l (g.at + 1) 0) (closed_piece g) s.hi t)) t)
-      by true = (refl, refl)
-      by false = (refl, refl)
+  abbrev pub table_after : Option Piece → List ℕ
+  table_after None = t
+  table_after (Some g) = grouped_table l s g t
 
-  pub grouped-closed : g.ok ≡ true → get_or l g.at 0 ≡ 41
-      → (pushed_of s (repeated_of (get_or l (g.at + 1) 0) (closed_piece g)) ≡ grouped_of l s g)
-      × (pushed_table s (repeated_of (get_or l (g.at + 1) 0) (closed_piece g)) (repeated_table (get_or l (g.at + 1) 0) (closed_piece g) s.hi t) ≡ grouped_table l s g t)
-  grouped-closed e f = rw (e, eq-eqb (get_or l g.at 0) 41 f) (refl, refl)
+  -- a group that is refused, one that isn't closed, and one that is
+  pub grouped-bad : (g : Option Piece) → g ≡ None → (None ≡ state_after g) × (t ≡ table_after g)
+  grouped-bad g e = rw e (refl, refl)
+
+  module _ (g : Piece) where
+    pub grouped-open : (get_or l g.at 0 ≡ 41 → ⊥) → (None ≡ grouped_of l s g) × (t ≡ grouped_table l s g t)
+    grouped-open e = rw (ne_eqb (get_or l g.at 0) 41 e) (refl, refl)
+
+    pub grouped-closed : get_or l g.at 0 ≡ 41
+        → (Some (pushed_of s (repeated_of (get_or l (g.at + 1) 0) (closed_piece g))) ≡ grouped_of l s g)
+        × (pushed_table s (repeated_of (get_or l (g.at + 1) 0) (closed_piece g)) (repeated_table (get_or l (g.at + 1) 0) (closed_piece g) s.hi t) ≡ grouped_table l s g t)
+    grouped-closed e = rw (eq-eqb (get_or l g.at 0) 41 e) (refl, refl)
 
 -- a byte that isn't 0 is inside
 pub inside : (l : List ℕ) (at x : ℕ) → (x ≡ 0 → ⊥) → eqb (get_or l at 0) x ≡ true → at < length l

@@ -1,6 +1,6 @@
 -- Internal: cited by private contracts only. What the reader keeps while it reads a group, and what each part of it
 -- does.
-use Rattle.std.specs.Prelude.{Bool, true, false, cond, ◌&&◌, List, ℕ, ◌+◌, ◌-◌, get_or, eqb, leb}
+use Rattle.std.specs.Prelude.{Bool, true, false, cond, Option, Some, None, List, ℕ, ◌+◌, ◌-◌, get_or, eqb, leb}
 use Rattle.edition.specs.Limits.{ere_places}
 use Rattle.ere_table.specs.Table.{no_place, join}
 use Rattle.ere_table.specs.Build.{link, or_stop, accept, accept_at_end, single, link_rows, with_row, with_class}
@@ -36,12 +36,10 @@ bol_entry = entry accept no_place
 abbrev pub eol_entry : Entry
 eol_entry = entry accept_at_end accept_at_end
 
--- a state in which the group goes on, and one in which it is over: ended, or refused
-abbrev pub going_on : Bool → ℕ → ℕ → ℕ → ℕ → Entry → Entry → State
-going_on some at lo hi count alts seq =
+-- a state of reading a group
+abbrev pub state : Bool → ℕ → ℕ → ℕ → ℕ → Entry → Entry → State
+state some at lo hi count alts seq =
     record {
-      over = false;
-      ok = true;
       some = some;
       at = at;
       lo = lo;
@@ -51,44 +49,24 @@ going_on some at lo hi count alts seq =
       seq = seq;
     }
 
-abbrev pub over_by : Bool → State → State
-over_by ok s =
-    record {
-      over = true;
-      ok = ok;
-      some = s.some;
-      at = s.at;
-      lo = s.lo;
-      hi = s.hi;
-      count = s.count;
-      alts = s.alts;
-      seq = s.seq;
-    }
-
 -- the state with which a group is begun
 abbrev pub start_of : ℕ → ℕ → ℕ → State
-start_of at lo count = going_on false at lo lo count no_alts no_seq
-
-abbrev pub refused_of : State → State
-refused_of s = over_by false s
-
-abbrev pub ended_of : State → State
-ended_of s = over_by true s
+start_of at lo count = state false at lo lo count no_alts no_seq
 
 -- one alternative more
 abbrev pub bar_of : State → State
-bar_of s = going_on false (s.at + 1) s.hi s.hi s.count (join_entry s.alts s.seq) no_seq
+bar_of s = state false (s.at + 1) s.hi s.hi s.count (join_entry s.alts s.seq) no_seq
 
 -- one piece more, whose places start where those of the sequence end
 abbrev pub pushed_of : State → Piece → State
-pushed_of s g = going_on true g.at s.lo g.hi g.count s.alts (link_entry s.seq g.entry)
+pushed_of s g = state true g.at s.lo g.hi g.count s.alts (link_entry s.seq g.entry)
 
 abbrev pub pushed_table : State → Piece → List ℕ → List ℕ
 pushed_table s g t = link_rows t (s.lo + 2) (s.hi - s.lo) g.entry.later
 
 -- a piece with the byte after it that repeats it, if one does
 abbrev pub piece_of : ℕ → ℕ → ℕ → Entry → Piece
-piece_of at hi count e = record { ok = true; at = at; hi = hi; count = count; entry = e }
+piece_of at hi count e = record { at = at; hi = hi; count = count; entry = e }
 
 abbrev pub repeated_of : ℕ → Piece → Piece
 repeated_of b g =
@@ -110,8 +88,8 @@ leaf_table p words t = with_row (with_class t p words) (p + 2) accept
 abbrev pub anchor_piece : State → Entry → Piece
 anchor_piece s x = piece_of (s.at + 1) s.hi (s.count + 1) x
 
-abbrev pub anchor_of : State → Entry → State
-anchor_of s x = cond (leb ere_places s.count) (refused_of s) (pushed_of s (anchor_piece s x))
+abbrev pub anchor_of : State → Entry → Option State
+anchor_of s x = cond (leb ere_places s.count) None (Some (pushed_of s (anchor_piece s x)))
 
 abbrev pub anchor_table : State → Entry → List ℕ → List ℕ
 anchor_table s x t = cond (leb ere_places s.count) t (pushed_table s (anchor_piece s x) t)
@@ -120,14 +98,13 @@ anchor_table s x t = cond (leb ere_places s.count) t (pushed_table s (anchor_pie
 abbrev pub closed_piece : Piece → Piece
 closed_piece g = piece_of (g.at + 1) g.hi g.count g.entry
 
-abbrev pub grouped_of : List ℕ → State → Piece → State
+abbrev pub grouped_of : List ℕ → State → Piece → Option State
 grouped_of l s g =
-    cond (g.ok && eqb (get_or l g.at 0) 41) (pushed_of s (repeated_of (get_or l (g.at + 1) 0) (closed_piece g)))
-    (refused_of s)
+    cond (eqb (get_or l g.at 0) 41) (Some (pushed_of s (repeated_of (get_or l (g.at + 1) 0) (closed_piece g)))) None
 
 abbrev pub grouped_table : List ℕ → State → Piece → List ℕ → List ℕ
 grouped_table l s g t =
-    cond (g.ok && eqb (get_or l g.at 0) 41)
+    cond (eqb (get_or l g.at 0) 41)
     (pushed_table s (repeated_of (get_or l (g.at + 1) 0) (closed_piece g))
     (repeated_table (get_or l (g.at + 1) 0) (closed_piece g) s.hi t)) t
 
@@ -139,12 +116,8 @@ abbrev pub atom_table : State → List ℕ → Piece → ℕ → List ℕ → Li
 atom_table s words g b t = pushed_table s (repeated_of b g) (repeated_table b g s.hi (leaf_table s.hi words t))
 
 -- the end of a group: the alternatives with the sequence
-abbrev pub refused_piece : State → Piece
-refused_piece s = record { ok = false; at = s.at; hi = s.hi; count = s.count; entry = s.seq }
+abbrev pub finish_of : State → Option Piece
+finish_of s = cond s.some (Some (piece_of s.at s.hi s.count (join_entry s.alts s.seq))) None
 
-abbrev pub finish_of : State → Piece
-finish_of s = cond (s.ok && s.some) (piece_of s.at s.hi s.count (join_entry s.alts s.seq))
-    (refused_piece s)
-
-abbrev pub choice_of : State → State
-choice_of s = cond s.some (bar_of s) (refused_of s)
+abbrev pub choice_of : State → Option State
+choice_of s = cond s.some (Some (bar_of s)) None

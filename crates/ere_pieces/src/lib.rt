@@ -5,6 +5,4 @@ mod rows;
 mod turns;
 
 pub use rows::{Entry, Piece, State};
-pub use turns::{
-    anchor, byte_at, choice, ended, finish, grouped, leaf, pushed, refused, repeated, start,
-};
+pub use turns::{anchor, byte_at, choice, finish, grouped, leaf, pushed, repeated, start};

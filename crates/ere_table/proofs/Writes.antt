@@ -13,9 +13,20 @@ use lib.Dec.{eqb, ltb}
 use borrow.Author.Tests.{ltb-true, ltb-false}
 use Rattle.lists.specs.Digit.{bit}
 use Rattle.ere_table.specs.Table.{row, accepts_at, empty_word, table_words}
-use Rattle.ere_table.specs.Build.{link, with_row, link_rows, four_at, with_class, entered, join_class, begin_to, begin_of, empty_of, sealed}
+use Rattle.ere_table.specs.Build.{link, words_at, with_row, link_rows, three_at, four_at, with_class, entered, join_class, begin_to, begin_of, empty_of, sealed}
 use Rattle.ere_table.specs.Wiring.{begin_words, Sealed}
 use Rattle.ere_table.proofs.Rows.{apart, three}
+
+-- ---- three words, and four, as the first ones of a list
+
+module _ (t : List ℕ) (i : ℕ) (x : List ℕ) where
+  pub words-three : words_at t i x 3 ≡ three_at t i x
+  unfolding words_at
+  words-three = rw (add-zero i)
+
+  pub words-four : words_at t i x 4 ≡ four_at t i x
+  unfolding words_at
+  words-four = rw (add-zero i)
 
 -- ---- four words
 

@@ -30,7 +30,11 @@ accept_at_end = 0 ∷ 0 ∷ 2 ∷ []
 abbrev pub single : ℕ → List ℕ
 single p = cond (ltb p 64) (1 * 2 ^ p % 2 ^ 64 ∷ 0 ∷ 0 ∷ []) (0 ∷ 1 * 2 ^ (p - 64) % 2 ^ 64 ∷ 0 ∷ [])
 
--- three words, and four, from index i on
+-- the first n words of x, from index i on; and three, and four
+unfoldable pub words_at : List ℕ → ℕ → List ℕ → ℕ → List ℕ
+words_at t i x zero = t
+words_at t i x (suc n) = set (words_at t i x n) (i + n) (get_or x n 0)
+
 abbrev pub three_at : List ℕ → ℕ → List ℕ → List ℕ
 three_at t i x = set (set (set t i (get_or x 0 0)) (i + 1) (get_or x 1 0)) (i + 2) (get_or x 2 0)
 

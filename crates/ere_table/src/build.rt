@@ -1,7 +1,7 @@
 // Building a table.
 ghost use Rattle.std.specs.Prelude.{◌≡◌, ◌+◌, ◌≤◌, ◌<◌, length};
 ghost use Rattle.ere_table.specs.Table.{table_words, place_count, row, join};
-ghost use Rattle.ere_table.specs.Build.{three_at, four_at, with_row, link_rows, with_class, entered, begin_of, empty_of, sealed};
+ghost use Rattle.ere_table.specs.Build.{words_at, three_at, with_row, link_rows, with_class, entered, begin_of, empty_of, sealed};
 ghost use Rattle.ere_table.specs.Build.{link as link_of, gather as gatherOf, single as singleOf, join_class, or_stop};
 
 use crate::layout;
@@ -42,25 +42,22 @@ pub fn single(p: usize) -> [u64; 3]
     [0, 1 << (p - 64), 0]
 }
 
+// Stores a few words, from index `at` on.
+fn put_words<const N: usize>(s: &mut [u64], at: usize, x: [u64; N])
+    requires { at + N ≤ length s.old }
+    ensures { s.new ≡ words_at s.old at x.entry N }
+{
+    for k in 0..N {
+        s[at + k] = x[k];
+    }
+}
+
 // Stores three words, from index `at` on.
 pub fn put_three(s: &mut [u64], at: usize, x: [u64; 3])
     requires { at + 3 ≤ length s.old }
     ensures { s.new ≡ three_at s.old at x }
 {
-    s[at] = x[0];
-    s[at + 1] = x[1];
-    s[at + 2] = x[2];
-}
-
-// Stores four words, from index `at` on.
-fn put_four(s: &mut [u64], at: usize, c: [u64; 4])
-    requires { at + 4 ≤ length s.old }
-    ensures { s.new ≡ four_at s.old at c }
-{
-    s[at] = c[0];
-    s[at + 1] = c[1];
-    s[at + 2] = c[2];
-    s[at + 3] = c[3];
+    put_words(s, at, x);
 }
 
 // Sets row r of the table.
@@ -86,10 +83,8 @@ pub fn link_rows(t: &mut [u64], r: usize, n: usize, y: [u64; 3])
     requires { (length t.old ≡ table_words) × (r + n ≤ place_count + 2) }
     ensures { t.new ≡ link_rows t.old r n y }
 {
-    let mut i: usize = 0;
-    while i < n {
+    for i in 0..n {
         link_row(t, r + i, y);
-        i += 1;
     }
 }
 
@@ -98,7 +93,7 @@ pub fn put_class(t: &mut [u64], p: usize, c: [u64; 4])
     requires { (length t.old ≡ table_words) × (p < place_count) }
     ensures { t.new ≡ with_class t.old p c }
 {
-    put_four(t, ROWS + 4 * p, c);
+    put_words(t, ROWS + 4 * p, c);
 }
 
 // Tells whether a match may begin with the place p.
@@ -140,11 +135,9 @@ fn begin(t: &[u64]) -> [u64; 4]
     ensures { result ≡ begin_of t.now }
 {
     let mut out = [0u64; 4];
-    let mut p: usize = 0;
-    while p < PLACES {
+    for p in 0..PLACES {
         let next = gather(t, out, p);
         out = next;
-        p += 1;
     }
     out
 }
@@ -154,12 +147,7 @@ fn empty(t: &[u64]) -> u64
     requires { length t.now ≡ table_words }
     ensures { result ≡ empty_of t.now }
 {
-    if t[2] == 0 {
-        if t[5] == 0 {
-            return 0;
-        }
-    }
-    1
+    if t[2] == 0 && t[5] == 0 { 0 } else { 1 }
 }
 
 // Writes the table's last five words, from its rows and classes: the bytes that a match can begin with, and whether one
@@ -170,6 +158,6 @@ pub fn put_first_bytes(t: &mut [u64])
 {
     let c = begin(t);
     let e = empty(t);
-    put_four(t, BEGIN, c);
+    put_words(t, BEGIN, c);
     t[EMPTY] = e;
 }

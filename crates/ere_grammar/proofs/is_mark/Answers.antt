@@ -1,6 +1,5 @@
 -- `is_mark` meets its contract: a bit of its table for each mark.
 -- Assumes nothing.
-use borrow.Author.Rules.{rules}
 use Rattle.ere_grammar.proofs.Marks.{marked}
 use Rattle.ere_grammar.proofs.is_mark.Goals as goal
 

@@ -1,6 +1,5 @@
 -- `is_plain` meets its contract.
 -- Assumes nothing.
-use borrow.Author.Rules.{rules}
 use Rattle.lists.specs.Elements.{one_of}
 use Rattle.ere_grammar.specs.Bytes.{is_plain}
 use Rattle.ere_grammar.proofs.is_plain.Goals as goal

@@ -2,7 +2,7 @@
 use mathlib.Core.Path.{sym, ◌∙◌}
 use native.Mathlib.Omega.{arith}
 use Rattle.ere_member.proofs.Reading.{begins-inside}
-use Rattle.ere_bracket.proofs.Answers.{answer-plain, answer-other}
+use Rattle.ere_bracket.proofs.Answers.{answer-plain, answer-none, answer-other}
 use Rattle.ere_bracket.proofs.brackets.read_bracket.Goals as goal
 
 pub overflow_add-at : goal.overflow_add-at
@@ -10,12 +10,19 @@ overflow_add-at c =
     let a = c.args in
     omega (arith, begins-inside a.ere.now a.at _ (sym c.if-stands.true ∙ c.stands.ensures))
 
+pub returns-in_err-items : goal.returns-in_err-items
+returns-in_err-items c =
+    let a = c.args in
+    let e = sym c.if-stands.true ∙ c.stands.ensures in
+    rw c.from_residual.ensures (answer-none a.ere.now a.at e c.in_err-items.ensures)
+
 pub returns-then-stands : goal.returns-then-stands
 returns-then-stands c =
+    let a = c.args in
     let e = sym c.if-stands.true ∙ c.stands.ensures in
-    answer-other _ _ c.args.at _ c.read_items-items.ensures e c.flipped-others.ensures
+    answer-other a.ere.now a.at e _ _ c.in_ok-items.ensures c.flipped-words.ensures
 
 pub returns : goal.returns
 returns c =
-    let e = sym c.if-stands.false ∙ c.stands.ensures in
-    answer-plain _ _ c.args.at c.read_items-items-2.ensures e
+    let a = c.args in
+    answer-plain a.ere.now a.at _ c.read_items-2.ensures (sym c.if-stands.false ∙ c.stands.ensures)

@@ -12,7 +12,7 @@ pub returns-then-ere-at-eq93 : goal.returns-then-ere-at-eq93
 returns-then-ere-at-eq93 c =
     let a = c.args in
     let same = turn_end _ a.ere.now a.at _ c.if-first.false c.requires c.if-ere-at-eq93.true in
-    closes _ _ _ _ _ c.closed.ensures (omega arith, omega arith) same
+    closes _ _ _ _ (omega arith, omega arith) same
 
 pub returns-then-ere-at-eq45 : goal.returns-then-ere-at-eq45
 returns-then-ere-at-eq45 c =

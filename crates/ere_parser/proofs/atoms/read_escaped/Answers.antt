@@ -6,18 +6,18 @@ use Rattle.ere_meaning.specs.Tree.{only}
 use Rattle.ere_grammar.specs.Read.{only_byte}
 use Rattle.ere_byte_set.specs.Words.{in_class}
 use Rattle.ere_bracket.proofs.Answers.{in-only}
-use Rattle.ere_member.proofs.Reading.{bad-read, byte-read, byte-further}
-use Rattle.ere_parser.proofs.Atomic.{reads_none, reads-got}
+use Rattle.ere_parser.proofs.Atomic.{reads-got}
 use Rattle.ere_parser.proofs.atoms.read_escaped.Goals as goal
 
-pub returns-in-Byte : goal.returns-in-Byte
+pub returns-in_err-b : goal.returns-in_err-b
 unfolding only_byte
-returns-in-Byte c =
-    let f = byte-further c.read_escape.ensures c.in-Byte.is in
-    reads-got c.args.at _ _ (only c.in-Byte.b) (ap only_byte (sym (byte-read c.read_escape.ensures c.in-Byte.is))) f.0 f.1
-    (λ x h. ap (λ (w : List ℕ). in_class w x) c.single-words.ensures ∙ in-only c.in-Byte.b x h)
+returns-in_err-b c = rw c.from_residual.ensures (ap only_byte (sym c.in_err-b.ensures.same))
 
-pub returns-in-Bad : goal.returns-in-Bad
+pub returns : goal.returns
 unfolding only_byte
-returns-in-Bad c =
-    reads_none c.args.at _ _ (ap only_byte (sym (bad-read c.read_escape.ensures c.in-Bad.is)))
+returns c =
+    let w = c.in_ok-b.ensures in
+    let f = w.further in
+    let b = c.in_ok-b.b in
+    reads-got c.args.at _ _ (only b) (ap only_byte (sym w.same)) f.0 f.1
+    (λ x h. ap (λ (w : List ℕ). in_class w x) c.single-words.ensures ∙ in-only b x h)

@@ -1,7 +1,6 @@
 -- A group and its turns: each kind of turn is a move, and the loop keeps what holds.
 use mathlib.Core.Path.{◌≡◌}
-use mathlib.Core.Bool.{cond}
-use Prim.Native.Nat.{suc, ◌+◌, ◌*◌, ◌-◌}
+use Prim.Native.Nat.{◌+◌, ◌*◌, ◌-◌}
 use lib.ListN.{length}
 use Rattle.ere_table.specs.Table.{table_words}
 use Rattle.ere_parser.specs.Standing.{Under}
@@ -13,9 +12,9 @@ decreases-item l = l.levels * 2
 abbrev pub decreases-read_group : goal.decreases-read_group
 decreases-read_group l = l.levels * 2 + 1
 
-abbrev pub invariant-read_group-loop-s : goal.invariant-read_group-loop-s
-invariant-read_group-loop-s l =
+abbrev pub invariant-read_group-loop-t : goal.invariant-read_group-loop-t
+invariant-read_group-loop-t l =
     (length l.t ≡ table_words) × Under l.ere l.levels l.at l.lo l.count l.initial.t l.t l.s
 
-abbrev pub decreases-read_group-loop-s : goal.decreases-read_group-loop-s
-decreases-read_group-loop-s l = cond l.s.over 0 (suc (length l.ere - l.s.at))
+abbrev pub decreases-read_group-loop-t : goal.decreases-read_group-loop-t
+decreases-read_group-loop-t l = length l.ere - l.s.at
