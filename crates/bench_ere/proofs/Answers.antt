@@ -1,5 +1,5 @@
 -- What the two functions answer, from what `compile` and `find_from` do.
-use Rattle.std.proofs.Common.{◌≡◌, ℕ, ◌+◌, ◌≤◌, Bool, true, false, cond, List, length, sym, refl, ap, ◌∙◌, subst, zero-le, arith}
+use Rattle.std.proofs.Common.{Option, Some, ◌≡◌, ℕ, ◌≤◌, Bool, true, cond, List, length, sym, refl, ap, ◌∙◌, subst, zero-le, arith}
 use mathlib.Core.Option.{none}
 use Rattle.edition.specs.Limits.{text_bytes, first_edition}
 use Rattle.ere_meaning.specs.Tree.{Class, accepts, Ere}
@@ -8,8 +8,6 @@ use Rattle.ere_grammar.specs.Read.{read_ere}
 use Rattle.ere_table.specs.Table.{table_words}
 use Rattle.ere_exists.specs.Any.{Exists}
 use Rattle.ere_search.specs.Find.{match_of, Inside, Finds}
-use Rattle.ere_search.specs.declared.search.Found.{Found}
-use Rattle.ere_search.specs.declared.search.Found.TheVariants.{At, Nowhere}
 use Rattle.ere_automaton.specs.Follows.{SeekRanged, Seeks}
 use Rattle.ere.specs.Answer.{Serves, Compiles, Bytes}
 use Rattle.ere.proofs.Serving.{serves-answer, serves-exists}
@@ -27,12 +25,12 @@ pub prepares-some : (ere t₀ t : List ℕ) → length t₀ ≡ table_words → 
 prepares-some ere t₀ t l c =
     record { only = omega arith; unsized = λ n. absurd (n l); refused = λ z. absurd (omega (arith, z)); read = λ z. c.read refl }
 
-module _ (t text : List ℕ) (r : Found) (f : Finds t text 0 0 r) where
+module _ (t text : List ℕ) (r : Option (ℕ × ℕ)) (f : Finds t text 0 0 r) where
   pub length_found : (e : Ere Class) → Serves t e → Bytes text → length_of (match_of r) ≡ length_of (best_of accepts text e)
   unfolding best_of
   length_found e s bytes = ap length_of (serves-answer t text 0 0 r e text s f bytes zero-le refl)
 
-  pub found_inside : (s n : ℕ) → r ≡ At s n → n ≤ length text
+  pub found_inside : (s n : ℕ) → r ≡ Some (s, n) → n ≤ length text
   found_inside s n e = let h = subst (Inside 0 0 (length text)) e f.inside in omega (arith, h.1)
 
 pub tells : (t text : List ℕ) (r x : Bool) → length t ≡ table_words → length text ≤ text_bytes → Exists t text r → Bytes text → r ≡ x → Tells t text (cond x 1 0)

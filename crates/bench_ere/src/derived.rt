@@ -1,11 +1,12 @@
 // An ERE whose automata are derived once for many texts, for C: what `bench/match` measures.
-ghost use Rattle.std.specs.Prelude.{◌+◌, ◌^◌, ◌<◌, ◌≤◌, length};
+ghost use Rattle.std.specs.Prelude.{◌≡◌, ◌^◌, ◌<◌, ◌≤◌, true, length};
+ghost use Rattle.edition.specs.Limits.{text_bytes};
+ghost use Rattle.ere_table.specs.Table.{table_words};
 ghost use Rattle.ere_automaton.specs.Automaton.{Ranged};
 ghost use Rattle.ere_automaton.specs.Follows.{SeekRanged};
 ghost use Rattle.bench_ere.specs.Answer.{Tells};
 
 use edition::Edition;
-use ere_search::Found;
 
 // The words of the automata.
 const ROOM: usize = 8192;
@@ -36,19 +37,10 @@ pub extern "C" fn derived_exists(table: &[u64], text: &[u8]) -> u64
         return 0;
     }
     let mut words = [0u16; ROOM];
-    let n = ere_derive::derive(table, &mut words, ROOM);
-    if n == 0 {
+    let Some(n) = ere_derive::derive(table, &mut words, ROOM) else {
         return NONE;
-    }
+    };
     if ere_automaton::exists(&words[..n], text) {
-        return 1;
-    }
-    0
-}
-
-// Returns 1 for true, else 0.
-fn one_if(yes: bool) -> u64 {
-    if yes {
         return 1;
     }
     0
@@ -64,27 +56,27 @@ fn packed(start: usize, length: usize) -> u64 {
     0
 }
 
-// Returns a match as one number; 0 if there is none.
-fn coded(f: Found) -> u64 {
+// Returns a match as one number; 0 if there is none. The C interface hands it out, and has no Option.
+fn coded(f: Option<(usize, usize)>) -> u64 {
     match f {
-        Found::At(start, length) => packed(start, length),
-        Found::Nowhere => 0,
+        Some((start, length)) => packed(start, length),
+        None => 0,
     }
+}
+
+// Tells whether a search may be made: the table has its size, the text is not too long, its place is one of a text, and
+// no more than a byte is asked for.
+fn may_seek(table: &[u64], rest: &[u8], at: u64, least: u64) -> bool
+    ensures { result ≡ true
+        → (length table.now ≡ table_words) × (length rest.now ≤ text_bytes) × (at < 65536) × (least ≤ 1) }
+{
+    table.len() == ere_table::TABLE_WORDS && rest.len() <= Edition::TEXT && at <= LAST && least <= 1
 }
 
 // Finds the leftmost longest match of at least `least` bytes by the table. `rest` is a text from place `at` on.
 #[unsafe(no_mangle)]
 pub extern "C" fn prepared_seek(table: &[u64], rest: &[u8], at: u64, least: u64) -> u64 {
-    if table.len() != ere_table::TABLE_WORDS {
-        return 0;
-    }
-    if Edition::TEXT < rest.len() {
-        return 0;
-    }
-    if LAST < at {
-        return 0;
-    }
-    if 1 < least {
+    if !may_seek(table, rest, at, least) {
         return 0;
     }
     coded(ere_search::find_from(table, rest, at as usize, least as usize))
@@ -93,55 +85,29 @@ pub extern "C" fn prepared_seek(table: &[u64], rest: &[u8], at: u64, least: u64)
 // Finds the match that `prepared_seek` finds, by automata; 0 if there are none.
 #[unsafe(no_mangle)]
 pub extern "C" fn derived_seek(table: &[u64], rest: &[u8], at: u64, least: u64) -> u64 {
-    if table.len() != ere_table::TABLE_WORDS {
-        return 0;
-    }
-    if Edition::TEXT < rest.len() {
-        return 0;
-    }
-    if LAST < at {
-        return 0;
-    }
-    if 1 < least {
+    if !may_seek(table, rest, at, least) {
         return 0;
     }
     let mut words = [0u16; ROOM];
-    let n = ere_derive::derive_both(table, &mut words, ROOM / 2);
-    if n == 0 {
+    let Some(n) = ere_derive::derive_both(table, &mut words, ROOM / 2) else {
         return NONE;
-    }
+    };
     coded(ere_seek::seek(&words[..n], rest, at as usize, least as usize))
 }
 
-// Returns the place where text k of some ends, but no place before `from`, nor after all of them.
-fn end_at(ends: &[u64], k: usize, from: usize, most: usize) -> usize
-    requires { (k < length ends.now) × (from ≤ most) }
-    ensures { (from ≤ result) × (result ≤ most) }
-{
-    let end = ends[k] as usize;
-    if end < from {
-        return from;
-    }
-    if most < end {
-        return most;
-    }
-    end
-}
-
 // Returns how many of some texts have a match. A text goes from where the one before it ends, the first from 0, to its
-// own end.
+// own end, which is taken to lie between there and the end of all. A function for this and one for the sum of answers,
+// and not one with a closure: a call of it for each text would be measured too.
 fn count_matching(d: &[u16], texts: &[u8], ends: &[u64]) -> u64
     requires { (Ranged d.now) × (length texts.now < 2 ^ 63) }
 {
     let mut count: u64 = 0;
     let mut from: usize = 0;
-    let mut k: usize = 0;
-    while k < ends.len() {
-        let end = end_at(ends, k, from, texts.len());
+    for e in ends {
+        let end = (*e as usize).clamp(from, texts.len());
         let yes = ere_automaton::exists(d, &texts[from..end]);
-        count = std::num::wrapping_add_u64(count, one_if(yes));
+        count = count.wrapping_add(u64::from(yes));
         from = end;
-        k += 1;
     }
     count
 }
@@ -156,29 +122,10 @@ pub extern "C" fn texts_matching(table: &[u64], texts: &[u8], ends: &[u64]) -> u
         return 0;
     }
     let mut words = [0u16; ROOM];
-    let n = ere_derive::derive(table, &mut words, ROOM);
-    if n == 0 {
+    let Some(n) = ere_derive::derive(table, &mut words, ROOM) else {
         return NONE;
-    }
+    };
     count_matching(&words[..n], texts, ends)
-}
-
-// Returns the place after a match; 0 if there is none.
-fn past(start: usize, length: usize) -> usize {
-    if start <= MOST {
-        if length <= MOST {
-            return start + length;
-        }
-    }
-    0
-}
-
-// Returns where a match that was found ends; 0 if there is none.
-fn end_of(f: Found) -> usize {
-    match f {
-        Found::At(start, length) => past(start, length),
-        Found::Nowhere => 0,
-    }
 }
 
 // Returns how many separators a text has: matches of at least a byte, one after the other.
@@ -187,16 +134,9 @@ fn count_parts(d: &[u16], text: &[u8]) -> u64
 {
     let mut count: u64 = 0;
     let mut at: usize = 0;
-    while at < text.len() {
-        let end = end_of(ere_seek::seek(d, &text[at..], at, 1));
-        if end <= at {
-            return count;
-        }
-        if text.len() < end {
-            return count;
-        }
-        count = std::num::wrapping_add_u64(count, 1);
-        at = end;
+    while let Some((start, length)) = ere_seek::seek(d, &text[at..], at, 1) {
+        count = count.wrapping_add(1);
+        at = start + length;
     }
     count
 }
@@ -217,13 +157,11 @@ fn sum_answers(d: &[u16], texts: &[u8], ends: &[u64], split: bool) -> u64
 {
     let mut sum: u64 = 0;
     let mut from: usize = 0;
-    let mut k: usize = 0;
-    while k < ends.len() {
-        let end = end_at(ends, k, from, texts.len());
+    for e in ends {
+        let end = (*e as usize).clamp(from, texts.len());
         let n = answer(d, &texts[from..end], split);
-        sum = std::num::wrapping_add_u64(sum, n);
+        sum = sum.wrapping_add(n);
         from = end;
-        k += 1;
     }
     sum
 }
@@ -238,9 +176,8 @@ pub extern "C" fn texts_sought(table: &[u64], texts: &[u8], ends: &[u64], split:
         return 0;
     }
     let mut words = [0u16; ROOM];
-    let n = ere_derive::derive_both(table, &mut words, ROOM / 2);
-    if n == 0 {
+    let Some(n) = ere_derive::derive_both(table, &mut words, ROOM / 2) else {
         return NONE;
-    }
+    };
     sum_answers(&words[..n], texts, ends, split == 1)
 }

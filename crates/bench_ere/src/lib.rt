@@ -7,7 +7,6 @@ mod derived;
 
 pub use derived::{derived_exists, derived_seek, prepared_seek, texts_matching, texts_sought};
 use edition::Edition;
-use ere_search::Found;
 
 // Reads an ERE into a table: 1 if it is one, 0 if not or if the table has another size.
 #[unsafe(no_mangle)]
@@ -39,8 +38,8 @@ pub extern "C" fn prepared_find(table: &[u64], text: &[u8]) -> u64
         return 0;
     }
     match ere_search::find_from(table, text, 0, 0) {
-        Found::At(start, length) => length as u64 + 1,
-        Found::Nowhere => 0,
+        Some((start, length)) => length as u64 + 1,
+        None => 0,
     }
 }
 

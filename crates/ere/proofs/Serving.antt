@@ -3,6 +3,7 @@ use mathlib.Core.Path.{◌≡◌, refl, sym, ap, ◌∙◌}
 use mathlib.Core.Bool.{Bool, true, false, cond}
 use mathlib.Core.Logic.{inl, inr}
 use mathlib.Core.List.{List}
+use Rattle.std.specs.Prelude.{Option, Some, None, Ok, Err}
 use Prim.Native.Nat.{ℕ, ◌≤◌, ◌<◌, zero-le}
 use lib.ListN.{length, get_or, drop}
 use borrow.Author.Tests.{le-leb, lt-leb}
@@ -15,11 +16,10 @@ use Rattle.ere_meaning.proofs.Moving.{repeated-move, same_answer}
 use Rattle.ere_table.specs.Table.{accepts_at}
 use Rattle.ere_search.specs.Find.{match_of, Finds}
 use Rattle.ere_exists.specs.Any.{is_match, Exists}
-use Rattle.ere_search.specs.declared.search.Found.{Found}
 use Rattle.ere_search.proofs.Answers.{answer}
 use Rattle.ere_parser.specs.Built.{Agrees, at_place, at_bol, at_eol, in_cat, in_alt, in_star, in_plus, in_opt}
 use Rattle.ere.specs.Answer.{without, matching_of, best_matching, judged, search_of, Serves, Compiles, Bytes}
-use Rattle.ere.specs.declared.matching.Matched.TheVariants.{BadEre, LongText}
+use Rattle.ere.specs.declared.matching.Refusal.TheVariants.{BadEre, LongText}
 
 module _ (t text : List ℕ) (bytes : Bytes text) (lo hi : ℕ) where
   -- the numbered tree leads where the tree leads
@@ -48,7 +48,7 @@ module _ (t text : List ℕ) (bytes : Bytes text) (lo hi : ℕ) where
   from-class (in_opt p) i j (inr h) = inr (from-class p i j h)
 
 -- what `find_from` finds in the rest of a text, with the table of a compiled ERE
-pub serves-answer : (t rest : List ℕ) (at least : ℕ) (r : Found) (e : Ere Class) (text : List ℕ) → Serves t e → Finds t rest at least r → Bytes text
+pub serves-answer : (t rest : List ℕ) (at least : ℕ) (r : Option (ℕ × ℕ)) (e : Ere Class) (text : List ℕ) → Serves t e → Finds t rest at least r → Bytes text
     → at ≤ length text → drop at text ≡ rest → match_of r ≡ best_from accepts text e at least
 serves-answer t rest at least r e text s f bytes h d =
     answer t rest at least r f s.tree text s.tabled h d
@@ -65,12 +65,16 @@ serves-exists t r e text s f bytes =
 
 -- ---- the answers of a search
 
+found-case : (x : Option (ℕ × ℕ)) → matching_of (Ok x) ≡ best_matching (match_of x)
+found-case (Some x) = refl
+found-case None = refl
+
 module _ (edition : ℕ) (ere text t : List ℕ) where
-  pub searched-bad : Compiles edition ere t false → matching_of BadEre ≡ search_of edition ere text
+  pub searched-bad : Compiles edition ere t false → matching_of (Err BadEre) ≡ search_of edition ere text
   searched-bad c = ap (judged text) (sym (c.refused refl))
 
   pub searched-long : (c : Compiles edition ere t true) → text_bytes < length text
-      → matching_of LongText ≡ search_of edition ere text
+      → matching_of (Err LongText) ≡ search_of edition ere text
   searched-long c h =
       let r = c.read refl in
       ap (λ (b : Bool). cond b (best_matching (best_of accepts text r.0)) (without text_too_long))
@@ -78,12 +82,13 @@ module _ (edition : ℕ) (ere text t : List ℕ) where
       ∙ ap (judged text) (sym r.1)
 
   pub searched-found : (c : Compiles edition ere t true) → length text ≤ text_bytes → Bytes text
-      → (x : Found) → Finds t text 0 0 x
-      → best_matching (match_of x) ≡ search_of edition ere text
+      → (x : Option (ℕ × ℕ)) → Finds t text 0 0 x
+      → matching_of (Ok x) ≡ search_of edition ere text
   unfolding best_of
   searched-found c h bytes x f =
       let r = c.read refl in
-      ap best_matching (serves-answer t text 0 0 x r.0 text r.2 f bytes zero-le refl)
+      found-case x
+      ∙ ap best_matching (serves-answer t text 0 0 x r.0 text r.2 f bytes zero-le refl)
       ∙ ap (λ (b : Bool). cond b (best_matching (best_of accepts text r.0)) (without text_too_long))
       (sym (le-leb (length text) text_bytes h))
       ∙ ap (judged text) (sym r.1)

@@ -14,7 +14,7 @@ use Rattle.ere_grammar.specs.Read.{read_rest, whole, read_ere}
 use Rattle.ere_table.specs.Table.{table_words}
 use Rattle.ere_table.proofs.Tables.{finished, finished-class, tabled}
 use Rattle.ere_parser.specs.Reading.{rest_from}
-use Rattle.ere_parser.specs.Standing.{Refuses, unread, many, base_of, GroupReads}
+use Rattle.ere_parser.specs.Standing.{Refuses, unread, many, base_of, GroupRead}
 use Rattle.ere.specs.Answer.{Serves, Compiles}
 use Rattle.ere_pieces.specs.declared.rows.Piece.{Piece}
 use Rattle.ere_parser.proofs.Built.{agrees-move}
@@ -47,34 +47,33 @@ whole-none : whole none ≡ none
 unfolding whole
 whole-none = refl
 
-module _ (edition : ℕ) (l t u : List ℕ) (g : Piece) (short : length l ≤ ere_bytes) (reads : GroupReads l ere_groups 0 0 0 t u g) where
-  refuses-none : Refuses (base_of l ere_groups 0 0 0) → read_ere edition l ≡ none
-  refuses-none (unread e) = ere-short edition l short ∙ ap whole e ∙ whole-none
-  refuses-none (many x e h) = ere-short edition l short ∙ ap whole e ∙ whole-many x.value x.rest (omega arith)
+module _ (edition : ℕ) (l : List ℕ) (short : length l ≤ ere_bytes) where
+  -- the group was refused
+  pub group-bad : Refuses (base_of l ere_groups 0 0 0) → read_ere edition l ≡ none
+  group-bad (unread e) = ere-short edition l short ∙ ap whole e ∙ whole-none
+  group-bad (many x e h) = ere-short edition l short ∙ ap whole e ∙ whole-many x.value x.rest (omega arith)
 
-  pub group-bad : g.ok ≡ false → read_ere edition l ≡ none
-  group-bad o = refuses-none (reads.refused o)
+  module _ (t u : List ℕ) (g : Piece) (reads : GroupRead l ere_groups 0 0 0 t u g) where
+    pub group-open : g.at < length l → read_ere edition l ≡ none
+    group-open h =
+        let r = reads.read in
+        ere-short edition l short ∙ ap whole (r.1 ∙ ap (parsed r.0) (opened l g.at (get_or l g.at 0) h refl)) ∙ whole-more r.0 (get_or l g.at 0) (drop (g.at + 1) l)
 
-  pub group-open : g.ok ≡ true → g.at < length l → read_ere edition l ≡ none
-  group-open o h =
-      let r = reads.read o in
-      ere-short edition l short ∙ ap whole (r.1 ∙ ap (parsed r.0) (opened l g.at (get_or l g.at 0) h refl)) ∙ whole-more r.0 (get_or l g.at 0) (drop (g.at + 1) l)
+    pub group-whole : length l ≤ g.at → read_ere edition l ≡ some reads.read.0
+    group-whole h =
+        let r = reads.read in
+        ere-short edition l short ∙ ap whole (r.1 ∙ ap (parsed r.0) (drop_all l g.at h)) ∙ whole-got r.0 (omega (arith, r.2, reads.few))
 
-  pub group-whole : (o : g.ok ≡ true) → length l ≤ g.at → read_ere edition l ≡ some (reads.read o).0
-  group-whole o h =
-      let r = reads.read o in
-      ere-short edition l short ∙ ap whole (r.1 ∙ ap (parsed r.0) (drop_all l g.at h)) ∙ whole-got r.0 (omega (arith, r.2, reads.few))
-
-  -- the table of what was read, with its entry rows, sealed
-  pub group-serves : (o : g.ok ≡ true) → length u ≡ table_words → Serves (finished u g.entry.first g.entry.later) (reads.read o).0
-  group-serves o full =
-      let b = (reads.read o).3 in
-      let few : g.hi ≤ ere_places = omega (arith, reads.fewer, reads.few) in
-      record {
-        tree = b.tree;
-        tabled = tabled u g.entry.first g.entry.later full 0 g.hi b.tree few b.rows;
-        agrees = agrees-move (omega arith) few (λ p c i j k. finished-class u g.entry.first g.entry.later full p c (omega arith) k) b.agrees;
-      }
+    -- the table of what was read, with its entry rows, sealed
+    pub group-serves : length u ≡ table_words → Serves (finished u g.entry.first g.entry.later) reads.read.0
+    group-serves full =
+        let b = reads.read.3 in
+        let few : g.hi ≤ ere_places = omega (arith, reads.fewer, reads.few) in
+        record {
+          tree = b.tree;
+          tabled = tabled u g.entry.first g.entry.later full 0 g.hi b.tree few b.rows;
+          agrees = agrees-move (omega arith) few (λ p c i j k. finished-class u g.entry.first g.entry.later full p c (omega arith) k) b.agrees;
+        }
 
 -- ---- the answers of the compiler
 

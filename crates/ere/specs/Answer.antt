@@ -2,7 +2,9 @@
 -- the smallest start, then greatest length."; "Values": "RSTART (from 1) and RLENGTH, 0 and -1 if none"; "Outcomes":
 -- "Public match: 5, then 14, with 0 and -1."
 use Rattle.std.specs.Prelude.{◌≡◌, Bool, true, false, cond, List, ℕ, ◌+◌, ◌<◌, length, get_or, ℤ, pos, negsuc, leb}
-use Rattle.std.proofs.Math.Option.{Option, some, none}
+use Rattle.std.specs.Prelude.{Option, Some, None, Result, Ok, Err}
+use Rattle.std.proofs.Math.Option.{some, none}
+use Rattle.std.proofs.Math.Option as maybe
 use Rattle.edition.specs.Limits.{text_bytes, ere_places}
 use Rattle.edition.specs.Outcomes.{done, bad_ere, text_too_long}
 use Rattle.ere_meaning.specs.Tree.{Class, accepts, Ere}
@@ -11,8 +13,8 @@ use Rattle.ere_meaning.specs.Search.{best_of}
 use Rattle.ere_grammar.specs.Read.{read_ere}
 use Rattle.ere_table.specs.Wiring.{Tabled}
 use Rattle.ere_parser.specs.Built.{Agrees}
-use Rattle.ere.specs.declared.matching.Matched.{Matched}
-use Rattle.ere.specs.declared.matching.Matched.TheVariants.{At, Nothing, BadEre, LongText}
+use Rattle.ere.specs.declared.matching.Refusal.{Refusal}
+use Rattle.ere.specs.declared.matching.Refusal.TheVariants.{BadEre, LongText}
 
 -- ---- an ERE and a text
 
@@ -34,11 +36,11 @@ abbrev pub without : ℕ → Matching
 without o = matching o 0 (negsuc 0)
 
 -- what a case of an answer says
-abbrev pub matching_of : Matched → Matching
-matching_of (At s n) = match_at s n
-matching_of Nothing = without done
-matching_of BadEre = without bad_ere
-matching_of LongText = without text_too_long
+abbrev pub matching_of : Result (Option (ℕ × ℕ)) Refusal → Matching
+matching_of (Ok (Some (s, n))) = match_at s n
+matching_of (Ok None) = without done
+matching_of (Err BadEre) = without bad_ere
+matching_of (Err LongText) = without text_too_long
 
 -- the best match, or that there is none
 abbrev pub best_matching : Match → Matching
@@ -46,7 +48,7 @@ best_matching (found s n) = match_at s n
 best_matching nowhere = without done
 
 -- "5, then 14"
-abbrev pub judged : List ℕ → Option (Ere Class) → Matching
+abbrev pub judged : List ℕ → maybe.Option (Ere Class) → Matching
 judged text none = without bad_ere
 judged text (some e) = cond (leb (length text) text_bytes) (best_matching (best_of accepts text e)) (without text_too_long)
 

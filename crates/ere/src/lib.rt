@@ -3,4 +3,4 @@
 
 mod matching;
 
-pub use matching::{Matched, compile, search};
+pub use matching::{Refusal, compile, search};

@@ -5,13 +5,10 @@ ghost use Rattle.ere_table.specs.Table.{table_words};
 ghost use Rattle.ere.specs.Answer.{matching_of, search_of, Compiles};
 
 use edition::Edition;
-use ere_search::Found;
 
-// What a search answers: a start from 0 and a length, or why there is none.
-#[derive(Drop)]
-pub enum Matched {
-    At(usize, usize),
-    Nothing,
+// Why a search answers nothing of a text.
+#[derive(Clone, Copy, PartialEq, Eq)]
+pub enum Refusal {
     BadEre,
     LongText,
 }
@@ -26,24 +23,21 @@ pub fn compile(ere: &[u8], edition: Edition, t: &mut [u64]) -> bool
     if Edition::ERE_BYTES < end {
         return false;
     }
-    let g = ere_parser::read_group(ere, Edition::ERE_GROUPS, 0, 0, 0, t);
-    if !g.ok {
+    let Some(g) = ere_parser::read_group(ere, Edition::ERE_GROUPS, 0, 0, 0, t) else {
         return false;
-    }
+    };
     if g.at < end {
         return false;
     }
-    let e = g.entry;
-    let first = e.first;
-    let later = e.later;
-    ere_table::put_row(t, 0, first);
-    ere_table::put_row(t, 1, later);
+    ere_table::put_row(t, 0, g.entry.first);
+    ere_table::put_row(t, 1, g.entry.later);
     ere_table::put_first_bytes(t);
     true
 }
 
-// Finds the leftmost, longest match of the ERE in the text, by the first edition.
-pub fn search(ere: &[u8], text: &[u8]) -> Matched
+// Finds the leftmost, longest match of the ERE in the text, by the first edition: where it starts, from 0, and how long
+// it is.
+pub fn search(ere: &[u8], text: &[u8]) -> Result<Option<(usize, usize)>, Refusal>
     ensures { matching_of result ≡ search_of first_edition ere.now text.now }
 {
     let mut t = [0u64; ere_table::TABLE_WORDS];
@@ -51,13 +45,10 @@ pub fn search(ere: &[u8], text: &[u8]) -> Matched
         number: Edition::FIRST,
     };
     if !compile(ere, edition, &mut t) {
-        return Matched::BadEre;
+        return Err(Refusal::BadEre);
     }
     if Edition::TEXT < text.len() {
-        return Matched::LongText;
+        return Err(Refusal::LongText);
     }
-    match ere_search::find_from(&t, text, 0, 0) {
-        Found::At(start, length) => Matched::At(start, length),
-        Found::Nowhere => Matched::Nothing,
-    }
+    Ok(ere_search::find_from(&t, text, 0, 0))
 }

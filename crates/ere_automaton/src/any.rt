@@ -14,7 +14,7 @@ fn block(d: &[u16], k: usize, pairs: bool, x: &[u8], i: usize, s: usize) -> usiz
     ensures { result ≡ runs d.now x.now i s 16 }
 {
     if pairs {
-        return blocks::by_pairs(d, k, x, i, s);
+        return blocks::pairs_to(d, k, x, i, i + BLOCK, s);
     }
     blocks::by_bytes(d, x, i, i + BLOCK, s)
 }
@@ -43,7 +43,7 @@ fn near_end(d: &[u16], x: &[u8], i: usize) -> usize
     i
 }
 
-// Tells whether a match is in the text, by a walk over all of it.
+// Tells whether a match is in the text, by a walk over all of it. No `for`: i goes on to where `next_block` says.
 fn search(d: &[u16], text: &[u8]) -> bool
     requires { Ranged d.now × (length text.now < 2 ^ 63) }
     ensures { (t : List ℕ) → Drives t d.now → Exists t text.now result }

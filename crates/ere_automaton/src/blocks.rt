@@ -27,8 +27,7 @@ fn may_start(x: &[u8], i: usize, low: u8, width: u8, next_low: u8, next_width: u
     ensures { result ≡ starts (ranges low width next_low next_width) x.now i 16 }
 {
     let mut hit = false;
-    let mut j: usize = 0;
-    while j < BLOCK {
+    for j in 0..BLOCK {
         hit = seen(
             hit,
             x[i + j],
@@ -38,13 +37,12 @@ fn may_start(x: &[u8], i: usize, low: u8, width: u8, next_low: u8, next_width: u
             next_low,
             next_width,
         );
-        j += 1;
     }
     hit
 }
 
 // Returns the first place from `from` on, by blocks, where one of 16 starts may be that of a match; or where fewer than
-// 17 bytes are left.
+// 17 bytes are left. No `for`: the place where the loop ends is the answer.
 pub fn skip(x: &[u8], from: usize, low: u8, width: u8, next_low: u8, next_width: u8) -> usize
     requires { (length x.now < 2 ^ 63) × (from ≤ length x.now) }
     ensures { Skipped (ranges low width next_low next_width) x.now from result }
@@ -68,20 +66,6 @@ pub fn pair(d: &[u16], k: usize, s: usize, b: u8, c: u8) -> usize
     d[y + s] as usize
 }
 
-// Returns the state after 16 bytes, two at a time.
-pub fn by_pairs(d: &[u16], k: usize, x: &[u8], i: usize, state: usize) -> usize
-    requires { (Ready d.now k state) × ((pairs_word d.now == 0) ≡ false) × (i + 16 ≤ length x.now) }
-    ensures { result ≡ runs d.now x.now i state 16 }
-{
-    let mut s = state;
-    let mut j: usize = 0;
-    while j < BLOCK {
-        s = pair(d, k, s, x[i + j], x[i + j + 1]);
-        j += 2;
-    }
-    s
-}
-
 // Returns the state after the bytes from `from` to `end`, an even number, two at a time.
 pub fn pairs_to(d: &[u16], k: usize, x: &[u8], from: usize, end: usize, state: usize) -> usize
     requires { (Ready d.now k state) × ((pairs_word d.now == 0) ≡ false) × (from ≤ end)
@@ -89,10 +73,8 @@ pub fn pairs_to(d: &[u16], k: usize, x: &[u8], from: usize, end: usize, state: u
     ensures { result ≡ runs d.now x.now from state (end - from) }
 {
     let mut s = state;
-    let mut i = from;
-    while i < end {
-        s = pair(d, k, s, x[i], x[i + 1]);
-        i += 2;
+    for j in 0..(end - from) / 2 {
+        s = pair(d, k, s, x[from + 2 * j], x[from + 2 * j + 1]);
     }
     s
 }
@@ -103,10 +85,8 @@ pub fn by_bytes(d: &[u16], x: &[u8], from: usize, end: usize, state: usize) -> u
     ensures { result ≡ runs d.now x.now from state (end - from) }
 {
     let mut s = state;
-    let mut i = from;
-    while i < end {
+    for i in from..end {
         s = d[s + d[CLASSES + x[i] as usize] as usize] as usize;
-        i += 1;
     }
     s
 }

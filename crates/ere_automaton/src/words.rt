@@ -62,16 +62,14 @@ fn in_block(d: &[u16], x: &[u8], i: usize, last: usize, tests: usize, ranged: bo
     ensures { result ≡ here_in d.now x.now last tests i 16 }
 {
     let mut hit = false;
-    let mut j: usize = 0;
-    while j < BLOCK {
-        hit = hit | here(d, x, i + j, last, tests, ranged);
-        j += 1;
+    for j in 0..BLOCK {
+        hit |= here(d, x, i + j, last, tests, ranged);
     }
     hit
 }
 
 // Tells whether the word is in the text, which has at least 16 places for it. The second block begins where the others
-// end with the last place.
+// end with the last place. No `for`: the first step is another than the rest.
 pub fn is_in(d: &[u16], x: &[u8], last: usize, tests: usize) -> bool
     requires { (rows_at ≤ length d.now) × (Placed d.now last) × (15 + last < length x.now)
         × (length x.now < 2 ^ 63) }

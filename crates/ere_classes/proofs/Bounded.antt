@@ -8,11 +8,11 @@ use native.Mathlib.Omega.{arith}
 use lib.ListN.{length, get_or, set, length-set}
 use lib.Seq.{get_or-set_same, get_or-set_other}
 use lib.Bits.{bit_or}
-use lib.Dec.{eqb, leb}
-use borrow.Author.Tests.{eqb-true, eq-eqb, leb-false}
+use lib.Dec.{leb}
+use borrow.Author.Tests.{eq-eqb, leb-false}
 use Rattle.lists.specs.Digit.{bit}
 use Rattle.lists.proofs.Digits.{bit-or, bit_shifted, bit-turned, bit-zero}
-use Rattle.lists.proofs.Tests.{and-true, or-false, clash}
+use Rattle.lists.proofs.Tests.{or-false, clash}
 use Rattle.ere_table.specs.Table.{row, no_place}
 use Rattle.ere_table.specs.Wiring.{stop_in}
 use Rattle.ere_search.specs.Walk.{step}
@@ -22,23 +22,14 @@ use Rattle.ere_classes.specs.Column.{Classified}
 use Rattle.ere_classes.specs.Reach.{Reaches}
 use Rattle.ere_classes.specs.Bounds.{Keeps, Led, Follows, SecondsOf, Range, PutHull}
 use Rattle.ere_classes.proofs.Columns.{up_to}
-use Rattle.ere_classes.proofs.Framed.{spelled, three, frame_on, frame-wider, frame-set}
+use Rattle.ere_classes.proofs.Framed.{frame_on, frame-wider, frame-set}
 
 -- ---- bits
 
-pub none_in : (x : List ℕ) → length x ≡ 3 → (eqb (get_or x 0 0) 0 && (eqb (get_or x 1 0) 0 && eqb (get_or x 2 0) 0)) ≡ true → x ≡ no_place
-none_in x l h =
-    let y = and-true _ _ h in
-    let z = and-true _ _ y.1 in
-    let a = eqb-true _ _ y.0 in
-    let b = eqb-true _ _ z.0 in
-    let c = eqb-true _ _ z.1 in
-    sym (spelled x l) ∙ three _ _ _ _ _ _ a b c
-
-pub keeps-or : (out x : ℕ) → Keeps out (bit_or out x)
+keeps-or : (out x : ℕ) → Keeps out (bit_or out x)
 keeps-or out x e h f = (or-false (bit out e) (bit x e) (sym (bit-or out x e) ∙ f)).0
 
-pub on_or : (out c : ℕ) → c < 64 → bit (bit_or out (1 * 2 ^ c % 2 ^ 64)) c ≡ false → ⊥
+on_or : (out c : ℕ) → c < 64 → bit (bit_or out (1 * 2 ^ c % 2 ^ 64)) c ≡ false → ⊥
 on_or out c h f =
     let g = (or-false (bit out c) (bit (1 * 2 ^ c % 2 ^ 64) c) (sym (bit-or out (1 * 2 ^ c % 2 ^ 64) c) ∙ f)).1 in
     clash (sym (bit_shifted c c h ∙ eq-eqb c c refl) ∙ g)
@@ -49,12 +40,18 @@ all-on e h f = clash (sym (bit-turned 64 0 e (omega arith) h ∙ ap not (bit-zer
 pub led-none : (t bytes s : List ℕ) (out : ℕ) → Led t bytes 0 s out out
 led-none t bytes s out = record { keeps = λ e h f. f; none = λ c h. absurd (omega arith) }
 
-pub led-more : (t bytes : List ℕ) (c : ℕ) (s : List ℕ) (o out r : ℕ) (x : List ℕ) → c < 64 → x ≡ step t s (get_or bytes c 0) → Keeps out r → (bit r c ≡ false → x ≡ no_place)
-    → Led t bytes c s o out → Led t bytes (c + 1) s o r
-led-more t bytes c s o out r x l e K n L = record {
-  keeps = λ i h f. L.keeps i h (K i h f);
-  none = up_to c (λ i h f. L.none i h (K i (omega arith) f)) (λ f. sym e ∙ n f);
-}
+-- a class that leads to something
+pub led-with : (t bytes : List ℕ) (c : ℕ) (s : List ℕ) (o out : ℕ) → c < 64 → Led t bytes c s o out → Led t bytes (c + 1) s o (bit_or out (1 * 2 ^ c % 2 ^ 64))
+led-with t bytes c s o out l L =
+    let K = keeps-or out (1 * 2 ^ c % 2 ^ 64) in
+    record {
+      keeps = λ i h f. L.keeps i h (K i h f);
+      none = up_to c (λ i h f. L.none i h (K i (omega arith) f)) (λ f. absurd (on_or out c l f));
+    }
+
+-- a class that leads to nothing
+pub led-past : (t bytes : List ℕ) (c : ℕ) (s : List ℕ) (o out : ℕ) → step t s (get_or bytes c 0) ≡ no_place → Led t bytes c s o out → Led t bytes (c + 1) s o out
+led-past t bytes c s o out e L = record { keeps = L.keeps; none = up_to c L.none (λ f. e) }
 
 pub follows_on : {t bytes : List ℕ} {k : ℕ} {s : List ℕ} {out : ℕ} (r : ℕ) → k ≤ 64 → Keeps out r → Follows t bytes k s out → Follows t bytes k s r
 follows_on r l K F = record { none = λ c h f. F.none c h (K c (omega arith) f); unended = λ c h f. F.unended c h (K c (omega arith) f) }

@@ -203,19 +203,18 @@ module _ (t : List ℕ) (n m : ℕ) where
         high = high-k ∙ high ∙ ap (λ (z : ℕ). column_of t z (first_word n) (n - first_word n)) (sym at-k);
       }
 
-  pub class-new : (columns : List ℕ) (k : ℕ) (bytes d : List ℕ) (j x y : ℕ) → j ≡ k → classes_at + m < length d → 2 * k + 1 < length columns → k < length bytes → m < 256
+  pub class-new : (columns : List ℕ) (k : ℕ) (bytes d : List ℕ) (x y : ℕ) → classes_at + m < length d → 2 * k + 1 < length columns → k < length bytes → m < 256
       → x ≡ column_of t m 0 (first_word n) → y ≡ column_of t m (first_word n) (n - first_word n)
       → Classed t n m columns k bytes d
-      → Classed t n (m + 1) (set (set columns (2 * k) x) (2 * k + 1) y) (k + 1) (set bytes k m) (set d (classes_at + m) j)
-  class-new columns k bytes d j x y e room r rooms byte low high C =
+      → Classed t n (m + 1) (set (set columns (2 * k) x) (2 * k + 1) y) (k + 1) (set bytes k m) (set d (classes_at + m) k)
+  class-new columns k bytes d x y room r rooms byte low high C =
       let M = class-more columns k bytes d x y r rooms byte low high C in
       let l : k < k + 1 = omega arith in
       let K = M.each k l in
       let at-k : get_or (set bytes k m) k 0 ≡ m = get_or-set_same bytes k m 0 rooms in
-      subst (λ (z : ℕ). Classed t n (m + 1) (set (set columns (2 * k) x) (2 * k + 1) y) (k + 1) (set bytes k m) (set d (classes_at + m) z)) (sym e)
-      (class-found (set (set columns (2 * k) x) (2 * k + 1) y) (k + 1) (set bytes k m) d k room l
+      class-found (set (set columns (2 * k) x) (2 * k + 1) y) (k + 1) (set bytes k m) d k room l
       (K.low ∙ ap (λ (z : ℕ). column_of t z 0 (first_word n)) at-k)
-      (K.high ∙ ap (λ (z : ℕ). column_of t z (first_word n) (n - first_word n)) at-k) M)
+      (K.high ∙ ap (λ (z : ℕ). column_of t z (first_word n) (n - first_word n)) at-k) M
 
 pub classed-none : (t : List ℕ) (n : ℕ) (columns bytes d : List ℕ) → Classed t n 0 columns 0 bytes d
 classed-none t n columns bytes d = record { each = λ j h. absurd (omega arith); is = λ b h. absurd (omega arith); alike = λ b h. absurd (omega arith) }

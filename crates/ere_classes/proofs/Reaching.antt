@@ -2,7 +2,9 @@
 use mathlib.Core.Path.{◌≡◌, sym, ap, subst, ◌∙◌}
 use mathlib.Core.Bool.{false}
 use mathlib.Core.List.{List}
-use Prim.Native.Nat.{ℕ, suc, ◌+◌}
+use Prim.Native.Nat.{ℕ, suc, ◌+◌, ◌≤◌}
+use Rattle.std.specs.Prelude.{Option, Some, None, IfSome}
+use Rattle.std.specs.Option.{unwrap_or}
 use native.Mathlib.Omega.{arith}
 use lib.ListN.{get_or}
 use lib.Bits.{or_zero_r}
@@ -62,6 +64,14 @@ ends_next t bytes k d u next C z N n E s p = (
 )
 
 -- both rows of a start
-pub reaches : (t : List ℕ) (r : ℕ) → ((n : ℕ) → r ≡ suc n → Ends t (suc n) (join (row t 0) (row t 1))) → Reaches t r
+reaches : (t : List ℕ) (r : ℕ) → ((n : ℕ) → r ≡ suc n → Ends t (suc n) (join (row t 0) (row t 1))) → Reaches t r
 reaches t r E n e =
     (E n e (row t 0) (inside_both (row t 0) (row t 1)), E n e (row t 1) (inside-right (row t 0) (row t 1)))
+
+-- what is found of them
+pub reached : (t bytes : List ℕ) (k : ℕ) (r : Option ℕ)
+    → IfSome r (λ n. (n ≤ 17) × ((d : List ℕ) → Classified t bytes k d → Ends t n (join (row t 0) (row t 1))))
+    → (unwrap_or r 0 ≤ 17) × ((d : List ℕ) → Classified t bytes k d → Reaches t (unwrap_or r 0))
+reached t bytes k None h = (omega arith, λ d C n e. absurd (omega arith))
+reached t bytes k (Some m) h =
+    (h.0, λ d C. reaches t m (λ n e. subst (λ (i : ℕ). Ends t i (join (row t 0) (row t 1))) e (h.1 d C)))

@@ -1,5 +1,5 @@
 -- Internal: cited by private contracts only. Sets of classes as bits of a word, and ranges of bytes that hold them.
-use Rattle.std.specs.Prelude.{◌≡◌, false, List, ℕ, ◌+◌, ◌≤◌, ◌<◌, length, get_or}
+use Rattle.std.specs.Prelude.{◌≡◌, false, List, ℕ, ◌+◌, ◌≤◌, ◌<◌, length, get_or, Option, MatchOption}
 use Rattle.lists.specs.Digit.{bit}
 use Rattle.ere_table.specs.Table.{no_place}
 use Rattle.ere_table.specs.Wiring.{stop_in}
@@ -30,6 +30,15 @@ pub record SecondsOf (t bytes : List ℕ) (k : ℕ) (s : List ℕ) (out r : ℕ)
 -- each byte has a class below 64
 abbrev pub Below64 : List ℕ → Type 0
 Below64 d = (b : ℕ) → b < 256 → class_in d b < 64
+
+-- none of the bytes from `low` on and below `high` has its class in the set x
+abbrev pub NoneIn : ℕ → List ℕ → ℕ → ℕ → Type 0
+NoneIn x d low high = (b : ℕ) → low ≤ b → b < high → bit x (class_in d b) ≡ false
+
+-- the first and the last byte whose class is in the set x
+abbrev pub EndsOf : ℕ → List ℕ → Option (ℕ × ℕ) → Type 0
+EndsOf x d r =
+    MatchOption r (NoneIn x d 0 256) (λ e. (e.0 ≤ e.1) × (e.1 < 256) × (NoneIn x d 0 e.0) × (NoneIn x d (e.1 + 1) 256))
 
 -- a range of bytes, outside of which no class is in the set x
 pub record Range (d : List ℕ) (at x r : ℕ) (d' : List ℕ) : Type 0 where

@@ -1,5 +1,5 @@
 -- Internal: cited by private contracts only. Classes of bytes: bytes in one class are taken by the same places.
-use Rattle.std.specs.Prelude.{◌≡◌, cond, List, ℕ, zero, suc, ◌+◌, ◌-◌, ◌*◌, ◌/◌, ◌%◌, ◌^◌, ◌≤◌, ◌<◌, length, get_or, ltb}
+use Rattle.std.specs.Prelude.{◌≡◌, cond, List, ℕ, zero, suc, ◌+◌, ◌-◌, ◌*◌, ◌/◌, ◌%◌, ◌^◌, ◌≤◌, ◌<◌, length, get_or, ltb, Option, IfSome}
 use Rattle.ere_table.specs.Table.{row_words, place_count}
 use Rattle.ere_search.specs.Walk.{step}
 use Rattle.ere_automaton.specs.Layout.{class_in}
@@ -53,7 +53,7 @@ pub record Classified (t bytes : List ℕ) (k : ℕ) (d : List ℕ) : Type 0 whe
   pub is : (b : ℕ) → b < 256 → class_in d b < k
   pub same : (s : List ℕ) (b : ℕ) → b < 256 → step t s b ≡ step t s (get_or bytes (class_in d b) 0)
 
-pub record Classes (t bytes d : List ℕ) (r : ℕ) (bytes' d' : List ℕ) : Type 0 where
+pub record Classes (t bytes d : List ℕ) (r : Option ℕ) (bytes' d' : List ℕ) : Type 0 where
   pub byte_size : length bytes' ≡ length bytes
   pub size : length d' ≡ length d
-  pub classified : 0 < r → Classified t bytes' r d'
+  pub classified : IfSome r (λ k. Classified t bytes' k d')

@@ -1,5 +1,5 @@
 // Classes of bytes: bytes in one class are taken by the same places of the ERE.
-ghost use Rattle.std.specs.Prelude.{◌≡◌, true, ℕ, suc, ◌+◌, ◌-◌, ◌*◌, ◌≤◌, ◌<◌, length, get_or};
+ghost use Rattle.std.specs.Prelude.{◌≡◌, true, ℕ, suc, ◌+◌, ◌-◌, ◌*◌, ◌≤◌, ◌<◌, length, get_or, IfSome};
 ghost use Rattle.ere_table.specs.Table.{table_words, place_count};
 ghost use Rattle.ere_automaton.specs.Layout.{rows_at};
 ghost use Rattle.ere_classes.specs.Column.{taken_by, column_of, Used, first_word, Classed, Classifies, Classes};
@@ -22,14 +22,12 @@ fn used_places(t: &[u64]) -> usize
     requires { length t.now ≡ table_words }
     ensures { Used t.now result }
 {
-    let mut n = PLACES;
-    while 0 < n {
-        if !takes_none(t, n - 1) {
-            return n;
+    for p in (0..PLACES).rev() {
+        if !takes_none(t, p) {
+            return p + 1;
         }
-        n -= 1;
     }
-    n
+    0
 }
 
 // Returns 1 if the place p accepts the byte b, else 0.
@@ -46,28 +44,24 @@ fn column(t: &[u64], b: u8, from: usize, to: usize) -> u64
     ensures { result ≡ column_of t.now b from (to - from) }
 {
     let mut c: u64 = 0;
-    let mut p = from;
-    while p < to {
+    for p in from..to {
         c = 2 * c + taken(t, b, p);
-        p += 1;
     }
     c
 }
 
-// Returns the number of the first of k columns whose words are x and y, or k.
-fn find_column(columns: &[u64], k: usize, x: u64, y: u64) -> usize
+// Returns the number of the first of k columns whose words are x and y, if there is one.
+fn find_column(columns: &[u64], k: usize, x: u64, y: u64) -> Option<usize>
     requires { 2 * k ≤ length columns.now }
-    ensures { (result ≤ k)
-        × (result < k → (get_or columns.now (2 * result) 0 ≡ x) × (get_or columns.now (2 * result + 1) 0 ≡ y)) }
+    ensures { IfSome result (λ j. (j < k) × (get_or columns.now (2 * j) 0 ≡ x)
+        × (get_or columns.now (2 * j + 1) 0 ≡ y)) }
 {
-    let mut j: usize = 0;
-    while j < k {
+    for j in 0..k {
         if (columns[2 * j] == x) & (columns[2 * j + 1] == y) {
-            return j;
+            return Some(j);
         }
-        j += 1;
     }
-    j
+    None
 }
 
 // Returns how many of n places are in the first word of a column.
@@ -97,19 +91,19 @@ fn classify(
     let m = first_word(n);
     let x = column(t, b, 0, m);
     let y = column(t, b, m, n);
-    let j = find_column(columns, k, x, y);
-    d[CLASSES + b as usize] = j as u16;
-    if j < k {
+    if let Some(j) = find_column(columns, k, x, y) {
+        d[CLASSES + b as usize] = j as u16;
         return k;
     }
+    d[CLASSES + b as usize] = k as u16;
     columns[2 * k] = x;
     columns[2 * k + 1] = y;
     bytes[k] = b;
     k + 1
 }
 
-// Stores the class of each byte, and a byte of each class; gives how many classes there are, or 0 if too many.
-pub fn put_classes(t: &[u64], bytes: &mut [u8], d: &mut [u16]) -> usize
+// Stores the class of each byte, and a byte of each class; gives how many classes there are, unless they are too many.
+pub fn put_classes(t: &[u64], bytes: &mut [u8], d: &mut [u16]) -> Option<usize>
     requires { (length t.now ≡ table_words) × (length bytes.old ≡ 64) × (rows_at ≤ length d.old) }
     ensures { Classes t.now bytes.old d.old result bytes.new
         d.new }
@@ -117,13 +111,11 @@ pub fn put_classes(t: &[u64], bytes: &mut [u8], d: &mut [u16]) -> usize
     let n = used_places(t);
     let mut columns = [0u64; 2 * layout::MOST_CLASSES];
     let mut k: usize = 0;
-    let mut b: usize = 0;
-    while b < 256 {
+    for b in 0..256usize {
         if k == layout::MOST_CLASSES {
-            return 0;
+            return None;
         }
         k = classify(t, b as u8, n, &mut columns, k, bytes, d);
-        b += 1;
     }
-    k
+    Some(k)
 }

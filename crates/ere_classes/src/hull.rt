@@ -1,11 +1,11 @@
 // Where no match starts: ranges of bytes outside of which no match has its first byte, and its second.
-ghost use Rattle.std.specs.Prelude.{◌≡◌, false, List, ℕ, ◌+◌, ◌≤◌, ◌<◌, length, get_or};
+ghost use Rattle.std.specs.Prelude.{◌≡◌, false, List, ℕ, ◌+◌, ◌≤◌, ◌<◌, length, get_or, MatchOption};
 ghost use Rattle.lists.specs.Digit.{bit};
 ghost use Rattle.ere_table.specs.Table.{table_words, row, no_place};
 ghost use Rattle.ere_search.specs.Walk.{step};
 ghost use Rattle.ere_automaton.specs.Layout.{rows_at, class_in};
 ghost use Rattle.ere_classes.specs.Column.{Classified};
-ghost use Rattle.ere_classes.specs.Bounds.{Keeps, Led, Follows, SecondsOf, Below64, Range, PutHull};
+ghost use Rattle.ere_classes.specs.Bounds.{Keeps, Led, Follows, SecondsOf, Below64, NoneIn, EndsOf, Range, PutHull};
 
 use crate::layout::CLASSES;
 use crate::{layout, reach, sets};
@@ -14,27 +14,16 @@ use ere_table::PLACES;
 // A set of classes with all there are.
 const ALL: u64 = 18446744073709551615;
 
-// Returns a set of classes with the class c, if x has anything in it.
-fn with_class(out: u64, x: [u64; 3], c: usize) -> u64
-    requires { c < 64 }
-    ensures { (Keeps out result) × (bit result c ≡ false → x ≡ no_place) }
-{
-    if (x[0] == 0) & ((x[1] == 0) & (x[2] == 0)) {
-        return out;
-    }
-    out | (1 << c)
-}
-
 // Returns the classes of the bytes that lead from the set s to something.
 pub fn led(t: &[u64], bytes: &[u8], k: usize, s: [u64; 3], start: u64) -> u64
     requires { (length t.now ≡ table_words) × (k ≤ 64) × (k ≤ length bytes.now) }
     ensures { Led t.now bytes.now k s start result }
 {
     let mut out = start;
-    let mut c: usize = 0;
-    while c < k {
-        out = with_class(out, ere_search::step(t, s, bytes[c]), c);
-        c += 1;
+    for c in 0..k {
+        if !reach::is_empty(ere_search::step(t, s, bytes[c])) {
+            out |= 1 << c;
+        }
     }
     out
 }
@@ -59,10 +48,8 @@ fn seconds(t: &[u64], bytes: &[u8], k: usize) -> u64
         (step t.now (row t.now 1) (get_or bytes.now c 0)) result }
 {
     let mut out: u64 = 0;
-    let mut c: usize = 0;
-    while c < k {
+    for c in 0..k {
         out = seconds_of(t, bytes, k, bytes[c], out);
-        c += 1;
     }
     out
 }
@@ -75,34 +62,39 @@ pub fn has_class(d: &[u16], set: u64, b: usize) -> bool
     (set >> (d[CLASSES + b] as u64)) % 2 == 1
 }
 
-// Returns the first byte whose class is in a set; 256 if there is none.
-pub fn lowest(d: &[u16], set: u64) -> usize
+// Returns the first byte whose class is in a set.
+fn lowest(d: &[u16], set: u64) -> Option<usize>
     requires { (rows_at ≤ length d.now) × (Below64 d.now) }
-    ensures { (result ≤ 256) × ((b : ℕ) → b < result → bit set (class_in d.now b) ≡ false) }
+    ensures { MatchOption result (NoneIn set d.now 0 256) (λ low. (low < 256) × (NoneIn set d.now 0 low)) }
 {
-    let mut b: usize = 0;
-    while b < 256 {
+    for b in 0..256usize {
+        if has_class(d, set, b) {
+            return Some(b);
+        }
+    }
+    None
+}
+
+// Returns the last byte from `low` on whose class is in a set, or `low`.
+fn highest(d: &[u16], set: u64, low: usize) -> usize
+    requires { (rows_at ≤ length d.now) × (Below64 d.now) × (low < 256) }
+    ensures { (low ≤ result) × (result < 256) × (NoneIn set d.now (result + 1) 256) }
+{
+    for b in (low + 1..256).rev() {
         if has_class(d, set, b) {
             return b;
         }
-        b += 1;
     }
-    b
+    low
 }
 
-// Returns the byte after the last whose class is in a set; 0 if there is none.
-pub fn highest(d: &[u16], set: u64) -> usize
+// Returns the first and the last byte whose class is in a set, if there is one.
+pub fn ends(d: &[u16], set: u64) -> Option<(usize, usize)>
     requires { (rows_at ≤ length d.now) × (Below64 d.now) }
-    ensures { (result ≤ 256) × ((b : ℕ) → result ≤ b → b < 256 → bit set (class_in d.now b) ≡ false) }
+    ensures { EndsOf set d.now result }
 {
-    let mut b: usize = 256;
-    while 0 < b {
-        if has_class(d, set, b - 1) {
-            return b;
-        }
-        b -= 1;
-    }
-    b
+    let low = lowest(d, set)?;
+    Some((low, highest(d, set, low)))
 }
 
 // Stores a range: its lowest byte, and how many more it has.
@@ -110,16 +102,14 @@ fn put_range(d: &mut [u16], at: usize, set: u64) -> usize
     requires { (at + 2 ≤ 16) × (rows_at ≤ length d.old) × (Below64 d.old) }
     ensures { Range d.old at set result d.new }
 {
-    let low = lowest(d, set);
-    let high = highest(d, set);
-    if high <= low {
+    let Some((low, high)) = ends(d, set) else {
         d[at] = 255;
         d[at + 1] = 0;
         return 1;
-    }
+    };
     d[at] = low as u16;
-    d[at + 1] = (high - low - 1) as u16;
-    high - low
+    d[at + 1] = (high - low) as u16;
+    high - low + 1
 }
 
 // Returns whether to look at ranges with so many pairs of bytes: 0 if not, FIXED if no match starts but where the text

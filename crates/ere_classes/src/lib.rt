@@ -9,7 +9,7 @@ mod reach;
 mod sets;
 
 pub use classes::put_classes;
-pub use hull::{has_class, highest, led, lowest, put_hull};
+pub use hull::{ends, has_class, led, put_hull};
 pub use layout::MOST_CLASSES;
 pub use reach::is_empty;
 pub use sets::set_at;

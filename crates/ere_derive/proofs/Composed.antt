@@ -9,6 +9,7 @@ use lib.ListN.{length, get_or, set}
 use lib.Seq.{get_or-set_same, get_or-set_other}
 use Rattle.ere_table.specs.Table.{row}
 use Rattle.ere_automaton.specs.Layout.{rows_at}
+use Rattle.ere_sets.specs.declared.sets.Mode.{Mode}
 use Rattle.ere_sets.specs.Growth.{Grows, Leads}
 use Rattle.ere_classes.specs.Frames.{Frame}
 use Rattle.ere_derive.specs.Layout.{Apart, RowAt, Rows, RowOf, Closed, Paired, PutPairs}
@@ -20,27 +21,17 @@ use Rattle.ere_sets.proofs.Grown.{leads-on}
 pub rows-below : (stride j i : ℕ) → j < i → stride * j + stride ≤ stride * i
 rows-below stride j i h = let m = mul-le-mul_left stride h in let e = mul-suc stride j in omega arith
 
--- ---- words that are copied
-
--- a word more of those that are copied from p to q
-pub copied_more : (d s : List ℕ) (p q k e : ℕ) → Apart p k q (q + k) → e < k → q + k ≤ length d → Frame q (q + k) d s
-    → ((i : ℕ) → i < e → get_or s (q + i) 0 ≡ get_or d (p + i) 0)
-    → (i : ℕ) → i < e + 1 → get_or (set s (q + e) (get_or s (p + e) 0)) (q + i) 0 ≡ get_or d (p + i) 0
-copied_more d s p q k e apart l room f h =
-    up_to e (λ i g. get_or-set_other s (q + e) (q + i) _ 0 (omega arith) ∙ h i g)
-    (get_or-set_same s (q + e) _ 0 (omega (arith, f.size)) ∙ ⊎_elim (λ g. f.below (p + e) (omega arith)) (λ g. f.above (p + e) (omega arith)) apart)
-
 -- ---- rows
 
 -- a row that is kept, while sets become more
-pub row_on : {mode : ℕ} {t bytes : List ℕ} {k : ℕ} {a : List ℕ} {n stride : ℕ} {s d : List ℕ} {p : ℕ} {a' : List ℕ} {n' : ℕ} (d' : List ℕ) → RowAt mode t bytes k a n stride s d p → Grows a n a' n'
+pub row_on : {mode : Mode} {t bytes : List ℕ} {k : ℕ} {a : List ℕ} {n stride : ℕ} {s d : List ℕ} {p : ℕ} {a' : List ℕ} {n' : ℕ} (d' : List ℕ) → RowAt mode t bytes k a n stride s d p → Grows a n a' n'
     → ((x : ℕ) → x < k + 1 → get_or d' (p + x) 0 ≡ get_or d (p + x) 0) → RowAt mode t bytes k a' n' stride s d' p
 row_on {mode} {t} {bytes} {k} {a} {n} {stride} {s} {d} {p} {a'} {n'} d' r g e = record {
   leads = λ c h. subst (λ (q : ℕ). Leads mode t a' n' stride s (get_or bytes c 0) q) (sym (e c (omega arith))) (leads-on (r.leads c h) g);
   marks = e k (omega arith) ∙ r.marks;
 }
 
-module _ (mode : ℕ) (t bytes : List ℕ) (k : ℕ) (a : List ℕ) (n stride : ℕ) (d : List ℕ) (i : ℕ) (a' : List ℕ) (n' : ℕ) (d' : List ℕ) where
+module _ (mode : Mode) (t bytes : List ℕ) (k : ℕ) (a : List ℕ) (n stride : ℕ) (d : List ℕ) (i : ℕ) (a' : List ℕ) (n' : ℕ) (d' : List ℕ) where
   pub rows_more : k < stride → i < n → Rows mode t bytes k a n stride d i → Grows a n a' n'
       → Frame (rows_at + stride * i) (rows_at + stride * i + (k + 1)) d d'
       → RowAt mode t bytes k a' n' stride (row a i) d' (rows_at + stride * i) → Rows mode t bytes k a' n' stride d' (i + 1)
@@ -139,7 +130,7 @@ module _ (k n stride : ℕ) (st : stride ≡ k + 1 + k * k) where
             new c e l m ∙ ap (λ (z : ℕ). get_or s (z + e) 0) (x ∙ y) ∙ P.kept r.number e r.low (omega arith) ∙ ap (λ (z : ℕ). get_or d (z + e) 0) (sym y)
 
 -- a row, once its accept bits are stored
-pub row-ended : (mode : ℕ) (t bytes : List ℕ) (k : ℕ) (a : List ℕ) (n stride : ℕ) (s d : List ℕ) (p m : ℕ) → p + k < length d → m ≡ get_or s 2 0 % 4
+pub row-ended : (mode : Mode) (t bytes : List ℕ) (k : ℕ) (a : List ℕ) (n stride : ℕ) (s d : List ℕ) (p m : ℕ) → p + k < length d → m ≡ get_or s 2 0 % 4
     → ((c : ℕ) → c < k → Leads mode t a n stride s (get_or bytes c 0) (get_or d (p + c) 0)) → RowAt mode t bytes k a n stride s (set d (p + k) m) p
 row-ended mode t bytes k a n stride s d p m room e l = record {
   leads = λ c h. subst (λ (q : ℕ). Leads mode t a n stride s (get_or bytes c 0) q) (sym (get_or-set_other d (p + k) (p + c) m 0 (omega arith))) (l c h);

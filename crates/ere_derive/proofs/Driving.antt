@@ -13,9 +13,12 @@ use Rattle.ere_table.specs.Table.{row}
 use Rattle.ere_automaton.specs.Layout.{State, class_in, next_in, pair_in, end_word, rows_at, stride_by, stride_of, state_count, Testable}
 use Rattle.ere_automaton.specs.Automaton.{Hull, Shape}
 use Rattle.ere_classes.specs.Column.{Classified}
+use Rattle.std.specs.Prelude.{Option, Some, None, IfSome}
+use Rattle.ere_sets.specs.declared.sets.Mode.{Mode}
+use Rattle.ere_sets.specs.declared.sets.Mode.TheVariants.{All}
 use Rattle.ere_sets.specs.Modes.{change_by, first_by, later_by, last_by, FollowsBy}
 use Rattle.ere_sets.specs.Growth.{Fair, Has, Leads}
-use Rattle.ere_derive.specs.Layout.{Rows, RowOf, Closed, Paired, PutRows, PutPairs, Begins, Headed}
+use Rattle.ere_derive.specs.Layout.{Rows, RowOf, Closed, Paired, PutRows, PutPairs, Beginning, Headed}
 use Rattle.ere_derive.specs.Derived.{Derived, DerivedBy, Attempted}
 use Rattle.ere_sets.proofs.Grown.{grows_none, has_on}
 use Rattle.ere_derive.proofs.Composed.{rows-below, square-below, row_on}
@@ -86,7 +89,7 @@ pub record Stands (a : List ℕ) (n stride : ℕ) (s : List ℕ) (q : ℕ) : Typ
   pub has : Has a n number s
 
 -- the words d, of which the first are an automaton whose states stand for the sets a
-pub record Built (mode : ℕ) (t bytes : List ℕ) (k : ℕ) (a : List ℕ) (n stride pairs : ℕ) (d : List ℕ) : Type 0 where
+pub record Built (mode : Mode) (t bytes : List ℕ) (k : ℕ) (a : List ℕ) (n stride pairs : ℕ) (d : List ℕ) : Type 0 where
   pub width : stride ≡ stride_by k pairs
   pub room : rows_at + stride * n ≤ length d
   pub count : get_or d 0 0 ≡ k
@@ -101,7 +104,7 @@ pub record Built (mode : ℕ) (t bytes : List ℕ) (k : ℕ) (a : List ℕ) (n s
   pub hull : Hull t d
   pub tests : Testable d
 
-module _ (mode : ℕ) (t bytes : List ℕ) (k : ℕ) (a : List ℕ) (n stride pairs : ℕ) (d : List ℕ)
+module _ (mode : Mode) (t bytes : List ℕ) (k : ℕ) (a : List ℕ) (n stride pairs : ℕ) (d : List ℕ)
     (B : Built mode t bytes k a n stride pairs d) where
   abbrev r : ℕ
   r = rows_at + stride * n
@@ -229,14 +232,14 @@ module _ (mode : ℕ) (t bytes : List ℕ) (k : ℕ) (a : List ℕ) (n stride pa
 
 -- ---- from the pieces
 
-pub rows-closed : {mode : ℕ} {t bytes : List ℕ} {k : ℕ} {a : List ℕ} {n stride : ℕ} {d : List ℕ} → Rows mode t bytes k a n stride d n
+pub rows-closed : {mode : Mode} {t bytes : List ℕ} {k : ℕ} {a : List ℕ} {n stride : ℕ} {d : List ℕ} → Rows mode t bytes k a n stride d n
     → (i : ℕ) → i < n → Closed k n stride d (rows_at + stride * i)
 rows-closed R i h c l = let x = (R i h).leads c l in record { number = x.number; low = x.has.low; is = x.is }
 
-module _ (mode : ℕ) (t bytes : List ℕ) (k : ℕ) (a₀ a : List ℕ) (most n₀ n stride accepted later first pairs : ℕ) (d d1 d2 d3 : List ℕ)
-    (width : stride ≡ stride_by k pairs) (room : rows_at + stride * most ≤ length d) (l : n ≤ most) (l₀ : n₀ ≤ most)
-    (C : Classified t bytes k d) (H : Hull t d) (T : Testable d) (I : List ℕ) (G : Begins mode t I most n₀ accepted later first a₀)
-    (R : PutRows mode t bytes k a₀ n₀ most stride d n a d1) (P : PutPairs k n stride (cond (eqb pairs 0) 0 n) d1 d2)
+module _ (mode : Mode) (t bytes : List ℕ) (k : ℕ) (a₀ a : List ℕ) (most n₀ n stride accepted later first pairs : ℕ) (d d1 d2 d3 : List ℕ)
+    (width : stride ≡ stride_by k pairs) (room : rows_at + stride * most ≤ length d)
+    (C : Classified t bytes k d) (H : Hull t d) (T : Testable d) (G : Beginning mode t a₀ most n₀ accepted later first)
+    (R : PutRows mode t bytes k a₀ n₀ most stride d (Some n) a d1) (P : PutPairs k n stride (cond (eqb pairs 0) 0 n) d1 d2)
     (E : Headed d2 k (rows_at + stride * first) (rows_at + stride * later) (rows_at + stride * accepted) pairs d3) where
   kept : (i : ℕ) → 5 ≤ i → i < rows_at → get_or d3 i 0 ≡ get_or d i 0
   kept i g h = E.frame.above i g ∙ P.below i h ∙ R.frame.below i h
@@ -248,11 +251,11 @@ module _ (mode : ℕ) (t bytes : List ℕ) (k : ℕ) (a₀ a : List ℕ) (most n
   length-is = E.frame.size ∙ P.size ∙ R.frame.size
 
   inside : rows_at + stride * n ≤ length d
-  inside = let z = mul-le-mul_left stride l in omega arith
+  inside = let z = mul-le-mul_left stride R.has.0 in omega arith
 
   composed : eqb pairs 0 ≡ false → (i : ℕ) → i < n → Paired k d3 d3 (rows_at + stride * i) k
   composed p i h c e g m =
-      let x = rows-closed (R.rows l) i h c g in
+      let x = rows-closed R.has.2 i h c g in
       let w : get_or d1 (rows_at + stride * i + c) 0 ≡ rows_at + stride * x.number = x.is in
       E.frame.above (rows_at + stride * i + (k + 1 + (c * k + e))) (omega arith)
       ∙ P.paired i (subst (λ (u : Bool). i < cond u 0 n) (sym p) h) c e g m
@@ -261,7 +264,7 @@ module _ (mode : ℕ) (t bytes : List ℕ) (k : ℕ) (a₀ a : List ℕ) (most n
       ∙ ap (λ (u : ℕ). get_or d3 (u + e) 0) (sym (proper i c h (omega arith) ∙ w))
 
   stands : (q number : ℕ) (s : List ℕ) → q ≡ rows_at + stride * number → Has a₀ n₀ number s → Stands a n stride s q
-  stands q number s e h = record { number = number; is = e; has = has_on h (R.grows l) }
+  stands q number s e h = record { number = number; is = e; has = has_on h R.has.1 }
 
   built : Built mode t bytes k a n stride pairs d3
   built = record {
@@ -269,32 +272,36 @@ module _ (mode : ℕ) (t bytes : List ℕ) (k : ℕ) (a₀ a : List ℕ) (most n
     room = let z = length-is in let y = inside in omega arith;
     count = E.classes;
     paired = E.is_paired;
-    first = stands _ first _ E.is-first (G.is-first l₀);
-    later = stands _ later _ E.is_later (G.is_later l₀);
-    accepted = stands _ accepted _ E.is_accepted (G.is_accepted l₀);
-    rows = λ i h. row_on d3 (R.rows l i h) (grows_none a n) (λ x g. proper i x h g);
+    first = stands _ first _ E.is-first G.is-first;
+    later = stands _ later _ E.is_later G.is_later;
+    accepted = stands _ accepted _ E.is_accepted G.is_accepted;
+    rows = λ i h. row_on d3 (R.has.2 i h) (grows_none a n) (λ x g. proper i x h g);
     composed = composed;
-    fair = (R.grows l).fair (G.fair l₀);
+    fair = R.has.1.fair G.fair;
     classes = classified-on d3 (λ b h. kept (24 + b) (omega arith) (omega arith)) C;
     hull = hull-on d3 (λ i g h. kept i (omega arith) (omega arith)) (kept 14 (omega arith) (omega arith)) H;
     tests = testable-on t d d3 (λ i g h. kept i (omega arith) (omega arith)) T;
   }
 
-  pub attempted : Attempted mode t d (rows_at + stride * n) d3
+  pub attempted : Attempted mode t d (Some (rows_at + stride * n)) d3
   attempted = record {
-    derived = record { size = length-is; inside = inside; follows = λ h. built-follows mode t bytes k a n stride pairs d3 built; hull = λ h. built-hull mode t bytes k a n stride pairs d3 built };
+    derived = record {
+      size = length-is;
+      made = (
+        inside,
+        built-follows mode t bytes k a n stride pairs d3 built,
+        built-hull mode t bytes k a n stride pairs d3 built,
+      );
+    };
     kept = kept;
   }
 
 -- no room
-pub underived : (mode : ℕ) (t d d' : List ℕ) → length d' ≡ length d → DerivedBy mode t d 0 d'
-underived mode t d d' l = record { size = l; inside = omega arith; follows = λ h. absurd (omega arith); hull = λ h. absurd (omega arith) }
-
-pub unattempted : (mode : ℕ) (t d d' : List ℕ) → length d' ≡ length d → ((i : ℕ) → 5 ≤ i → i < rows_at → get_or d' i 0 ≡ get_or d i 0) → Attempted mode t d 0 d'
-unattempted mode t d d' e k = record { derived = underived mode t d d' e; kept = k }
+pub unattempted : (mode : Mode) (t d d' : List ℕ) → length d' ≡ length d → ((i : ℕ) → 5 ≤ i → i < rows_at → get_or d' i 0 ≡ get_or d i 0) → Attempted mode t d None d'
+unattempted mode t d d' e k = record { derived = record { size = e; made = tt }; kept = k }
 
 -- an attempt on the first m words
-module _ (mode : ℕ) (t bytes : List ℕ) (k m : ℕ) (d : List ℕ) (h : rows_at ≤ m) (l : m ≤ length d) where
+module _ (mode : Mode) (t bytes : List ℕ) (k m : ℕ) (d : List ℕ) (h : rows_at ≤ m) (l : m ≤ length d) where
   pub front-size : length (take m d) ≡ m
   front-size = length-take-le m d l
 
@@ -307,48 +314,51 @@ module _ (mode : ℕ) (t bytes : List ℕ) (k m : ℕ) (d : List ℕ) (h : rows_
   pub front-tests : Testable d → Testable (take m d)
   front-tests = testable-on t d (take m d) (λ i g o. get_or-take m d i 0 (omega arith))
 
-  pub front-attempted : (r : ℕ) (f : List ℕ) → Attempted mode t (take m d) r f → Attempted mode t d r (f ++ drop m d)
+  abbrev Made : List ℕ → List ℕ → ℕ → Type 0
+  Made e f n = (n ≤ length e) × FollowsBy mode t (take n f) × Hull t (take n f)
+
+  front-made : (r : Option ℕ) (f : List ℕ) → length f ≡ m → IfSome r (Made (take m d) f) → IfSome r (Made d (f ++ drop m d))
+  front-made None f e w = tt
+  front-made (Some n) f e w =
+      let z = front-size in
+      let c = take-append-le n f (drop m d) (omega (arith, w.0)) in
+      (omega (arith, w.0), subst (FollowsBy mode t) (sym c) w.1, subst (Hull t) (sym c) w.2)
+
+  pub front-attempted : (r : Option ℕ) (f : List ℕ) → Attempted mode t (take m d) r f → Attempted mode t d r (f ++ drop m d)
   front-attempted r f A = record {
-    derived = record {
-      size = length_front d f m A.derived.size;
-      inside = let x = A.derived.inside in let y = front-size in omega arith;
-      follows = λ g. subst (FollowsBy mode t) (sym (take-append-le r f (drop m d) r-in)) (A.derived.follows g);
-      hull = λ g. subst (Hull t) (sym (take-append-le r f (drop m d) r-in)) (A.derived.hull g);
-    };
+    derived = record { size = length_front d f m A.derived.size; made = front-made r f f-size A.derived.made };
     kept = λ i g o. get_or-append f (drop m d) 0 i (f-has i o) ∙ A.kept i g o ∙ get_or-take m d i 0 (omega arith);
   }
     where
       f-size : length f ≡ m
       f-size = A.derived.size ∙ front-size
 
-      r-in : r ≤ length f
-      r-in = let x = A.derived.inside in let y = front-size in let z = f-size in omega arith
-
       f-has : (i : ℕ) → i < rows_at → i < length f
       f-has i o = let z = f-size in omega arith
 
 -- words of the same length
-pub derived-on : {mode : ℕ} {t d d' : List ℕ} {r : ℕ} (e : List ℕ) → length d ≡ length e → DerivedBy mode t d r d' → DerivedBy mode t e r d'
-derived-on {r = m} e l D = record { size = D.size ∙ l; inside = subst (λ (n : ℕ). m ≤ n) l D.inside; follows = D.follows; hull = D.hull }
+pub derived-on : {mode : Mode} {t d d' : List ℕ} {r : Option ℕ} (e : List ℕ) → length d ≡ length e → DerivedBy mode t d r d' → DerivedBy mode t e r d'
+derived-on {mode} {t} {d} {d'} {r} e l D = record {
+  size = D.size ∙ l;
+  made = subst (λ (x : ℕ). IfSome r (λ n. (n ≤ x) × FollowsBy mode t (take n d') × Hull t (take n d'))) l D.made;
+}
 
 -- ---- all starts: whether there is a match
 
-module _ (t d₀ d d' : List ℕ) (r : ℕ) (A : Attempted 0 t d r d') (size : length d ≡ length d₀) (S : Shape t d) where
-  -- an automaton has a head
-  long : 0 < r → rows_at ≤ r
-  long h =
-      subst (λ (n : ℕ). rows_at ≤ n) (length-take-le r d' (omega (arith, A.derived.inside, A.derived.size)))
-      (A.derived.follows h).ranged.head
-
-  pub derived-all : Derived t d₀ r d'
-  derived-all = record {
-    size = A.derived.size ∙ size;
-    inside = omega (arith, A.derived.inside, size);
-    drives = λ h.
-        follows-drives (follows-all t (A.derived.follows h)) (A.derived.hull h)
-        (shape_on t d (take r d')
-        (λ i g l. get_or-take r d' i 0 (omega (arith, long h)) ∙ A.kept i (omega arith) (omega arith)) S);
-  }
-
-pub derived-none : (t d d' : List ℕ) → length d' ≡ length d → Derived t d 0 d'
-derived-none t d d' e = record { size = e; inside = omega arith; drives = λ h. absurd (omega arith) }
+module _ (t d₀ d d' : List ℕ) (size : length d ≡ length d₀) (S : Shape t d) where
+  pub derived-all : (r : Option ℕ) → Attempted All t d r d' → Derived t d₀ r d'
+  derived-all None A = record { size = A.derived.size ∙ size; made = tt }
+  derived-all (Some r) A =
+      let M = A.derived.made in
+      -- an automaton has a head
+      let long : rows_at ≤ r =
+      subst (λ (n : ℕ). rows_at ≤ n) (length-take-le r d' (omega (arith, M.0, A.derived.size))) M.1.ranged.head in
+      record {
+        size = A.derived.size ∙ size;
+        made = (
+          omega (arith, M.0, size),
+          follows-drives (follows-all t M.1) M.2
+              (shape_on t d (take r d')
+              (λ i g l. get_or-take r d' i 0 (omega (arith, long)) ∙ A.kept i (omega arith) (omega arith)) S),
+        );
+      }

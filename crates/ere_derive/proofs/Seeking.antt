@@ -20,6 +20,8 @@ use Rattle.ere_automaton.specs.Automaton.{Hull}
 use Rattle.ere_automaton.specs.Follows.{FollowsOne, FollowsPending, Seeks, one_length, one_in, pending_in}
 use Rattle.ere_classes.specs.Frames.{Frame}
 use Rattle.ere_derive.specs.Both.{Nested, HeadedBoth}
+use Rattle.std.specs.Prelude.{Option, Some}
+use Rattle.ere_sets.specs.declared.sets.Mode.TheVariants.{One, Pending}
 use Rattle.ere_derive.specs.Derived.{DerivedBy, DerivedBoth}
 use Rattle.ere_classes.proofs.Columns.{ordered}
 use Rattle.ere_classes.proofs.Framed.{three}
@@ -121,27 +123,23 @@ rest_back l a b =
     ap (λ (r : List ℕ). take a l ++ (b ++ r)) (drop_of_length-le (drop a l) h)
     ∙ ap (λ (r : List ℕ). take a l ++ r) (append-nil b)
 
--- no automata
-pub underived-both : (t d d' : List ℕ) → length d' ≡ length d → DerivedBoth t d 0 d'
-underived-both t d d' e = record { size = e; inside = omega arith; seeks = λ h. absurd (omega arith) }
-
-module _ (t d : List ℕ) (n : ℕ) (d1 : List ℕ) (D : DerivedBy 1 t d n d1) (some : 0 < n) where
+module _ (t d : List ℕ) (n : ℕ) (d1 : List ℕ) (D : DerivedBy One t d (Some n) d1) where
   front : length (take n d1) ≡ n
-  front = length-take-le n d1 (let x = D.size in let y = D.inside in omega arith)
+  front = length-take-le n d1 (let x = D.size in let y = D.made.0 in omega arith)
 
   past : (i : ℕ) → n ≤ i → get_or (take n d1) i 0 ≡ 0
   past i h = get_or-eq_default (take n d1) 0 (let z = front in omega arith)
 
   -- an automaton has a head
   pub one-long : rows_at ≤ n
-  one-long = subst (λ (x : ℕ). rows_at ≤ x) front (D.follows some).ranged.head
+  one-long = subst (λ (x : ℕ). rows_at ≤ x) front D.made.1.ranged.head
 
   pub one-room : rows_at ≤ length d1
-  one-room = let x = D.size in let y = D.inside in let z = one-long in omega arith
+  one-room = let x = D.size in let y = D.made.0 in let z = one-long in omega arith
 
   module _ (d2 : List ℕ) (H : HeadedBoth t n d1 d2) where
     front2 : length (take n d2) ≡ n
-    front2 = length-take-le n d2 (let x = D.size in let y = D.inside in let z = H.frame.size in omega arith)
+    front2 = length-take-le n d2 (let x = D.size in let y = D.made.0 in let z = H.frame.size in omega arith)
 
     past2 : (i : ℕ) → n ≤ i → get_or (take n d2) i 0 ≡ 0
     past2 i h = get_or-eq_default (take n d2) 0 (let z = front2 in omega arith)
@@ -165,30 +163,29 @@ module _ (t d : List ℕ) (n : ℕ) (d1 : List ℕ) (D : DerivedBy 1 t d n d1) (
     front-tests : Testable (take n d2)
     front-tests =
         testable-on t (take n d1) (take n d2) (λ i g h. front-frame.above i (omega arith))
-        (D.follows some).ranged.tests
+        D.made.1.ranged.tests
 
     pub rest-inside : n ≤ length d2
-    rest-inside = let x = D.size in let y = D.inside in let z = H.frame.size in omega arith
+    rest-inside = let x = D.size in let y = D.made.0 in let z = H.frame.size in omega arith
 
     -- the rest is lent for the second
-    pub rest-size : (m : ℕ) (f : List ℕ) → DerivedBy 2 t (mid_of n (length d2 - n) d2) m f
+    pub rest-size : (m : Option ℕ) (f : List ℕ) → DerivedBy Pending t (mid_of n (length d2 - n) d2) m f
         → length (put_mid n (length d2 - n) d2 f) ≡ length d
     rest-size m f E = same_len_mid n (length d2 - n) d2 f E.size ∙ H.frame.size ∙ D.size
 
-    pub rest-fits : (m : ℕ) (f : List ℕ) → DerivedBy 2 t (mid_of n (length d2 - n) d2) m f → n + m ≤ length d
+    pub rest-fits : (m : ℕ) (f : List ℕ) → DerivedBy Pending t (mid_of n (length d2 - n) d2) (Some m) f → n + m ≤ length d
     rest-fits m f E =
-        let x = E.inside in
+        let x = E.made.0 in
         let y : length (mid_of n (length d2 - n) d2) ≡ length d2 - n = ap length (rest-lent d2 n) ∙ length-drop n d2 in
         let z = rest-inside in
         let e : length d2 ≡ length d = H.frame.size ∙ D.size in
         omega arith
 
-    pub derived-both : (m : ℕ) (f : List ℕ) → DerivedBy 2 t (mid_of n (length d2 - n) d2) m f → 0 < m → Nested t
-        → DerivedBoth t d (n + m) (put_mid n (length d2 - n) d2 f)
-    derived-both m f E more N = record {
-      size = rest-size m f E;
-      inside = rest-fits m f E;
-      seeks = λ h. subst (Seeks t) (sym cut) both;
+    pub derived-both : (m : ℕ) (f : List ℕ) → DerivedBy Pending t (mid_of n (length d2 - n) d2) (Some m) f → Nested t
+        → DerivedBoth t d (Some (n + m)) (put_mid n (length d2 - n) d2 f)
+    derived-both m f E N = record {
+      size = rest-size (Some m) f E;
+      made = (rest-fits m f E, subst (Seeks t) (sym cut) both);
     }
       where
         cut : take (n + m) (put_mid n (length d2 - n) d2 f) ≡ take n d2 ++ take m f
@@ -201,9 +198,9 @@ module _ (t d : List ℕ) (n : ℕ) (d1 : List ℕ) (D : DerivedBy 1 t d n d1) (
             let z = one-long in
             seeks-both t (take n d2) (take m f) n front2 one-long (word2 10 (omega arith) ∙ H.size)
             (follows-one t
-            (follows_on (take n d1) (take n d2) (frame-wider (omega arith) (omega arith) front-frame) front-tests (D.follows some)))
-            (follows-pending t (E.follows more))
+            (follows_on (take n d1) (take n d2) (frame-wider (omega arith) (omega arith) front-frame) front-tests D.made.1))
+            (follows-pending t E.made.1)
             (hull-on (take n d2) (λ i g h. front-frame.below i (omega arith)) (front-frame.above 14 (omega arith))
-            (D.hull some))
-            (E.hull more) N
+            D.made.2)
+            E.made.2 N
             (word2 11 (omega arith) ∙ H.empty_first) (word2 12 (omega arith) ∙ H.empty_later)

@@ -6,6 +6,7 @@ ghost use Rattle.ere_derive.specs.Both.{Nested, HeadedBoth};
 ghost use Rattle.ere_derive.specs.Derived.{DerivedBoth};
 
 use crate::{build, layout};
+use ere_sets::Mode;
 
 // Tells whether all that may start elsewhere may start at the text's start.
 fn is_nested(t: &[u64]) -> bool
@@ -26,23 +27,17 @@ fn put_both(t: &[u64], d: &mut [u16], n: usize)
 }
 
 // Makes the automata of one start and of the starts before a place, one after the other, each with pairs if they fit
-// below `pairs` words, and gives how many words they have; 0 if there is no room, or if what may start elsewhere may
-// not at the text's start.
-pub fn derive_both(t: &[u64], d: &mut [u16], pairs: usize) -> usize
+// below `pairs` words, and gives how many words they have, if there is room, and if what may start elsewhere may start
+// at the text's start.
+pub fn derive_both(t: &[u64], d: &mut [u16], pairs: usize) -> Option<usize>
     requires { (length t.now ≡ table_words) × (length d.old < 65536) }
     ensures { DerivedBoth t.now d.old result d.new }
 {
-    if is_nested(t) {
-        let n = build::derive_by(t, ere_sets::ONE, d, pairs);
-        if n == 0 {
-            return 0;
-        }
-        put_both(t, d, n);
-        let m = build::derive_by(t, ere_sets::PENDING, &mut d[n..], pairs);
-        if m == 0 {
-            return 0;
-        }
-        return n + m;
+    if !is_nested(t) {
+        return None;
     }
-    0
+    let n = build::derive_by(t, Mode::One, d, pairs)?;
+    put_both(t, d, n);
+    let m = build::derive_by(t, Mode::Pending, &mut d[n..], pairs)?;
+    Some(n + m)
 }

@@ -9,6 +9,7 @@ ghost use Rattle.ere_derive.specs.Derived.{Derived, DerivedBy, Attempted, Prepar
 
 use crate::layout::ROWS;
 use crate::{layout, pairs, rows};
+use ere_sets::Mode;
 
 // Returns how many states there is room for.
 fn states_in(length: usize, stride: usize) -> usize
@@ -46,9 +47,16 @@ fn stride_of(k: usize, paired: u16) -> usize
     k + 1 + k * k
 }
 
-// Makes the rows and the head of an automaton whose classes and ranges are stored, and gives how many words it has;
-// 0 if there is no room.
-fn attempt(t: &[u64], mode: u64, bytes: &[u8], k: usize, d: &mut [u16], paired: u16) -> usize
+// Makes the rows and the head of an automaton whose classes and ranges are stored, and gives how many words it has, if
+// there is room.
+fn attempt(
+    t: &[u64],
+    mode: Mode,
+    bytes: &[u8],
+    k: usize,
+    d: &mut [u16],
+    paired: u16,
+) -> Option<usize>
     requires { (length t.now ≡ table_words) × (k ≤ length bytes.now) × (rows_at ≤ length d.old)
         × (length d.old < 65536) × (Classified t.now bytes.now k d.old) × (Hull t.now d.old)
         × (Testable d.old) }
@@ -57,14 +65,8 @@ fn attempt(t: &[u64], mode: u64, bytes: &[u8], k: usize, d: &mut [u16], paired: 
     let stride = stride_of(k, paired);
     let most = states_in(d.len(), stride);
     let mut all = [0u64; 3 * layout::MOST_STATES];
-    let s = rows::begin(t, mode, &mut all, most);
-    if most < s.count {
-        return 0;
-    }
-    let n = rows::put_rows(t, mode, bytes, k, &mut all, s.count, most, stride, d);
-    if most < n {
-        return 0;
-    }
+    let s = rows::begin(t, mode, &mut all, most)?;
+    let n = rows::put_rows(t, mode, bytes, k, &mut all, s.count, most, stride, d)?;
     pairs::compose(d, k, stride, n, paired);
     put_head(
         d,
@@ -74,83 +76,86 @@ fn attempt(t: &[u64], mode: u64, bytes: &[u8], k: usize, d: &mut [u16], paired: 
         ROWS + stride * s.accepted,
         paired,
     );
-    ROWS + stride * n
+    Some(ROWS + stride * n)
 }
 
-// Makes rows with pairs, if they fit below `pairs` words, and gives how many words the automaton has; 0 if there is no
-// room.
-fn with_pairs(t: &[u64], mode: u64, bytes: &[u8], k: usize, d: &mut [u16], pairs: usize) -> usize
+// Makes rows with pairs, if they fit below `pairs` words, and gives how many words the automaton has, if there is room.
+fn with_pairs(
+    t: &[u64],
+    mode: Mode,
+    bytes: &[u8],
+    k: usize,
+    d: &mut [u16],
+    pairs: usize,
+) -> Option<usize>
     requires { (length t.now ≡ table_words) × (k ≤ length bytes.now) × (rows_at ≤ length d.old)
         × (length d.old < 65536) × (Classified t.now bytes.now k d.old) × (Hull t.now d.old)
         × (Testable d.old) }
     ensures { Attempted mode t.now d.old result d.new }
 {
     if pairs < ROWS {
-        return 0;
+        return None;
     }
     if d.len() < pairs {
-        return 0;
+        return None;
     }
     attempt(t, mode, bytes, k, &mut d[..pairs], 1)
 }
 
-// Makes rows with pairs, or where they don't fit without, and gives how many words the automaton has; 0 if there is no
-// room.
-fn finish(t: &[u64], mode: u64, bytes: &[u8], k: usize, d: &mut [u16], pairs: usize) -> usize
+// Makes rows with pairs, or where they don't fit without, and gives how many words the automaton has, if there is room.
+fn finish(
+    t: &[u64],
+    mode: Mode,
+    bytes: &[u8],
+    k: usize,
+    d: &mut [u16],
+    pairs: usize,
+) -> Option<usize>
     requires { (length t.now ≡ table_words) × (k ≤ length bytes.now) × (rows_at ≤ length d.old)
         × (length d.old < 65536) × (Classified t.now bytes.now k d.old) × (Hull t.now d.old)
         × (Testable d.old) }
     ensures { Attempted mode t.now d.old result d.new }
 {
-    let r = with_pairs(t, mode, bytes, k, d, pairs);
-    if 0 < r {
-        return r;
+    if let Some(r) = with_pairs(t, mode, bytes, k, d, pairs) {
+        return Some(r);
     }
     attempt(t, mode, bytes, k, d, 0)
 }
 
 // Stores the class of each byte, with a byte of each, and the ranges of a match's first two bytes; gives how many
-// classes there are, 0 if there is no room.
-fn prepare(t: &[u64], bytes: &mut [u8], d: &mut [u16]) -> usize
+// classes there are, if there is room.
+fn prepare(t: &[u64], bytes: &mut [u8], d: &mut [u16]) -> Option<usize>
     requires { (length t.now ≡ table_words) × (length bytes.old ≡ 64) }
     ensures { Prepared t.now bytes.old d.old result bytes.new
         d.new }
 {
     if d.len() < ROWS {
-        return 0;
+        return None;
     }
-    let k = ere_classes::put_classes(t, bytes, d);
-    if 0 < k {
-        ere_classes::put_hull(t, bytes, k, d);
-    }
-    k
+    let k = ere_classes::put_classes(t, bytes, d)?;
+    ere_classes::put_hull(t, bytes, k, d);
+    Some(k)
 }
 
 // Makes the automaton of a table by a mode, with pairs if they fit below `pairs` words, and gives how many words it
-// has; 0 if there is no room.
-pub fn derive_by(t: &[u64], mode: u64, d: &mut [u16], pairs: usize) -> usize
+// has, if there is room.
+pub fn derive_by(t: &[u64], mode: Mode, d: &mut [u16], pairs: usize) -> Option<usize>
     requires { (length t.now ≡ table_words) × (length d.old < 65536) }
     ensures { DerivedBy mode t.now d.old result d.new }
 {
     let mut bytes = [0u8; ere_classes::MOST_CLASSES];
-    let k = prepare(t, &mut bytes, d);
-    if k == 0 {
-        return 0;
-    }
+    let k = prepare(t, &mut bytes, d)?;
     finish(t, mode, &bytes, k, d, pairs)
 }
 
 // Makes the automaton for the existence of a match, with pairs if they fit below `pairs` words, and gives how many
-// words it has; 0 if there is no room.
-pub fn derive(t: &[u64], d: &mut [u16], pairs: usize) -> usize
+// words it has, if there is room.
+pub fn derive(t: &[u64], d: &mut [u16], pairs: usize) -> Option<usize>
     requires { (length t.now ≡ table_words) × (length d.old < 65536) }
     ensures { Derived t.now d.old result d.new }
 {
     let mut bytes = [0u8; ere_classes::MOST_CLASSES];
-    let k = prepare(t, &mut bytes, d);
-    if k == 0 {
-        return 0;
-    }
+    let k = prepare(t, &mut bytes, d)?;
     ere_shapes::put_word(t, &bytes, k, d);
-    finish(t, ere_sets::ALL, &bytes, k, d, pairs)
+    finish(t, Mode::All, &bytes, k, d, pairs)
 }

@@ -8,15 +8,11 @@ use crate::layout::ROWS;
 
 // Copies k words from p to q.
 fn copy_words(d: &mut [u16], p: usize, q: usize, k: usize)
-    requires { (p + k ≤ length d.old) × (q + k ≤ length d.old) × (Apart p k q (q + k)) }
+    requires { (p + k ≤ length d.old) × (q + k ≤ length d.old) }
     ensures { (Frame q (q + k) d.old d.new)
         × ((e : ℕ) → e < k → get_or d.new (q + e) 0 ≡ get_or d.old (p + e) 0) }
 {
-    let mut e: usize = 0;
-    while e < k {
-        d[q + e] = d[p + e];
-        e += 1;
-    }
+    d.copy_within(p..p + k, q);
 }
 
 // Stores the pairs of the row at p.
@@ -27,11 +23,9 @@ fn put_pairs_in(d: &mut [u16], k: usize, p: usize)
     ensures { (Frame (p + (k + 1)) (p + (k + 1 + k * k)) d.old d.new)
         × (Paired k d.old d.new p k) }
 {
-    let mut c: usize = 0;
-    while c < k {
+    for c in 0..k {
         let next = d[p + c] as usize;
         copy_words(d, next, p + (k + 1 + c * k), k);
-        c += 1;
     }
 }
 
@@ -41,10 +35,8 @@ fn put_pairs(d: &mut [u16], k: usize, stride: usize, n: usize)
         × ((i : ℕ) → i < n → Closed k n stride d.old (rows_at + stride * i)) }
     ensures { PutPairs k n stride n d.old d.new }
 {
-    let mut i: usize = 0;
-    while i < n {
+    for i in 0..n {
         put_pairs_in(d, k, ROWS + stride * i);
-        i += 1;
     }
 }
 

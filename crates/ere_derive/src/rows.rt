@@ -5,11 +5,12 @@ ghost use Rattle.ere_automaton.specs.Layout.{rows_at};
 ghost use Rattle.ere_derive.specs.Layout.{PutEntry, PutRow, PutRows, Begins};
 
 use crate::layout::ROWS;
+use ere_sets::Mode;
 
-// Stores at p the state after the set s and the byte b; gives how many states there are then, most + 1 if too many.
+// Stores at p the state after the set s and the byte b; gives how many states there are then, if there is room.
 fn put_entry(
     t: &[u64],
-    mode: u64,
+    mode: Mode,
     b: u8,
     sets: &mut [u64],
     count: usize,
@@ -18,18 +19,15 @@ fn put_entry(
     stride: usize,
     p: usize,
     d: &mut [u16],
-) -> usize
+) -> Option<usize>
     requires { (length t.now ≡ table_words) × (count ≤ most) × (most ≤ 96) × (length sets.old ≡ 288)
         × (rows_at + stride * most ≤ length d.old) × (length d.old < 65536) × (p < length d.old) }
     ensures { PutEntry mode t.now sets.old count most stride s b p d.old result
         sets.new d.new }
 {
-    let e = ere_sets::enter(sets, count, most, ere_sets::change(t, mode, s, b));
-    if most < e.count {
-        return most + 1;
-    }
+    let e = ere_sets::enter(sets, count, most, ere_sets::change(t, mode, s, b))?;
     d[p] = (ROWS + stride * e.number) as u16;
-    e.count
+    Some(e.count)
 }
 
 // Returns the accept bits of the set s.
@@ -39,10 +37,10 @@ fn end_mark(s: [u64; 3]) -> u16
     (s[2] % 4) as u16
 }
 
-// Stores the row of the set s at p; gives how many states there are then, most + 1 if too many.
+// Stores the row of the set s at p; gives how many states there are then, if there is room.
 fn put_row(
     t: &[u64],
-    mode: u64,
+    mode: Mode,
     bytes: &[u8],
     k: usize,
     sets: &mut [u64],
@@ -52,7 +50,7 @@ fn put_row(
     stride: usize,
     p: usize,
     d: &mut [u16],
-) -> usize
+) -> Option<usize>
     requires { (length t.now ≡ table_words) × (k ≤ length bytes.now) × (count ≤ most) × (most ≤ 96)
         × (length sets.old ≡ 288) × (rows_at + stride * most ≤ length d.old) × (length d.old < 65536)
         × (p + k < length d.old) }
@@ -60,22 +58,17 @@ fn put_row(
         d.old result sets.new d.new }
 {
     let mut n = count;
-    let mut e: usize = 0;
-    while e < k {
-        n = put_entry(t, mode, bytes[e], sets, n, most, s, stride, p + e, d);
-        if most < n {
-            return most + 1;
-        }
-        e += 1;
+    for e in 0..k {
+        n = put_entry(t, mode, bytes[e], sets, n, most, s, stride, p + e, d)?;
     }
     d[p + k] = end_mark(s);
-    n
+    Some(n)
 }
 
-// Stores the rows of all states; gives how many there are, most + 1 if too many.
+// Stores the rows of all states; gives how many there are, if there is room.
 pub fn put_rows(
     t: &[u64],
-    mode: u64,
+    mode: Mode,
     bytes: &[u8],
     k: usize,
     sets: &mut [u64],
@@ -83,7 +76,7 @@ pub fn put_rows(
     most: usize,
     stride: usize,
     d: &mut [u16],
-) -> usize
+) -> Option<usize>
     requires { (length t.now ≡ table_words) × (k ≤ length bytes.now) × (count ≤ most) × (most ≤ 96)
         × (length sets.old ≡ 288) × (rows_at + stride * most ≤ length d.old) × (length d.old < 65536)
         × (k < stride) }
@@ -92,6 +85,7 @@ pub fn put_rows(
 {
     let mut n = count;
     let mut i: usize = 0;
+    // No `for`: the rows that are stored enter sets, so n grows.
     while i < n {
         let s = ere_classes::set_at(sets, i);
         n = put_row(
@@ -106,16 +100,13 @@ pub fn put_rows(
             stride,
             ROWS + stride * i,
             d,
-        );
-        if most < n {
-            return most + 1;
-        }
+        )?;
         i += 1;
     }
-    n
+    Some(n)
 }
 
-// How many states an automaton begins with, more than there is room for if too many; and their numbers.
+// How many states an automaton begins with, and their numbers.
 #[derive(Drop)]
 pub struct Begun {
     pub count: usize,
@@ -124,43 +115,18 @@ pub struct Begun {
     pub first: usize,
 }
 
-// Enters the sets that an automaton begins with.
-pub fn begin(t: &[u64], mode: u64, sets: &mut [u64], most: usize) -> Begun
+// Enters the sets that an automaton begins with, if there is room.
+pub fn begin(t: &[u64], mode: Mode, sets: &mut [u64], most: usize) -> Option<Begun>
     requires { (length t.now ≡ table_words) × (most ≤ 96) × (length sets.old ≡ 288) }
-    ensures { Begins mode t.now sets.old most result.count result.accepted result.later
-        result.first sets.new }
+    ensures { Begins mode t.now sets.old most result sets.new }
 {
-    let a = ere_sets::enter(sets, 0, most, ere_sets::last(mode));
-    if most < a.count {
-        return Begun {
-            count: most + 1,
-            accepted: 0,
-            later: 0,
-            first: 0,
-        };
-    }
-    let l = ere_sets::enter(sets, a.count, most, ere_sets::later(t, mode));
-    if most < l.count {
-        return Begun {
-            count: most + 1,
-            accepted: 0,
-            later: 0,
-            first: 0,
-        };
-    }
-    let f = ere_sets::enter(sets, l.count, most, ere_sets::first(t, mode));
-    if most < f.count {
-        return Begun {
-            count: most + 1,
-            accepted: 0,
-            later: 0,
-            first: 0,
-        };
-    }
-    Begun {
+    let a = ere_sets::enter(sets, 0, most, ere_sets::last(mode))?;
+    let l = ere_sets::enter(sets, a.count, most, ere_sets::later(t, mode))?;
+    let f = ere_sets::enter(sets, l.count, most, ere_sets::first(t, mode))?;
+    Some(Begun {
         count: f.count,
         accepted: a.number,
         later: l.number,
         first: f.number,
-    }
+    })
 }

@@ -17,7 +17,6 @@ use Rattle.ere_meaning.specs.Tree.{Ere}
 use Rattle.ere_meaning.specs.Meaning.{Match, found, nowhere, Spans, BestFrom}
 use Rattle.ere_meaning.specs.Search.{best_from, best_of}
 use Rattle.ere_meaning.proofs.Answers.{best-from}
-use Rattle.ere_table.specs.Nexts.{stop}
 use Rattle.ere_table.specs.Table.{mem, row, join, no_place, accepts_at, begins, empty_word}
 use Rattle.ere_table.specs.Wiring.{stop_in, Tabled, Sealed}
 use Rattle.ere_table.proofs.Sets.{mem-join, mem-none}

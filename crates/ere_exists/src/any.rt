@@ -33,23 +33,22 @@ fn passed(t: &[u64], s: [u64; 3], b: u8, empty: bool) -> bool
 }
 
 // Returns the first place from `from` on whose byte may begin a match, or the text's end: an inner loop over the bytes
-// that begin none.
+// that begin none. It is a loop by itself, and not one with that of `ere_search::find_from`, which calls the walk from
+// each such place and has no place to hand back.
 fn next_start(t: &[u64], text: &[u8], from: usize, empty: bool) -> usize
     requires { (length t.now ≡ table_words) × (from ≤ length text.now) }
     ensures { result ≡ from + leading (no_start t.now empty) (drop from text.now) }
 {
-    let mut i = from;
-    while i < text.len() {
+    for i in from..text.len() {
         if ere_search::may_begin(t, text[i], empty) {
             return i;
         }
-        i += 1;
     }
-    i
+    text.len()
 }
 
 // Tells whether a match is in the text. `live` is what may come next at i after the starts before i: each byte is
-// looked at once.
+// looked at once. No `for`: i goes on to where `next_start` says.
 pub fn exists(t: &[u64], text: &[u8]) -> bool
     requires { (length t.now ≡ table_words) × (length text.now < 2 ^ 63) }
     ensures { Exists t.now text.now result }

@@ -2,6 +2,7 @@
 use mathlib.Core.Path.{◌≡◌, refl, sym, ap, ap₂, subst, ◌∙◌}
 use mathlib.Core.Bool.{Bool, true, false}
 use mathlib.Core.List.{List}
+use Rattle.std.specs.Prelude.{Option, Some, None}
 use Prim.Native.Nat.{ℕ, zero, suc, ◌+◌, ◌-◌, ◌≤◌, ◌<◌}
 use native.Mathlib.Omega.{arith}
 use native.Mathlib.Nat.{zero-add, add_assoc, lt_of_not-le, le_of_suc-le-suc}
@@ -17,8 +18,6 @@ use Rattle.ere_table.specs.Table.{row, accepts_at}
 use Rattle.ere_search.specs.Walk.{step, live_at, longest_to, longest_of, entry_row, note}
 use Rattle.ere_table.specs.Wiring.{Tabled, Sealed}
 use Rattle.ere_search.specs.Find.{Finds, Inside, match_of}
-use Rattle.ere_search.specs.declared.search.Found.{Found}
-use Rattle.ere_search.specs.declared.search.Found.TheVariants.{At, Nowhere}
 use Rattle.ere_search.proofs.Meets.{Told, told, stop-leads, leads-stop}
 
 -- ---- the walk over the rest of a text is that over the whole
@@ -62,11 +61,11 @@ module _ (t rest w : List ℕ) (at : ℕ) (hl : at ≤ length w) (hd : drop at w
 -- ---- the leftmost start
 
 -- what the search saw on its way to r
-abbrev pub Seen : List ℕ → List ℕ → ℕ → ℕ → Found → Type 0
-Seen t rest at least (At a n) =
+abbrev pub Seen : List ℕ → List ℕ → ℕ → ℕ → Option (ℕ × ℕ) → Type 0
+Seen t rest at least (Some (a, n)) =
     (s : ℕ) × (a ≡ at + s) × (s ≤ length rest) × (longest_of t rest at least s ≡ suc n)
     × ((k : ℕ) → k < s → Sealed t → longest_of t rest at least k ≡ 0)
-Seen t rest at least Nowhere = (k : ℕ) → k < length rest + 1 → Sealed t → longest_of t rest at least k ≡ 0
+Seen t rest at least None = (k : ℕ) → k < length rest + 1 → Sealed t → longest_of t rest at least k ≡ 0
 
 of-longest : (t rest : List ℕ) (at least s o : ℕ) → longest_of t rest at least s ≡ o → Told t rest at least s (suc (length rest - s)) o
 of-longest t rest at least s o q = subst (Told t rest at least s (suc (length rest - s))) q (told t rest at least s (suc (length rest - s)))
@@ -91,15 +90,15 @@ module _ (t w : List ℕ) (e : Ere ℕ) (T : Tabled t e) (least : ℕ) where
       )
 
 module _ (t rest : List ℕ) (at least : ℕ) where
-  inside : (r : Found) → Seen t rest at least r → Inside at least (length rest) r
-  inside (At a n) f =
+  inside : (r : Option (ℕ × ℕ)) → Seen t rest at least r → Inside at least (length rest) r
+  inside (Some (a, n)) f =
       let o = of-longest t rest at least f.0 (suc n) f.3 in
       (omega (arith, f.1), omega (arith, f.1, f.2, o.0), o.1)
-  inside Nowhere f = tt
+  inside None f = tt
 
-  best : (r : Found) → Seen t rest at least r → (e : Ere ℕ) (w : List ℕ) → Tabled t e → at ≤ length w → drop at w ≡ rest
+  best : (r : Option (ℕ × ℕ)) → Seen t rest at least r → (e : Ere ℕ) (w : List ℕ) → Tabled t e → at ≤ length w → drop at w ≡ rest
       → BestFrom (accepts_at t) w e at least (match_of r)
-  best (At a n) f e w T hl hd =
+  best (Some (a, n)) f e w T hl hd =
       let k = whole t rest w at hl hd in
       let q : longest_of t w 0 least a ≡ suc n = rw f.1 (sym (of-whole t rest w at hl hd least f.0) ∙ f.3) in
       let o = longest t w e T least a n (omega (arith, f.1, f.2)) q in
@@ -110,16 +109,16 @@ module _ (t rest : List ℕ) (at least : ℕ) where
           let z : at + (x - at) ≡ x = omega arith in
           never t w e T least x j
           (rw z at (sym (of-whole t rest w at hl hd least (x - at)) ∙ f.4 (x - at) (omega (arith, f.1)) T.shut)) i h
-  best Nowhere f e w T hl hd = λ x j g i h.
+  best None f e w T hl hd = λ x j g i h.
       let k = whole t rest w at hl hd in
       let z : at + (x - at) ≡ x = omega arith in
       never t w e T least x j
       (rw z at (sym (of-whole t rest w at hl hd least (x - at)) ∙ f (x - at) (omega (arith, h.0, (leads-stop t w e T x j h.1).1)) T.shut)) i h
 
-  pub finds : (r : Found) → Seen t rest at least r → Finds t rest at least r
+  pub finds : (r : Option (ℕ × ℕ)) → Seen t rest at least r → Finds t rest at least r
   finds r f = record { inside = inside r f; best = best r f }
 
 -- so the code's answer is what the definition computes
-pub answer : (t rest : List ℕ) (at least : ℕ) (r : Found) → Finds t rest at least r → (e : Ere ℕ) (w : List ℕ) → Tabled t e → at ≤ length w → drop at w ≡ rest
+pub answer : (t rest : List ℕ) (at least : ℕ) (r : Option (ℕ × ℕ)) → Finds t rest at least r → (e : Ere ℕ) (w : List ℕ) → Tabled t e → at ≤ length w → drop at w ≡ rest
     → match_of r ≡ best_from (accepts_at t) w e at least
 answer t rest at least r f e w T hl hd = sym (best-is (accepts_at t) w e at least (match_of r) (f.best e w T hl hd))

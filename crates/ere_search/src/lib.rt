@@ -6,5 +6,5 @@
 mod search;
 mod words;
 
-pub use search::{Found, dead, find_from, may_be_empty, may_begin, stops};
+pub use search::{dead, find_from, may_be_empty, may_begin, stops};
 pub use words::{step, with_row};

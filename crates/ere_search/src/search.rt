@@ -15,13 +15,6 @@ ghost use Rattle.ere_search.specs.Find.{Finds};
 use crate::words;
 use ere_table::{BEGIN, EMPTY, PLACES};
 
-// Where the leftmost match starts in the whole text, and how long it is.
-#[derive(Drop)]
-pub enum Found {
-    At(usize, usize),
-    Nowhere,
-}
-
 // Tells whether a walk may stop at the set: at the text's end, or before it.
 pub fn stops(s: [u64; 3], at_end: bool) -> bool
     ensures { result ≡ stop_in s at_end }
@@ -51,8 +44,8 @@ fn entry(t: &[u64], s: usize) -> [u64; 3]
 }
 
 // Returns n + 1 where a walk may stop at the set and n bytes are enough, else `best`. The longest match is kept as a
-// number, its length and 1, and 0 for none: an enum, with its unused bytes, was copied through memory at each step, in
-// pieces that the processor had to wait for.
+// number, its length and 1, and 0 for none, and not as an Option: an enum, with its unused bytes, was copied through
+// memory at each step, in pieces that the processor had to wait for.
 fn longest(best: usize, live: [u64; 3], at_end: bool, least: usize, n: usize) -> usize
     requires { n < 2 ^ 63 }
     ensures { result ≡ note best live at_end least n }
@@ -72,18 +65,15 @@ fn longest_from(t: &[u64], rest: &[u8], at: usize, least: usize, s: usize) -> us
 {
     let mut live = entry(t, at + s);
     let mut best: usize = 0;
-    let mut n: usize = 0;
-    while s + n < rest.len() {
-        let b = longest(best, live, false, least, n);
-        best = b;
+    for n in 0..rest.len() - s {
+        best = longest(best, live, false, least, n);
         if dead(live) {
             return best;
         }
         let next = words::step(t, live, rest[s + n]);
         live = next;
-        n += 1;
     }
-    longest(best, live, true, least, n)
+    longest(best, live, true, least, rest.len() - s)
 }
 
 // Tells whether a match of at least `least` bytes may be empty.
@@ -108,26 +98,24 @@ pub fn may_begin(t: &[u64], b: u8, empty: bool) -> bool
     (t[BEGIN + (b / 64) as usize] >> (b % 64)) % 2 == 1
 }
 
-// Finds the leftmost match of at least `least` bytes, and the longest there. `rest` is the whole text from place `at`
-// on.
-pub fn find_from(t: &[u64], rest: &[u8], at: usize, least: usize) -> Found
+// Finds the leftmost match of at least `least` bytes, and the longest there: where it starts in the whole text, and how
+// long it is. `rest` is the whole text from place `at` on.
+pub fn find_from(t: &[u64], rest: &[u8], at: usize, least: usize) -> Option<(usize, usize)>
     requires { (length t.now ≡ table_words) × (at + length rest.now < 2 ^ 63) }
     ensures { Finds t.now rest.now at least result }
 {
     let empty = may_be_empty(t, least);
-    let mut s: usize = 0;
-    while s < rest.len() {
-        if may_begin(t, rest[s], empty) {
+    for (s, b) in rest.iter().enumerate() {
+        if may_begin(t, *b, empty) {
             let n = longest_from(t, rest, at, least, s);
             if n > 0 {
-                return Found::At(at + s, n - 1);
+                return Some((at + s, n - 1));
             }
         }
-        s += 1;
     }
-    let n = longest_from(t, rest, at, least, s);
+    let n = longest_from(t, rest, at, least, rest.len());
     if n > 0 {
-        return Found::At(at + s, n - 1);
+        return Some((at + rest.len(), n - 1));
     }
-    Found::Nowhere
+    None
 }

@@ -33,7 +33,8 @@ pub fn put(t: &[u64], out: [u64; 3], b: u8, p: usize) -> [u64; 3]
 }
 
 // Adds to a set what may come after the places of word w of another, which is x, by its set bits, the lowest first. A
-// bit is taken off where it is: shifting the rest down would make each turn wait longer for the one before it.
+// bit is taken off where it is: shifting the rest down would make each turn wait longer for the one before it. No `for`:
+// there are as many turns as set bits.
 pub fn step_word(t: &[u64], b: u8, start: [u64; 3], w: usize, x: u64) -> [u64; 3]
     requires { (length t.now ≡ table_words) × (w < 2) }
     ensures { result ≡ step_word t.now b x w start 64 }

@@ -3,6 +3,7 @@ use mathlib.Core.Path.{◌≡◌, refl, sym, ap, ap₂, subst, ◌∙◌}
 use mathlib.Core.Bool.{Bool, true, false, cond}
 use mathlib.Core.Logic.{◌⊎◌, inl, inr, ⊎_elim}
 use mathlib.Core.List.{List}
+use Rattle.std.specs.Prelude.{Option, Some, None}
 use Prim.Native.Nat.{ℕ, zero, suc, ◌+◌, ◌-◌, ◌≤◌, ◌<◌}
 use native.Mathlib.Nat.{add-zero, le_refl}
 use native.Mathlib.Decide.{dec_lt}
@@ -16,8 +17,6 @@ use Rattle.ere_table.specs.Table.{row, no_place}
 use Rattle.ere_table.specs.Wiring.{stop_in}
 use Rattle.ere_search.specs.Walk.{live_at, longest_to, longest_of, entry_row}
 use Rattle.ere_search.specs.Find.{Inside, Finds}
-use Rattle.ere_search.specs.declared.search.Found.{Found}
-use Rattle.ere_search.specs.declared.search.Found.TheVariants.{At, Nowhere}
 use Rattle.ere_search.proofs.Meets.{Told, told}
 use Rattle.ere_search.proofs.Answers.{Seen, finds}
 use Rattle.ere_automaton.specs.Layout.{later_state, accepted_state}
@@ -65,7 +64,7 @@ module _ (t d x : List ℕ) (at s : ℕ) (first : Bool) (D : FollowsOne t d) (f 
 pub found_from : (d x : List ℕ) (at from s until e : ℕ) → s ≤ length x → s < e
     → Longest d x s (eqb (at + s) 0) until e
     → ((t : List ℕ) → FollowsOne t d → Hulled t d → Bares t x at 0 from → Bares t x at 0 s)
-    → SoughtFrom d x at from (At (at + s) (e - s))
+    → SoughtFrom d x at from (Some (at + s, e - s))
 found_from d x at from s until e h l L B =
     record {
       inside = (omega arith, omega (arith, L.inside), omega arith);
@@ -75,7 +74,7 @@ found_from d x at from s until e h l L B =
 
 pub none_from : (d x : List ℕ) (at from s : ℕ) → length x ≤ s
     → ((t : List ℕ) → FollowsOne t d → Hulled t d → Bares t x at 0 from → Bares t x at 0 s)
-    → SoughtFrom d x at from Nowhere
+    → SoughtFrom d x at from None
 none_from d x at from s h B =
     record {
       inside = tt;
@@ -103,7 +102,7 @@ bares-first t d x at s D H C =
     let z : at ≡ at + 0 = omega arith in C.none t at D H (ap (λ (j : ℕ). eqb j 0) z)
 
 module _ (d p x : List ℕ) (at s : ℕ) (C : Candidate d x 0 (eqb at 0) s) where
-  pub both-none : length x ≤ s → SoughtBoth d p x at Nowhere
+  pub both-none : length x ≤ s → SoughtBoth d p x at None
   both-none h =
       record {
         inside = tt;
@@ -113,7 +112,7 @@ module _ (d p x : List ℕ) (at s : ℕ) (C : Candidate d x 0 (eqb at 0) s) wher
       }
 
   pub both_some : (until e : ℕ) → s ≤ length x → s < e → Longest d x s (eqb (at + s) 0) until e
-      → SoughtBoth d p x at (At (at + s) (e - s))
+      → SoughtBoth d p x at (Some (at + s, e - s))
   both_some until e h l L =
       let F = found_from d x at 0 s until e h l L (λ u D H b. bares-first u d x at s D H C) in
       record {
@@ -124,7 +123,7 @@ module _ (d p x : List ℕ) (at s : ℕ) (C : Candidate d x 0 (eqb at 0) s) wher
   -- none from the first candidate, and none starts elsewhere than at the text's start
   pub both-only : (far until e : ℕ) → eqb (later_state d) (accepted_state d) ≡ true
       → until ≡ cond (eqb (later_state d) (accepted_state d)) (length x) far → e ≤ s
-      → Longest d x s (eqb (at + s) 0) until e → SoughtBoth d p x at Nowhere
+      → Longest d x s (eqb (at + s) 0) until e → SoughtBoth d p x at None
   both-only far until e z u l L =
       record {
         inside = tt;
@@ -144,7 +143,7 @@ module _ (d p x : List ℕ) (at s : ℕ) (C : Candidate d x 0 (eqb at 0) s) wher
       }
 
   -- from where nothing is pending
-  pub both-from : (f : ℕ) (r : Found) → Cleared p x s (eqb (at + s) 0) f → SoughtFrom d x at f r
+  pub both-from : (f : ℕ) (r : Option (ℕ × ℕ)) → Cleared p x s (eqb (at + s) 0) f → SoughtFrom d x at f r
       → SoughtBoth d p x at r
   both-from f r P F =
       record {
@@ -239,7 +238,7 @@ module _ (t d p x : List ℕ) (at : ℕ) (B : Both t d p) where
 
   -- an empty match where the search starts, or a longer one there
   pub seen_first : (e : ℕ) → empty_at d (eqb at 0) (eqb (length x) 0) ≡ true → e ≡ end_of t x at 0
-      → Seen t x at 0 (At at e)
+      → Seen t x at 0 (Some (at, e))
   seen_first e h z =
       (0, omega arith, omega arith, by (longest_of t x at 1 0) refl, λ k l. absurd (omega arith))
     where
@@ -262,11 +261,11 @@ module _ (t d p x : List ℕ) (at : ℕ) (B : Both t d p) where
     none-all s l b k m = empty-only t x at k false (b k (omega arith) m) (none_before h k (omega arith))
 
     -- one of at least a byte
-    pub seen-some : (a n : ℕ) → Sought t x at (At a n) → Seen t x at 0 (At a n)
+    pub seen-some : (a n : ℕ) → Sought t x at (Some (a, n)) → Seen t x at 0 (Some (a, n))
     seen-some a n S =
         (S.0, S.1, S.2, empty-some t x at S.0 n S.3, λ k l e. none-all S.0 S.2 S.4 k l)
 
-    module _ (S : Sought t x at Nowhere) where
+    module _ (S : Sought t x at None) where
       last-is : empty_here t x at (length x) ≡ empty_at d (eqb (at + length x) 0) true
       last-is =
           ap (stop_in (row t (entry_row (at + length x)))) (eq-eqb (length x) (length x) refl)
@@ -275,7 +274,7 @@ module _ (t d p x : List ℕ) (at : ℕ) (B : Both t d p) where
       last-bare : Bare t x at (length x)
       last-bare = S (length x) (omega arith) (omega arith)
 
-      pub seen_last : empty_at d (eqb (at + length x) 0) true ≡ true → Seen t x at 0 (At (at + length x) 0)
+      pub seen_last : empty_at d (eqb (at + length x) 0) true ≡ true → Seen t x at 0 (Some (at + length x, 0))
       seen_last e = (
         length x,
         refl,
@@ -284,7 +283,7 @@ module _ (t d p x : List ℕ) (at : ℕ) (B : Both t d p) where
         λ k l z. none-all (length x) (le_refl (length x)) (λ j a b. S j a (omega arith)) k l,
       )
 
-      pub seen_none : empty_at d (eqb (at + length x) 0) true ≡ false → Seen t x at 0 Nowhere
+      pub seen_none : empty_at d (eqb (at + length x) 0) true ≡ false → Seen t x at 0 None
       seen_none e k l z = elim (dec_lt k (length x)) [
         | yes y ↦ none-all (length x) (le_refl (length x)) (λ j a b. S j a (omega arith)) k y
         | no y ↦
@@ -295,9 +294,9 @@ module _ (t d p x : List ℕ) (at : ℕ) (B : Both t d p) where
 
 -- ---- of at least a byte
 
-pub seen_one : (t x : List ℕ) (at : ℕ) (r : Found) → Sought t x at r → Seen t x at 1 r
-seen_one t x at (At a n) S = (S.0, S.1, S.2, S.3, λ k l z. S.4 k (omega arith) l)
-seen_one t x at Nowhere S = λ k l z. S k (omega arith) l
+pub seen_one : (t x : List ℕ) (at : ℕ) (r : Option (ℕ × ℕ)) → Sought t x at r → Seen t x at 1 r
+seen_one t x at (Some (a, n)) S = (S.0, S.1, S.2, S.3, λ k l z. S.4 k (omega arith) l)
+seen_one t x at None S = λ k l z. S k (omega arith) l
 
 -- ---- of at least `least` bytes
 
@@ -305,74 +304,74 @@ seen_one t x at Nowhere S = λ k l z. S k (omega arith) l
 abbrev pub Missing : List ℕ → List ℕ → ℕ → ℕ → Type 0
 Missing d x at least = ((least ≡ 0) × (empty_at d (eqb at 0) (eqb (length x) 0) ≡ false)) ⊎ (least ≡ 1)
 
-inside-least : (at least len a n : ℕ) → least ≤ 1 → Inside at 1 len (At a n) → Inside at least len (At a n)
+inside-least : (at least len a n : ℕ) → least ≤ 1 → Inside at 1 len (Some (a, n)) → Inside at least len (Some (a, n))
 inside-least at least len a n h i = (i.0, i.1, omega (arith, i.2))
 
 module _ (d p x : List ℕ) (at least : ℕ) where
   pub finds-first : (e : ℕ) → least ≡ 0 → empty_at d (eqb at 0) (eqb (length x) 0) ≡ true
-      → Longest d x 0 (eqb at 0) (length x) e → FindsBoth d p x at least (At at e)
+      → Longest d x 0 (eqb at 0) (length x) e → FindsBoth d p x at least (Some (at, e))
   finds-first e z h L =
       record {
         inside = (le_refl at, omega (arith, L.inside), omega arith);
         finds = λ t B.
             let f : eqb at 0 ≡ eqb (at + 0) 0 = ap (λ (j : ℕ). eqb j 0) (sym (add-zero at)) in
             let end = longest-end t d x at 0 (eqb at 0) B.one f (length x) e L (le_refl (length x)) in
-            subst (λ (l : ℕ). Finds t x at l (At at e)) (sym z)
-            (finds t x at 0 (At at e) (seen_first t d p x at B e h end));
+            subst (λ (l : ℕ). Finds t x at l (Some (at, e))) (sym z)
+            (finds t x at 0 (Some (at, e)) (seen_first t d p x at B e h end));
       }
 
-  pub finds-some : (f : Found) (a n : ℕ) → f ≡ At a n → Missing d x at least → SoughtBoth d p x at f
-      → FindsBoth d p x at least (At a n)
+  pub finds-some : (f : Option (ℕ × ℕ)) (a n : ℕ) → f ≡ Some (a, n) → Missing d x at least → SoughtBoth d p x at f
+      → FindsBoth d p x at least (Some (a, n))
   finds-some f a n e M S = by (subst (SoughtBoth d p x at) e S) M
     where
-      by : SoughtBoth d p x at (At a n) → Missing d x at least → FindsBoth d p x at least (At a n)
+      by : SoughtBoth d p x at (Some (a, n)) → Missing d x at least → FindsBoth d p x at least (Some (a, n))
       by S (inl m) =
           record {
             inside = inside-least at least (length x) a n (omega (arith, m.0)) S.inside;
             finds = λ t B.
-                subst (λ (l : ℕ). Finds t x at l (At a n)) (sym m.0)
-                (finds t x at 0 (At a n) (seen-some t d p x at B m.1 a n (S.sought t B)));
+                subst (λ (l : ℕ). Finds t x at l (Some (a, n))) (sym m.0)
+                (finds t x at 0 (Some (a, n)) (seen-some t d p x at B m.1 a n (S.sought t B)));
           }
       by S (inr m) =
           record {
             inside = inside-least at least (length x) a n (omega arith) S.inside;
             finds = λ t B.
-                subst (λ (l : ℕ). Finds t x at l (At a n)) (sym m)
-                (finds t x at 1 (At a n) (seen_one t x at (At a n) (S.sought t B)));
+                subst (λ (l : ℕ). Finds t x at l (Some (a, n))) (sym m)
+                (finds t x at 1 (Some (a, n)) (seen_one t x at (Some (a, n)) (S.sought t B)));
           }
 
   -- the empty match at the text's end
-  pub finds-last : (f : Found) → f ≡ Nowhere → least ≡ 0 → Missing d x at least
+  pub finds-last : (f : Option (ℕ × ℕ)) → f ≡ None → least ≡ 0 → Missing d x at least
       → empty_at d (eqb (at + length x) 0) true ≡ true → SoughtBoth d p x at f
-      → FindsBoth d p x at least (At (at + length x) 0)
+      → FindsBoth d p x at least (Some (at + length x, 0))
   finds-last f e z (inl m) h S =
       record {
         inside = (omega arith, omega arith, omega arith);
         finds = λ t B.
-            subst (λ (l : ℕ). Finds t x at l (At (at + length x) 0)) (sym z)
-            (finds t x at 0 (At (at + length x) 0)
+            subst (λ (l : ℕ). Finds t x at l (Some (at + length x, 0))) (sym z)
+            (finds t x at 0 (Some (at + length x, 0))
             (seen_last t d p x at B m.1 (subst (Sought t x at) e (S.sought t B)) h));
       }
   finds-last f e z (inr m) h S = absurd (omega arith)
 
   -- none
-  pub finds-none : (f : Found) → f ≡ Nowhere → Missing d x at least
+  pub finds-none : (f : Option (ℕ × ℕ)) → f ≡ None → Missing d x at least
       → (least ≡ 0 → empty_at d (eqb (at + length x) 0) true ≡ false) → SoughtBoth d p x at f
-      → FindsBoth d p x at least Nowhere
+      → FindsBoth d p x at least None
   finds-none f e (inl m) h S =
       record {
         inside = tt;
         finds = λ t B.
-            subst (λ (l : ℕ). Finds t x at l Nowhere) (sym m.0)
-            (finds t x at 0 Nowhere
+            subst (λ (l : ℕ). Finds t x at l None) (sym m.0)
+            (finds t x at 0 None
             (seen_none t d p x at B m.1 (subst (Sought t x at) e (S.sought t B)) (h m.0)));
       }
   finds-none f e (inr m) h S =
       record {
         inside = tt;
         finds = λ t B.
-            subst (λ (l : ℕ). Finds t x at l Nowhere) (sym m)
-            (finds t x at 1 Nowhere (seen_one t x at Nowhere (subst (Sought t x at) e (S.sought t B))));
+            subst (λ (l : ℕ). Finds t x at l None) (sym m)
+            (finds t x at 1 None (seen_one t x at None (subst (Sought t x at) e (S.sought t B))));
       }
 
 -- ---- both, of one list of words

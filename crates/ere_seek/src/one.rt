@@ -8,7 +8,8 @@ ghost use Rattle.ere_seek.specs.One.{stepped, stepped_twice, Begun, Paired, Foll
 use crate::states;
 use ere_automaton::{ACCEPTED, CLASS_COUNT, PAIRS};
 
-// How far a start is followed: the state there, the place, and the end of the longest match so far.
+// How far a start is followed: the state there, the place, and the end of the longest match so far. The loops below go
+// by the place in it, and not by a `for`, since their promises (`Paired`, `Followed`) are of all three together.
 #[derive(Drop)]
 struct Reached {
     state: usize,

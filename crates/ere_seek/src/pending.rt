@@ -7,7 +7,9 @@ ghost use Rattle.ere_seek.specs.Pending.{RanBy, Block, Part, Cleared};
 use crate::states;
 use ere_automaton::{ACCEPTED, BLOCK, CLASS_COUNT, LATER, PAIRS, SKIPS};
 
-// A state, and the last place where nothing was pending.
+// A state, and the last place where nothing was pending. What goes on with it here and what goes on with a state alone
+// in `ere_automaton` are functions of their own: `RanBy` tells of both parts, and a search that asks only whether there
+// is a match keeps no place.
 #[derive(Drop)]
 struct Fresh {
     state: usize,
@@ -21,11 +23,9 @@ fn pairs_seen(d: &[u16], k: usize, x: &[u8], i: usize, from: Fresh, later: usize
 {
     let mut s = from.state;
     let mut f = from.seen;
-    let mut j: usize = 0;
-    while j < BLOCK {
-        f = states::either(s == later, i + j, f);
-        s = ere_automaton::pair(d, k, s, x[i + j], x[i + j + 1]);
-        j += 2;
+    for j in 0..BLOCK / 2 {
+        f = states::either(s == later, i + 2 * j, f);
+        s = ere_automaton::pair(d, k, s, x[i + 2 * j], x[i + 2 * j + 1]);
     }
     Fresh { state: s, seen: f }
 }
@@ -37,11 +37,9 @@ fn bytes_seen(d: &[u16], x: &[u8], start: usize, end: usize, from: Fresh, later:
 {
     let mut s = from.state;
     let mut f = from.seen;
-    let mut i = start;
-    while i < end {
+    for i in start..end {
         f = states::either(s == later, i, f);
         s = states::next(d, s, x[i]);
-        i += 1;
     }
     Fresh { state: s, seen: f }
 }
@@ -66,6 +64,7 @@ fn block_seen(
 }
 
 // Returns a place before which no nonempty match starts from s on, or one more than the length if there is none at all.
+// No `for`: i goes on to where `next_block` says.
 pub fn first_start(d: &[u16], x: &[u8], s: usize, first: bool) -> usize
     requires { (Ranged d.now) × (length x.now < 2 ^ 63) × (s ≤ length x.now) }
     ensures { Cleared d.now x.now s first result }

@@ -19,14 +19,12 @@ fn beginning(d: &[u16], x: &[u8], from: usize) -> usize
     requires { (Ranged d.now) × (from ≤ length x.now) }
     ensures { Passed d.now x.now from result }
 {
-    let mut i = from;
-    while i < x.len() {
+    for i in from..x.len() {
         if begins(d, x[i]) {
             return i;
         }
-        i += 1;
     }
-    i
+    x.len()
 }
 
 // Returns the first place from `from` on where a match may start, but the text's start if it differs.

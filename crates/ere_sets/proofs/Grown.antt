@@ -1,25 +1,14 @@
 -- Laws of the sets that the states stand for.
 use mathlib.Core.Path.{◌≡◌, refl, sym, subst, ◌∙◌}
-use mathlib.Core.Bool.{true, ◌&&◌}
 use mathlib.Core.List.{List}
 use Prim.Native.Nat.{ℕ, ◌+◌, ◌*◌, ◌≤◌}
 use native.Mathlib.Omega.{arith}
 use lib.ListN.{length, get_or, set, length-set}
 use lib.Seq.{get_or-set_same, get_or-set_other}
-use lib.Dec.{eqb}
-use borrow.Author.Tests.{eqb-true}
-use Rattle.lists.proofs.Tests.{and-true}
-use Rattle.ere_table.specs.Table.{row}
+use Rattle.ere_sets.specs.declared.sets.Mode.{Mode}
 use Rattle.ere_sets.specs.Growth.{Fair, Grows, Has, Put, Leads}
 use Rattle.ere_classes.proofs.Columns.{up_to}
 use Rattle.ere_classes.proofs.Framed.{three, spelled}
-
-pub row_is : (a : List ℕ) (i : ℕ) (s : List ℕ) → length s ≡ 3
-    → (eqb (get_or a (3 * i) 0) (get_or s 0 0) && (eqb (get_or a (3 * i + 1) 0) (get_or s 1 0) && eqb (get_or a (3 * i + 2) 0) (get_or s 2 0))) ≡ true → row a i ≡ s
-row_is a i s l h =
-    let x = and-true _ _ h in
-    let y = and-true _ _ x.1 in
-    three _ _ _ _ _ _ (eqb-true _ _ x.0) (eqb-true _ _ y.0) (eqb-true _ _ y.1) ∙ spelled s l
 
 pub put_is : (a : List ℕ) (i : ℕ) (s : List ℕ) → 3 * i + 3 ≤ length a → length s ≡ 3
     → Put a i s (set (set (set a (3 * i) (get_or s 0 0)) (3 * i + 1) (get_or s 1 0)) (3 * i + 2) (get_or s 2 0))
@@ -74,5 +63,5 @@ grows-put {n = n} p f = record {
 pub has_on : {a b : List ℕ} {n m i : ℕ} {s : List ℕ} → Has a n i s → Grows a n b m → Has b m i s
 has_on {i = i} h g = record { low = omega (arith, h.low, g.more); is = g.kept i h.low ∙ h.is }
 
-pub leads-on : {mode : ℕ} {t a c : List ℕ} {n m stride : ℕ} {s : List ℕ} {b q : ℕ} → Leads mode t a n stride s b q → Grows a n c m → Leads mode t c m stride s b q
+pub leads-on : {mode : Mode} {t a c : List ℕ} {n m stride : ℕ} {s : List ℕ} {b q : ℕ} → Leads mode t a n stride s b q → Grows a n c m → Leads mode t c m stride s b q
 leads-on l g = record { number = l.number; is = l.is; has = has_on l.has g }

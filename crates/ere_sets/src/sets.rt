@@ -1,5 +1,5 @@
 // The sets of places that the states stand for.
-ghost use Rattle.std.specs.Prelude.{◌≡◌, true, ℕ, ◌+◌, ◌*◌, ◌≤◌, ◌<◌, length};
+ghost use Rattle.std.specs.Prelude.{◌≡◌, true, ℕ, ◌+◌, ◌*◌, ◌≤◌, ◌<◌, length, IfSome};
 ghost use Rattle.ere_table.specs.Table.{table_words, row};
 ghost use Rattle.ere_automaton.specs.Sets.{collapsed as collapsedOf, after as after_of};
 ghost use Rattle.ere_automaton.specs.Follows.{pending_after};
@@ -9,11 +9,12 @@ ghost use Rattle.ere_sets.specs.Growth.{state_count, set_words, Fair, Put, Enter
 use ere_table::PLACES;
 
 // What the states of an automaton stand for: all starts, one at each place; one start; the starts before a place.
-pub const ALL: u64 = 0;
-
-pub const ONE: u64 = 1;
-
-pub const PENDING: u64 = 2;
+#[derive(Clone, Copy, PartialEq, Eq)]
+pub enum Mode {
+    All,
+    One,
+    Pending,
+}
 
 // Returns the set u; but a set in which a match has ended is the same whatever else is in it.
 fn collapsed(u: [u64; 3]) -> [u64; 3]
@@ -51,57 +52,52 @@ fn pending_after(t: &[u64], s: [u64; 3], b: u8) -> [u64; 3]
 }
 
 // Returns what may come next after the byte b, by the mode.
-pub fn change(t: &[u64], mode: u64, s: [u64; 3], b: u8) -> [u64; 3]
+pub fn change(t: &[u64], mode: Mode, s: [u64; 3], b: u8) -> [u64; 3]
     requires { length t.now ≡ table_words }
     ensures { result ≡ change_by mode t.now s b }
 {
-    if mode == ALL {
-        return after(t, s, b);
+    match mode {
+        Mode::All => after(t, s, b),
+        Mode::One => ere_search::step(t, s, b),
+        Mode::Pending => pending_after(t, s, b),
     }
-    if mode == ONE {
-        return ere_search::step(t, s, b);
-    }
-    pending_after(t, s, b)
 }
 
 // Returns the set at the text's start.
-pub fn first(t: &[u64], mode: u64) -> [u64; 3]
+pub fn first(t: &[u64], mode: Mode) -> [u64; 3]
     requires { length t.now ≡ table_words }
     ensures { result ≡ first_by mode t.now }
 {
     let s = ere_classes::set_at(t, 0);
-    if mode == ALL {
-        return collapsed(s);
+    match mode {
+        Mode::All => collapsed(s),
+        Mode::One => s,
+        Mode::Pending => [s[0], s[1], 0],
     }
-    if mode == ONE {
-        return s;
-    }
-    [s[0], s[1], 0]
 }
 
 // Returns the set elsewhere, where nothing is pending.
-pub fn later(t: &[u64], mode: u64) -> [u64; 3]
+pub fn later(t: &[u64], mode: Mode) -> [u64; 3]
     requires { length t.now ≡ table_words }
     ensures { result ≡ later_by mode t.now }
 {
     let s = ere_classes::set_at(t, 1);
-    if mode == ALL {
-        return collapsed(s);
+    match mode {
+        Mode::All => collapsed(s),
+        Mode::One => s,
+        Mode::Pending => ere_table::NOTHING,
     }
-    if mode == ONE {
-        return s;
-    }
-    ere_table::NOTHING
 }
 
 // Returns the set that no byte changes.
-pub fn last(mode: u64) -> [u64; 3]
+pub fn last(mode: Mode) -> [u64; 3]
     ensures { result ≡ last_by mode }
 {
-    if mode == ONE {
-        return ere_table::NOTHING;
+    match mode {
+        Mode::All => ere_table::ACCEPT,
+        Mode::One => ere_table::NOTHING,
+        Mode::Pending => ere_table::ACCEPT,
     }
-    ere_table::ACCEPT
 }
 
 // Tells whether a match that may end before the text's end may end at it.
@@ -114,27 +110,17 @@ fn is_fair(s: [u64; 3]) -> bool
     true
 }
 
-// Tells whether set i of some is s.
-fn is_at(sets: &[u64], i: usize, s: [u64; 3]) -> bool
-    requires { 3 * i + 3 ≤ length sets.now }
-    ensures { result ≡ true → row sets.now i ≡ s }
-{
-    (sets[3 * i] == s[0]) & ((sets[3 * i + 1] == s[1]) & (sets[3 * i + 2] == s[2]))
-}
-
-// Returns the number of the first of n sets that is s, or n.
-fn find(sets: &[u64], n: usize, s: [u64; 3]) -> usize
+// Returns the number of the first of n sets that is s.
+fn find(sets: &[u64], n: usize, s: [u64; 3]) -> Option<usize>
     requires { 3 * n ≤ length sets.now }
-    ensures { (result ≤ n) × (result < n → row sets.now result ≡ s) }
+    ensures { IfSome result (λ i. (i < n) × (row sets.now i ≡ s)) }
 {
-    let mut i: usize = 0;
-    while i < n {
-        if is_at(sets, i, s) {
-            return i;
+    for i in 0..n {
+        if ere_classes::set_at(sets, i) == s {
+            return Some(i);
         }
-        i += 1;
     }
-    i
+    None
 }
 
 // Stores s as set i.
@@ -145,33 +131,27 @@ fn put(sets: &mut [u64], i: usize, s: [u64; 3])
     ere_table::put_three(sets, 3 * i, s);
 }
 
-// Sets, how many, or more than there is room for; and the number of the one that was sought.
+// How many sets there are, and the number of the one that was sought.
 #[derive(Drop)]
 pub struct Entered {
     pub count: usize,
     pub number: usize,
 }
 
-// Enters a set, if it is new; most is how many there is room for.
-pub fn enter(sets: &mut [u64], count: usize, most: usize, s: [u64; 3]) -> Entered
+// Enters a set, if it is new and there is room for it; most is how many there is room for.
+pub fn enter(sets: &mut [u64], count: usize, most: usize, s: [u64; 3]) -> Option<Entered>
     requires { (count ≤ most) × (most ≤ state_count) × (length sets.old ≡ set_words) }
-    ensures { Enters sets.old count most s result.count result.number sets.new }
+    ensures { Enters sets.old count most s result sets.new }
 {
-    let i = find(sets, count, s);
-    if i < count {
-        return Entered { count, number: i };
+    if let Some(number) = find(sets, count, s) {
+        return Some(Entered { count, number });
     }
-    if count < most {
-        if is_fair(s) {
-            put(sets, count, s);
-            return Entered {
-                count: count + 1,
-                number: count,
-            };
-        }
+    if (count == most) | !is_fair(s) {
+        return None;
     }
-    Entered {
-        count: most + 1,
-        number: 0,
-    }
+    put(sets, count, s);
+    Some(Entered {
+        count: count + 1,
+        number: count,
+    })
 }

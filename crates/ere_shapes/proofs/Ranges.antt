@@ -6,7 +6,7 @@ use mathlib.Core.List.{List}
 use Prim.Native.Nat.{ℕ, ◌+◌, ◌-◌, ◌*◌, ◌/◌, ◌%◌, ◌^◌, ◌≤◌, ◌<◌}
 use native.Mathlib.Omega.{arith}
 use native.Mathlib.Decide.{dec_lt}
-use lib.ListN.{length, get_or}
+use lib.ListN.{get_or}
 use lib.Bits.{bit_or}
 use lib.Dec.{eqb}
 use borrow.Author.Tests.{eqb-true, eq-eqb, leb-true, leb-false, le-leb}
@@ -18,14 +18,8 @@ use Rattle.ere_table.specs.Wiring.{stop_in}
 use Rattle.ere_search.specs.Walk.{step}
 use Rattle.ere_automaton.specs.Layout.{class_in}
 use Rattle.ere_classes.specs.Column.{Classified}
-use Rattle.ere_classes.specs.Bounds.{Led}
-use Rattle.ere_classes.proofs.Framed.{spelled, three}
+use Rattle.ere_classes.specs.Bounds.{Led, NoneIn}
 use Rattle.ere_shapes.specs.Leads.{Ended, among, Leads}
-
--- sets of the same words
-pub same-sets : (a b : List ℕ) → length a ≡ 3 → length b ≡ 3 → get_or a 0 0 ≡ get_or b 0 0 → get_or a 1 0 ≡ get_or b 1 0
-    → get_or a 2 0 ≡ get_or b 2 0 → a ≡ b
-same-sets a b l m e f g = sym (spelled a l) ∙ three _ _ _ _ _ _ e f g ∙ spelled b m
 
 -- a class more
 pub class-more : (out c e : ℕ) → c < 64 → bit (bit_or out (1 * 2 ^ c % 2 ^ 64)) e ≡ true → (bit out e ≡ true) ⊎ (e ≡ c)
@@ -40,24 +34,24 @@ both_bits s e f false = e
 
 -- ---- a range, as it is stored
 
--- the bytes from `low` up to `high`
+-- the bytes from `low` up to `high`, and `high`
 abbrev pub range_of : ℕ → ℕ → ℕ
-range_of low high = low + 256 * (high - low - 1)
+range_of low high = low + 256 * (high - low)
 
-module _ (low high : ℕ) (some : low < high) (few : high ≤ 256) (b : ℕ) (byte : b < 256) where
-  range-in : among (range_of low high) b ≡ true → (low ≤ b) × (b < high)
+module _ (low high : ℕ) (some : low ≤ high) (few : high < 256) (b : ℕ) (byte : b < 256) where
+  range-in : among (range_of low high) b ≡ true → (low ≤ b) × (b ≤ high)
   range-in e =
       let r = range_of low high in
       let l : r % 256 ≡ low = omega arith in
-      let w : r / 256 ≡ high - low - 1 = omega arith in
+      let w : r / 256 ≡ high - low = omega arith in
       let f = leb-true ((b + 256 - r % 256) % 256) (r / 256) e in
       (omega arith, omega arith)
 
-  range-out : among (range_of low high) b ≡ false → (b < low) ⊎ (high ≤ b)
+  range-out : among (range_of low high) b ≡ false → (b < low) ⊎ (high < b)
   range-out e =
       let r = range_of low high in
       let l : r % 256 ≡ low = omega arith in
-      let w : r / 256 ≡ high - low - 1 = omega arith in
+      let w : r / 256 ≡ high - low = omega arith in
       let f = leb-false ((b + 256 - r % 256) % 256) (r / 256) e in
       elim (dec_lt b low) [ yes g ↦ inl g | no g ↦ inr (omega arith) ]
 
@@ -75,11 +69,10 @@ among-any r b h = le-leb ((b + 256 - r % 256) % 256) (r / 256) (omega arith)
 
 -- what is found of a set
 module _ (t bytes : List ℕ) (k : ℕ) (d s : List ℕ) (C : Classified t bytes k d) (x y low high : ℕ)
-    (L : Led t bytes k s 0 x) (below : (b : ℕ) → b < low → bit x (class_in d b) ≡ false)
-    (above : (b : ℕ) → high ≤ b → b < 256 → bit x (class_in d b) ≡ false) (some : low < high) (few : high ≤ 256)
+    (L : Led t bytes k s 0 x) (some : low ≤ high) (few : high < 256) (below : NoneIn x d 0 low) (above : NoneIn x d (high + 1) 256)
     (next : List ℕ) (is : next ≡ step t s low)
     (A : (c : ℕ) → c < 64 → bit y c ≡ true → step t s (get_or bytes c 0) ≡ next)
-    (all : (b : ℕ) → low ≤ b → b < high → bit y (class_in d b) ≡ true) (unended : Ended s false) where
+    (all : (b : ℕ) → low ≤ b → b ≤ high → bit y (class_in d b) ≡ true) (unended : Ended s false) where
   outside : (b : ℕ) → b < 256 → bit x (class_in d b) ≡ false → step t s b ≡ no_place
   outside b h e = C.same s b h ∙ L.none (class_in d b) (C.is b h) e
 
@@ -91,5 +84,5 @@ module _ (t bytes : List ℕ) (k : ℕ) (d s : List ℕ) (C : Classified t bytes
         let z : low ≡ range_of low high % 256 = omega arith in
         C.same s b h ∙ A (class_in d b) (omega (arith, C.is b h, C.few)) (all b w.0 w.1) ∙ is ∙ ap (step t s) z;
     off = λ b h e.
-        ⊎_elim (λ l. outside b h (below b l)) (λ l. outside b h (above b l h)) (range-out low high some few b h e);
+        ⊎_elim (λ l. outside b h (below b (omega arith) l)) (λ l. outside b h (above b (omega arith) h)) (range-out low high some few b h e);
   }

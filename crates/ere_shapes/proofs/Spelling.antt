@@ -12,6 +12,7 @@ use lib.Seq.{get_or-set_same, get_or-set_other}
 use lib.Dec.{eqb, leb}
 use borrow.Author.Tests.{eq-eqb, ne_eqb, le-leb, lt-leb}
 use Rattle.lists.proofs.Tests.{same_test}
+use Rattle.std.specs.Prelude.{Some, None}
 use Rattle.ere_table.specs.Table.{row, no_place}
 use Rattle.ere_search.specs.Walk.{step}
 use Rattle.ere_automaton.specs.Layout.{tests_at, test_byte, test_place, test_count, last_place, range_at, shape_word, shape_kind, Testable}
@@ -114,7 +115,7 @@ module _ (t d : List ℕ) (e q : ℕ) (s : List ℕ) (B : Begun t d e q s) (rang
       ]
 
   -- with the test that it needs
-  module _ (r : ℕ) (d' : List ℕ) (T : Tested d e q range r d') (few : r ≤ 7) where
+  module _ (r : ℕ) (d' : List ℕ) (T : Tested d e q range (Some r) d') where
     -- no test of those before is for byte q
     free : (b : ℕ) → allows d' e q b ≡ true
     free b =
@@ -201,7 +202,7 @@ module _ (t d : List ℕ) (e q : ℕ) (s : List ℕ) (B : Begun t d e q s) (rang
         (⊎_elim
         (λ w. subst (λ (j : ℕ). Begun t d' j (suc q) next) (sym w.0) (any-more w.1))
         (λ w. subst (λ (j : ℕ). Begun t d' j (suc q) next) (sym w.0) (one_more w.0 w.1 w.2))
-        (T.new few))
+        T.new.1)
 
   -- the last byte
   module _ (some : 0 < e) (low : e ≤ 7) (short : q < 16) (small : range < 65536) (d' : List ℕ) (P : Padded e d d')
@@ -284,29 +285,18 @@ module _ (t d : List ℕ) (e q : ℕ) (s : List ℕ) (B : Begun t d e q s) (rang
 
 -- ---- what is stored
 
-pub tested-any : (d : List ℕ) (e q range : ℕ) → e ≤ 7 → range / 256 ≡ 255 → Tested d e q range e d
-tested-any d e q range h any = record {
-  frame = frame-none 16 24 d;
-  few = omega arith;
-  kept = λ k l. refl;
-  new = λ l. inl (refl, any);
-}
+pub tested-any : (d : List ℕ) (e q range : ℕ) → e ≤ 7 → range / 256 ≡ 255 → Tested d e q range (Some e) d
+tested-any d e q range h any = record { frame = frame-none 16 24 d; kept = λ k l. refl; new = (h, inl (refl, any)) }
 
-pub tested-none : (d : List ℕ) (e q range : ℕ) → Tested d e q range 8 d
-tested-none d e q range = record {
-  frame = frame-none 16 24 d;
-  few = omega arith;
-  kept = λ k l. refl;
-  new = λ l. absurd (omega arith);
-}
+pub tested-none : (d : List ℕ) (e q range : ℕ) → Tested d e q range None d
+tested-none d e q range = record { frame = frame-none 16 24 d; kept = λ k l. refl; new = tt }
 
 pub tested-one : (d : List ℕ) (e q range : ℕ) → 24 ≤ length d → e < 7 → range < 256
-    → Tested d e q range (e + 1) (set d (tests_at + e) (range + 256 * q))
+    → Tested d e q range (Some (e + 1)) (set d (tests_at + e) (range + 256 * q))
 tested-one d e q range room h one = record {
   frame = frame-wider (omega arith) (omega arith) (frame-set d (tests_at + e) (range + 256 * q));
-  few = omega arith;
   kept = λ k l. get_or-set_other d (tests_at + e) (tests_at + k) (range + 256 * q) 0 (omega arith);
-  new = λ l. inr (omega arith, one, get_or-set_same d (tests_at + e) (range + 256 * q) 0 (omega arith));
+  new = (omega arith, inr (omega arith, one, get_or-set_same d (tests_at + e) (range + 256 * q) 0 (omega arith)));
 }
 
 -- the first test again for those from e up to k
@@ -336,9 +326,6 @@ pads-more e k d₀ d room some h l P = record {
 pub pads-all : (e k : ℕ) (d d' : List ℕ) → 7 ≤ k → Pads e k d d' → Padded e d d'
 pads-all e k d d' h P = record { frame = P.frame; kept = P.kept; again = λ j m n. P.again j m (omega arith) }
 
-pub spelt-none : (t d d' : List ℕ) → Frame 16 24 d d' → Spelt t d 0 d'
-spelt-none t d d' F = record { frame = F; few = omega arith; word = λ h. absurd (omega arith) }
-
 pub put-none : (t d d' : List ℕ) → Frame 16 24 d d' → shape_word d ≡ 0 → PutWord t d d'
 put-none t d d' F e = record {
   frame = frame-wider (omega arith) (omega arith) F;
@@ -350,30 +337,30 @@ put-none t d d' F e = record {
     none = F.below 15 (omega arith) ∙ e
 
 pub kind-few : (t : List ℕ) (kind : ℕ) → Kind t kind → kind ≤ 512
-kind-few t kind K = ⊎_elim (λ z. omega arith) (⊎_elim (λ z. omega (arith, z.0)) (λ z. omega (arith, z.0))) K.is
+kind-few t kind K = ⊎_elim (λ z. omega (arith, z.0)) (λ z. omega (arith, z.0)) K.is
 
 -- the kind is stored
-pub word-put : (t d d' : List ℕ) (kind n : ℕ) → 24 ≤ length d → Kind t kind → 0 < kind → Spelt t d n d' → 0 < n
+pub word-put : (t d d' : List ℕ) (kind n : ℕ) → 24 ≤ length d → Kind t kind → Spelt t d (Some n) d'
     → PutWord t d (set d' 15 (kind + n))
-word-put t d d' kind n room K pos S some = record {
+word-put t d d' kind n room K S = record {
   frame = frame_on (frame-wider (omega arith) (omega arith) S.frame) (frame-wider (omega arith) (omega arith) (frame-set d' 15 (kind + n)));
   shape = record {
-    word = λ h. (W, ⊎_elim (λ z. absurd (omega arith)) (⊎_elim (λ z. z.1) (λ z. absurd (omega (arith, z.0, kinds, h)))) K.is);
-    first = λ h. (W, ⊎_elim (λ z. absurd (omega arith)) (⊎_elim (λ z. absurd (omega (arith, z.0, kinds, h))) (λ z. z.1)) K.is);
+    word = λ h. (W, ⊎_elim (λ z. z.1) (λ z. absurd (omega (arith, z.0, kinds, h))) K.is);
+    first = λ h. (W, ⊎_elim (λ z. absurd (omega (arith, z.0, kinds, h))) (λ z. z.1) K.is);
   };
   tests = λ h l k m. omega (arith, W.places k m);
 }
   where
     rest : kind % 256 ≡ 0
-    rest = ⊎_elim (λ z. omega arith) (⊎_elim (λ z. omega (arith, z.0)) (λ z. omega (arith, z.0))) K.is
+    rest = ⊎_elim (λ z. omega (arith, z.0)) (λ z. omega (arith, z.0)) K.is
 
     W : Word t (set d' 15 (kind + n))
-    W = S.word some (kind + n) (omega (arith, rest, S.few))
+    W = S.word.1 (kind + n) (omega (arith, rest, S.word.0))
 
     kinds : shape_kind (set d' 15 (kind + n)) ≡ kind / 256
     kinds =
         ap (λ (w : ℕ). w / 256) (get_or-set_same d' 15 (kind + n) 0 (omega (arith, S.frame.size, room)))
-        ∙ omega (arith, rest, S.few)
+        ∙ omega (arith, rest, S.word.0)
 
 -- words that are kept
 module _ (t d d' : List ℕ) (e : (i : ℕ) → 15 ≤ i → i < 24 → get_or d' i 0 ≡ get_or d i 0) where

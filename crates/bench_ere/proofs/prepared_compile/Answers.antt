@@ -1,5 +1,5 @@
 -- `prepared_compile`: by the table's size, and what `compile` answers.
-use Rattle.std.proofs.Common.{◌≡◌, true, false, subst, rules}
+use Rattle.std.proofs.Common.{subst}
 use Rattle.ere.specs.Answer.{Compiles}
 use Rattle.bench_ere.proofs.Answers.{prepares-unsized, prepares-none, prepares-some}
 use Rattle.bench_ere.proofs.prepared_compile.Goals as goal

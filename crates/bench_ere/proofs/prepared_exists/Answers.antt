@@ -1,5 +1,5 @@
 -- `prepared_exists`: by both sizes, and what `exists` answers.
-use Rattle.std.proofs.Common.{true, false, arith, rules}
+use Rattle.std.proofs.Common.{true, false, arith}
 use Rattle.bench_ere.proofs.Answers.{tells}
 use Rattle.bench_ere.proofs.prepared_exists.Goals as goal
 

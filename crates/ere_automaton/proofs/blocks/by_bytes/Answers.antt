@@ -19,17 +19,14 @@ index c = c.loop-i.s + class_in c.args.d.now (byte c)
 inside : (c : After-shared_slice_known-1) → index c < length c.args.d.now
 inside c =
     let l = c.loop-i in
-    next_fits c.args.d.now c.requires.0 l.s (byte c) l.invariant.2 (small c)
+    next_fits c.args.d.now c.requires.0 l.s (byte c) l.invariant.1 (small c)
 
 pub loop-i-init : goal.loop-i-init
 unfolding runs
 loop-i-init c =
     let a = c.args in
     let z : 0 ≡ a.from - a.from = omega arith in
-    (omega arith, c.requires.2, c.requires.1, ap (runs a.d.now a.x.now a.from a.state) z)
-
-pub bounds-x-i : goal.bounds-x-i
-bounds-x-i c = omega arith
+    (omega arith, c.requires.1, ap (runs a.d.now a.x.now a.from a.state) z)
 
 pub overflow_cast-s : goal.overflow_cast-s
 overflow_cast-s c = omega (arith, small c)
@@ -58,20 +55,13 @@ bounds-d-s c = omega (arith, inside (goal.at.bounds-d-s c).After-shared_slice_kn
 pub overflow_cast-s-in-loop-i-2 : goal.overflow_cast-s-in-loop-i-2
 overflow_cast-s-in-loop-i-2 c = omega (arith, c.shared_slice_known-in-loop-i-2-1.given (index (goal.at.overflow_cast-s-in-loop-i-2 c).After-shared_slice_known-1))
 
-pub overflow_add-i : goal.overflow_add-i
-overflow_add-i c = omega arith
-
-pub loop-i-smaller : goal.loop-i-smaller
-loop-i-smaller c = omega arith
-
 pub loop-i-preserved : goal.loop-i-preserved
 loop-i-preserved c =
     let a = c.args in
     let l = c.loop-i in (
       omega arith,
-      omega arith,
-      c.requires.0.moves l.s (byte (goal.at.loop-i-preserved c).After-shared_slice_known-1) l.invariant.2 (small (goal.at.loop-i-preserved c).After-shared_slice_known-1),
-      runs-byte a.d.now a.x.now a.from a.state l.i l.s l.invariant.0 l.invariant.3,
+      c.requires.0.moves l.s (byte (goal.at.loop-i-preserved c).After-shared_slice_known-1) l.invariant.1 (small (goal.at.loop-i-preserved c).After-shared_slice_known-1),
+      runs-byte a.d.now a.x.now a.from a.state l.i l.s l.invariant.0 l.invariant.2,
     )
 
 pub returns : goal.returns
@@ -79,4 +69,4 @@ returns c =
     let a = c.args in
     let l = c.loop-i in
     let z : l.i ≡ a.end = omega arith in
-    l.invariant.3 ∙ ap (λ (n : ℕ). runs a.d.now a.x.now a.from a.state (n - a.from)) z
+    l.invariant.2 ∙ ap (λ (n : ℕ). runs a.d.now a.x.now a.from a.state (n - a.from)) z

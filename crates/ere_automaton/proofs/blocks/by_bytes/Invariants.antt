@@ -5,7 +5,4 @@ use Rattle.ere_automaton.specs.Scan.{runs}
 use Rattle.ere_automaton.proofs.blocks.by_bytes.Given as goal
 
 abbrev pub invariant-loop-i : goal.invariant-loop-i
-invariant-loop-i l = (l.from ≤ l.i) × (l.i ≤ l.end) × (State l.d l.s) × (l.s ≡ runs l.d l.x l.from l.state (l.i - l.from))
-
-abbrev pub decreases-loop-i : goal.decreases-loop-i
-decreases-loop-i l = l.end - l.i
+invariant-loop-i l = (l.from ≤ l.i) × (State l.d l.s) × (l.s ≡ runs l.d l.x l.from l.state (l.i - l.from))

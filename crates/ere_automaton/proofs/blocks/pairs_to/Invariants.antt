@@ -1,12 +1,8 @@
--- `pairs_to` meets its contract: s is the state after the bytes up to i.
-use Rattle.std.proofs.Common.{◌≡◌, ◌-◌, ◌%◌, ◌≤◌}
+-- `pairs_to` meets its contract: s is the state after 2 j bytes.
+use Rattle.std.proofs.Common.{◌≡◌, ◌*◌}
 use Rattle.ere_automaton.specs.Layout.{State}
 use Rattle.ere_automaton.specs.Scan.{runs}
 use Rattle.ere_automaton.proofs.blocks.pairs_to.Given as goal
 
-abbrev pub invariant-loop-i : goal.invariant-loop-i
-invariant-loop-i l =
-    (l.from ≤ l.i) × (l.i ≤ l.end) × ((l.end - l.i) % 2 ≡ 0) × (State l.d l.s) × (l.s ≡ runs l.d l.x l.from l.state (l.i - l.from))
-
-abbrev pub decreases-loop-i : goal.decreases-loop-i
-decreases-loop-i l = l.end - l.i
+abbrev pub invariant-loop-j : goal.invariant-loop-j
+invariant-loop-j l = (State l.d l.s) × (l.s ≡ runs l.d l.x l.from l.state (2 * l.j))

@@ -6,32 +6,20 @@ use Rattle.ere_automaton.proofs.words.in_block.Goals as goal
 
 pub loop-j-init : goal.loop-j-init
 unfolding here_in
-loop-j-init c = (omega arith, refl)
-
-pub overflow_add-i : goal.overflow_add-i
-overflow_add-i c = omega arith
+loop-j-init c = refl
 
 pub here-hit-requires : goal.here-hit-requires
 here-hit-requires c = let p = c.requires in (p.0, p.1, omega (arith, p.2), p.3)
 
-pub overflow_add-j : goal.overflow_add-j
-overflow_add-j c = omega arith
-
-pub loop-j-smaller : goal.loop-j-smaller
-loop-j-smaller c = omega arith
-
 pub loop-j-preserved : goal.loop-j-preserved
 loop-j-preserved c =
     let a = c.args in
-    let l = c.loop-j in (
-      omega arith,
-      here-more a.d.now a.x.now a.last a.tests a.i l.j l.hit c.here-hit.result l.invariant.1
-          c.here-hit.ensures,
-    )
+    let l = c.loop-j in
+    here-more a.d.now a.x.now a.last a.tests a.i l.j l.hit c.here-hit.result l.invariant c.here-hit.ensures
 
 pub returns : goal.returns
 returns c =
     let a = c.args in
     let l = c.loop-j in
     let z : l.j ≡ 16 = omega arith in
-    l.invariant.1 ∙ ap (here_in a.d.now a.x.now a.last a.tests a.i) z
+    l.invariant ∙ ap (here_in a.d.now a.x.now a.last a.tests a.i) z

@@ -4,17 +4,19 @@ use lib.ListN.{length-set}
 use Rattle.ere_classes.proofs.Columns.{column-low, column-high, class-found, class-new}
 use Rattle.ere_classes.proofs.classes.classify.Goals as goal
 
-pub returns-then-j-k : goal.returns-then-j-k
-returns-then-j-k c =
-    let f = c.find_column-j.ensures.1 c.if-j-k.true in
+pub returns-in-Some : goal.returns-in-Some
+returns-in-Some c =
+    let a = c.args in
+    let f = c.in-Some.ensures in
+    let m = c.first_word-m.ensures.0 in
     record {
       few = omega arith;
       column_size = refl;
       byte_size = refl;
-      size = length-set c.args.d.now _ _;
-      classed = class-found c.args.t.now c.args.n c.args.b c.args.columns.now c.args.k c.args.bytes.now c.args.d.now c.find_column-j.result
-          (omega arith) c.if-j-k.true
-          (f.0 ∙ column-low c.args.t.now c.args.b c.args.n c.first_word-m.result _ c.first_word-m.ensures.0 c.column-x.ensures) (f.1 ∙ column-high c.args.t.now c.args.b c.args.n c.first_word-m.result _ c.first_word-m.ensures.0 c.column-y.ensures);
+      size = length-set a.d.now _ _;
+      classed = class-found a.t.now a.n a.b a.columns.now a.k a.bytes.now a.d.now c.in-Some.j (omega arith) f.0
+          (f.1 ∙ column-low a.t.now a.b a.n c.first_word-m.result _ m c.column-x.ensures)
+          (f.2 ∙ column-high a.t.now a.b a.n c.first_word-m.result _ m c.column-y.ensures);
     }
 
 pub bounds-columns-k-2 : goal.bounds-columns-k-2
@@ -22,11 +24,15 @@ bounds-columns-k-2 c = simp length-set (omega arith)
 
 pub returns : goal.returns
 returns c =
+    let a = c.args in
+    let m = c.first_word-m.ensures.0 in
     record {
       few = omega arith;
       column_size = simp length-set;
-      byte_size = length-set c.args.bytes.now _ _;
-      size = length-set c.args.d.now _ _;
-      classed = class-new c.args.t.now c.args.n c.args.b c.args.columns.now c.args.k c.args.bytes.now c.args.d.now c.find_column-j.result _ _
-          (omega arith) (omega arith) (omega arith) (omega arith) (omega arith) (column-low c.args.t.now c.args.b c.args.n c.first_word-m.result _ c.first_word-m.ensures.0 c.column-x.ensures) (column-high c.args.t.now c.args.b c.args.n c.first_word-m.result _ c.first_word-m.ensures.0 c.column-y.ensures);
+      byte_size = length-set a.bytes.now _ _;
+      size = length-set a.d.now _ _;
+      classed = class-new a.t.now a.n a.b a.columns.now a.k a.bytes.now a.d.now _ _
+          (omega arith) (omega arith) (omega arith) (omega arith)
+          (column-low a.t.now a.b a.n c.first_word-m.result _ m c.column-x.ensures)
+          (column-high a.t.now a.b a.n c.first_word-m.result _ m c.column-y.ensures);
     }

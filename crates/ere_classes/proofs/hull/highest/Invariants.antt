@@ -1,12 +1,5 @@
-use Prim.Native.Nat.{ℕ, ◌≤◌, ◌<◌}
-use mathlib.Core.Path.{◌≡◌}
-use mathlib.Core.Bool.{false}
-use Rattle.lists.specs.Digit.{bit}
-use Rattle.ere_automaton.specs.Layout.{class_in}
+use Rattle.ere_classes.specs.Bounds.{NoneIn}
 use Rattle.ere_classes.proofs.hull.highest.Given as goal
 
 abbrev pub invariant-loop-b : goal.invariant-loop-b
-invariant-loop-b l = (l.b ≤ 256) × ((x : ℕ) → l.b ≤ x → x < 256 → bit l.set (class_in l.d x) ≡ false)
-
-abbrev pub decreases-loop-b : goal.decreases-loop-b
-decreases-loop-b l = l.b
+invariant-loop-b l = NoneIn l.set l.d l.b 256

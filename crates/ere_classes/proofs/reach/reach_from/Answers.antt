@@ -8,38 +8,23 @@ use Rattle.ere_classes.proofs.Reaching.{ends-none, ends_next}
 use Rattle.ere_classes.proofs.reach.reach_from.Goals as goal
 
 pub loop-n-init : goal.loop-n-init
-loop-n-init c =
-    let a = c.args in
-    (omega arith, λ d C m E. subst (λ (n : ℕ). Ends a.t.now n a.start) (sym (zero-add m)) E)
+loop-n-init c = λ d C m E. subst (λ (n : ℕ). Ends c.args.t.now n c.args.start) (sym (zero-add m)) E
 
 pub returns-then-is_empty : goal.returns-then-is_empty
 returns-then-is_empty c =
     let t = c.args.t.now in
     let l = c.loop-n in
-    let none : Ends t 0 l.s = subst (Ends t 0) (sym (c.is_empty.ensures c.if-is_empty.true)) (ends-none t) in (
-      omega arith,
-      λ d C n e. subst (λ (m : ℕ). Ends t m c.args.start) (add-zero l.n ∙ e) (l.invariant.1 d C 0 none),
-    )
-
-pub returns-then-has : goal.returns-then-has
-returns-then-has c = (omega arith, λ d C n e. absurd (omega arith))
-
-pub loop-n-smaller : goal.loop-n-smaller
-loop-n-smaller c = omega arith
+    let none : Ends t 0 l.s = subst (Ends t 0) (sym (c.is_empty.ensures c.if-is_empty.true)) (ends-none t) in
+    (omega arith, λ d C. subst (λ (m : ℕ). Ends t m c.args.start) (add-zero l.n) (l.invariant d C 0 none))
 
 pub loop-n-preserved : goal.loop-n-preserved
 loop-n-preserved c =
     let a = c.args in
     let t = a.t.now in
     let l = c.loop-n in
-    let unended = sym c.has.ensures ∙ c.if-has.false in (
-      omega arith,
-      λ d C m E.
-          let z : l.n + suc m ≡ l.n + 1 + m = omega arith in
-          subst (λ (n : ℕ). Ends t n a.start) z
-          (l.invariant.1 d C (suc m)
-          (ends_next t a.bytes.now a.k d l.s c.next_of-next.result C unended c.next_of-next.ensures m E)),
-    )
-
-pub returns : goal.returns
-returns c = (omega arith, λ d C n e. absurd (omega arith))
+    let unended = sym c.has.ensures ∙ c.if-has.false in
+    λ d C m E.
+    let z : l.n + suc m ≡ l.n + 1 + m = omega arith in
+    subst (λ (n : ℕ). Ends t n a.start) z
+    (l.invariant d C (suc m)
+    (ends_next t a.bytes.now a.k d l.s c.next_of-next.result C unended c.next_of-next.ensures m E))

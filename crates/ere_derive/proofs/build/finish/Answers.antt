@@ -10,7 +10,7 @@ use Rattle.ere_derive.proofs.build.finish.Goals as goal
 pub attempt-requires : goal.attempt-requires
 attempt-requires c =
     let p = c.requires in
-    let A = c.with_pairs-r.ensures in
+    let A = c.with_pairs.ensures in
     let s = A.derived.size in (
       p.0,
       p.1,
@@ -18,13 +18,13 @@ attempt-requires c =
       omega (arith, p.3),
       classified-on _ (λ b h. A.kept (24 + b) (omega arith) (omega arith)) p.4,
       hull-on _ (λ i g h. A.kept i (omega arith) (omega arith)) (A.kept 14 (omega arith) (omega arith)) p.5,
-      testable-on c.args.t.now c.args.d.now c.with_pairs-r.new.d
+      testable-on c.args.t.now c.args.d.now c.with_pairs.new.d
           (λ i g h. A.kept i (omega arith) (omega arith)) p.6,
     )
 
 pub returns : goal.returns
 returns c =
-    let A = c.with_pairs-r.ensures in
+    let A = c.with_pairs.ensures in
     let B = c.attempt.ensures in
     record {
       derived = derived-on c.args.d.now A.derived.size B.derived;

@@ -1,20 +1,14 @@
-use Prim.Native.Nat.{ℕ, ◌+◌, ◌*◌}
-use mathlib.Core.Path.{sym, subst}
+use Prim.Native.Nat.{◌+◌}
 use native.Mathlib.Omega.{arith}
-use lib.ListN.{get_or}
-use Rattle.ere_derive.specs.Layout.{Apart}
 use Rattle.ere_classes.proofs.Framed.{frame-none}
-use Rattle.ere_derive.proofs.Composed.{square-below, apart_in, pairs-frame, pairs-more}
+use Rattle.ere_derive.proofs.Composed.{square-below, pairs-frame, pairs-more}
 use Rattle.ere_derive.proofs.pairs.put_pairs_in.Goals as goal
 
 pub loop-c-init : goal.loop-c-init
-loop-c-init c = (omega arith, frame-none _ _ _, λ x e h. absurd (omega arith))
+loop-c-init c = (frame-none _ _ _, λ x e h. absurd (omega arith))
 
 pub bounds-d-p : goal.bounds-d-p
-bounds-d-p c = let z = c.loop-c.invariant.1.size in omega arith
-
-pub overflow_cast-next : goal.overflow_cast-next
-overflow_cast-next c = omega (arith, c.slice_known-in-loop-c-1.given (c.args.p + c.loop-c.c))
+bounds-d-p c = let z = c.loop-c.invariant.0.size in omega arith
 
 pub overflow_mul-c : goal.overflow_mul-c
 overflow_mul-c c = let z = square-below c.args.k c.loop-c.c c.args.k c.loop-c-test.true in omega arith
@@ -30,14 +24,10 @@ copy_words-requires c =
     let a = c.args in
     let l = c.loop-c in
     let r = c.requires.2 l.c c.loop-c-test.true in
-    let e = l.invariant.1.below (a.p + l.c) (omega arith) in
-    let z = l.invariant.1.size in
-    let y = square-below a.k l.c a.k c.loop-c-test.true in (
-      omega (arith, r.0),
-      omega arith,
-      subst (λ (q : ℕ). Apart q a.k (a.p + (a.k + 1 + l.c * a.k)) (a.p + (a.k + 1 + l.c * a.k) + a.k)) (sym e)
-          (apart_in (get_or a.d.now (a.p + l.c) 0) a.k (a.p + (a.k + 1)) (a.p + (a.k + 1 + a.k * a.k)) _ _ (omega arith) (omega arith) r.1),
-    )
+    let e = l.invariant.0.below (a.p + l.c) (omega arith) in
+    let z = l.invariant.0.size in
+    let y = square-below a.k l.c a.k c.loop-c-test.true in
+    (omega (arith, r.0), omega arith)
 
 pub loop-c-preserved : goal.loop-c-preserved
 loop-c-preserved c =
@@ -45,10 +35,9 @@ loop-c-preserved c =
     let l = c.loop-c in
     let r = c.requires.2 l.c c.loop-c-test.true in
     let w = c.copy_words.ensures in (
-      omega arith,
-      pairs-frame a.d.now l.d _ a.k a.p l.c c.loop-c-test.true r.1 l.invariant.1 w.0,
-      pairs-more a.d.now l.d _ a.k a.p l.c c.loop-c-test.true r.1 l.invariant.1 l.invariant.2 w.0 w.1,
+      pairs-frame a.d.now l.d _ a.k a.p l.c c.loop-c-test.true r.1 l.invariant.0 w.0,
+      pairs-more a.d.now l.d _ a.k a.p l.c c.loop-c-test.true r.1 l.invariant.0 l.invariant.1 w.0 w.1,
     )
 
 pub returns : goal.returns
-returns c = (c.loop-c.invariant.1, λ x e h m. c.loop-c.invariant.2 x e (omega arith) m)
+returns c = (c.loop-c.invariant.0, λ x e h m. c.loop-c.invariant.1 x e (omega arith) m)

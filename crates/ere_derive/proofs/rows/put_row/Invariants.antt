@@ -1,4 +1,4 @@
-use Prim.Native.Nat.{ℕ, ◌+◌, ◌-◌, ◌≤◌, ◌<◌}
+use Prim.Native.Nat.{ℕ, ◌+◌, ◌≤◌, ◌<◌}
 use mathlib.Core.Path.{◌≡◌}
 use lib.ListN.{length, get_or}
 use Rattle.ere_sets.specs.Growth.{Grows, Leads}
@@ -7,8 +7,5 @@ use Rattle.ere_derive.proofs.rows.put_row.Given as goal
 
 abbrev pub invariant-loop-e : goal.invariant-loop-e
 invariant-loop-e l =
-    (l.e ≤ l.k) × (l.n ≤ l.most) × (length l.sets ≡ length l.initial.sets) × (Grows l.initial.sets l.count l.sets l.n) × (Frame l.p (l.p + (l.k + 1)) l.initial.d l.d)
+    (l.n ≤ l.most) × (length l.sets ≡ length l.initial.sets) × (Grows l.initial.sets l.count l.sets l.n) × (Frame l.p (l.p + (l.k + 1)) l.initial.d l.d)
     × ((x : ℕ) → x < l.e → Leads l.mode l.t l.sets l.n l.stride l.s (get_or l.bytes x 0) (get_or l.d (l.p + x) 0))
-
-abbrev pub decreases-loop-e : goal.decreases-loop-e
-decreases-loop-e l = l.k - l.e

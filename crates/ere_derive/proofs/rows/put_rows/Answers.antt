@@ -21,43 +21,44 @@ overflow_mul-stride c = let z = rows-below c.args.stride c.loop-i.i c.args.most 
 pub overflow_add-stride : goal.overflow_add-stride
 overflow_add-stride c = let z = rows-below c.args.stride c.loop-i.i c.args.most (omega arith) in let p = c.requires in omega arith
 
-pub put_row-n-requires : goal.put_row-n-requires
-put_row-n-requires c = let z = rows-below c.args.stride c.loop-i.i c.args.most (omega arith) in let p = c.requires in let y = c.loop-i.invariant.4.size in omega (arith, c.loop-i.invariant.2)
+pub put_row-requires : goal.put_row-requires
+put_row-requires c = let z = rows-below c.args.stride c.loop-i.i c.args.most (omega arith) in let p = c.requires in let y = c.loop-i.invariant.4.size in omega (arith, c.loop-i.invariant.2)
 
-pub returns-then-most-n : goal.returns-then-most-n
-returns-then-most-n c =
+pub returns-in_err-n : goal.returns-in_err-n
+returns-in_err-n c =
     let z = rows-below c.args.stride c.loop-i.i c.args.most (omega arith) in
     let p = c.requires in
-    record {
-      frame = frame_on c.loop-i.invariant.4 (frame-wider (omega arith) (omega arith) c.put_row-n.ensures.frame);
-      size = c.put_row-n.ensures.size ∙ c.loop-i.invariant.2;
-      grows = λ h. absurd (omega arith);
-      rows = λ h. absurd (omega arith);
-    }
+    rw c.from_residual.ensures (record {
+      frame = frame_on c.loop-i.invariant.4 (frame-wider (omega arith) (omega arith) c.in_err-n.ensures.frame);
+      size = c.in_err-n.ensures.size ∙ c.loop-i.invariant.2;
+      has = tt;
+    })
 
 pub loop-i-preserved : goal.loop-i-preserved
 loop-i-preserved c =
-    let z = rows-below c.args.stride c.loop-i.i c.args.most (omega arith) in
+    let a = c.args in
+    let z = rows-below a.stride c.loop-i.i a.most (omega arith) in
     let p = c.requires in
     let i = c.loop-i.invariant in
-    let r = c.put_row-n.ensures in
-    let g = r.grows c.if-most-n.false in (
+    let r = c.in_ok-n.ensures in
+    let g = r.has.1 in (
       omega (arith, g.more),
-      c.if-most-n.false,
+      r.has.0,
       r.size ∙ i.2,
       grows-on i.3 g,
       frame_on i.4 (frame-wider (omega arith) (omega arith) r.frame),
-      rows_more c.args.mode c.args.t.now c.args.bytes.now c.args.k c.loop-i.sets c.loop-i.n c.args.stride c.loop-i.d c.loop-i.i _ _ _ p.7 c.loop-i-test.true i.5 g r.frame
-          (subst (λ (s : List ℕ). RowAt c.args.mode c.args.t.now c.args.bytes.now c.args.k c.put_row-n.new.sets c.put_row-n.result c.args.stride s c.put_row-n.new.d (rows_at + c.args.stride * c.loop-i.i))
-          c.set_at-s.ensures (r.has c.if-most-n.false)),
+      rows_more a.mode a.t.now a.bytes.now a.k c.loop-i.sets c.loop-i.n a.stride c.loop-i.d c.loop-i.i _ _ _ p.7 c.loop-i-test.true i.5 g r.frame
+          (subst (λ (s : List ℕ). RowAt a.mode a.t.now a.bytes.now a.k c.put_row.new.sets c.in_ok-n.n a.stride s c.put_row.new.d (rows_at + a.stride * c.loop-i.i))
+          c.set_at-s.ensures r.has.2),
     )
 
 pub returns : goal.returns
 returns c =
+    let a = c.args in
+    let i = c.loop-i.invariant in
     let e : c.loop-i.i ≡ c.loop-i.n = omega arith in
     record {
-      frame = c.loop-i.invariant.4;
-      size = c.loop-i.invariant.2;
-      grows = λ h. c.loop-i.invariant.3;
-      rows = λ h. subst (λ (m : ℕ). Rows c.args.mode c.args.t.now c.args.bytes.now c.args.k c.loop-i.sets c.loop-i.n c.args.stride c.loop-i.d m) e c.loop-i.invariant.5;
+      frame = i.4;
+      size = i.2;
+      has = (i.1, i.3, subst (λ (m : ℕ). Rows a.mode a.t.now a.bytes.now a.k c.loop-i.sets c.loop-i.n a.stride c.loop-i.d m) e i.5);
     }

@@ -1,7 +1,5 @@
 -- `with_entry` meets its contract, by its test.
-use native.Mathlib.Omega.{arith}
 use borrow.Author.Tests.{eq-eqb, ne_eqb}
-use borrow.Author.Rules.{rules}
 use Rattle.ere_exists.proofs.any.with_entry.Goals as goal
 
 pub returns-then-i-eq0 : goal.returns-then-i-eq0

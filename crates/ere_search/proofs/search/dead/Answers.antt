@@ -1,7 +1,6 @@
 -- `dead` meets its contract, by its test.
 use lib.ListN.{get_or}
 use borrow.Author.Tests.{eq-eqb, ne_eqb}
-use borrow.Author.Rules.{rules}
 use Rattle.ere_search.proofs.search.dead.Goals as goal
 
 pub returns-then-s-eq0 : goal.returns-then-s-eq0

@@ -1,7 +1,6 @@
 -- `entry` meets its contract, by its test.
 use native.Mathlib.Omega.{arith}
 use borrow.Author.Tests.{eq-eqb, ne_eqb}
-use borrow.Author.Rules.{rules}
 use Rattle.ere_search.proofs.search.entry.Goals as goal
 
 pub returns-then-s-eq0 : goal.returns-then-s-eq0

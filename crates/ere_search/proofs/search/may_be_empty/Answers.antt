@@ -1,7 +1,6 @@
 -- `may_be_empty` meets its contract, by its test.
 use native.Mathlib.Omega.{arith}
 use borrow.Author.Tests.{eq-eqb, ne_eqb}
-use borrow.Author.Rules.{rules}
 use Rattle.ere_search.proofs.search.may_be_empty.Goals as goal
 
 pub returns-then-least-eq0 : goal.returns-then-least-eq0

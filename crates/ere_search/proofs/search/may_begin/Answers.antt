@@ -1,5 +1,4 @@
 -- `may_begin` meets its contract, by its test.
-use borrow.Author.Rules.{rules}
 use Rattle.ere_search.proofs.search.may_begin.Goals as goal
 
 pub returns : goal.returns

@@ -1,5 +1,4 @@
 -- `stops` meets its contract, by its test.
-use borrow.Author.Rules.{rules}
 use Rattle.ere_search.proofs.search.stops.Goals as goal
 
 pub returns-then-at_end : goal.returns-then-at_end

@@ -1,5 +1,4 @@
 -- `put` meets its contract, by its test.
-use borrow.Author.Rules.{rules}
 use Rattle.ere_search.proofs.words.put.Goals as goal
 
 pub returns-then-accepts : goal.returns-then-accepts

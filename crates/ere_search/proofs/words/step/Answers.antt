@@ -1,5 +1,4 @@
 -- `step` meets its contract: one word after the other.
-use borrow.Author.Rules.{rules}
 use Rattle.ere_search.proofs.words.step.Goals as goal
 
 pub returns : goal.returns

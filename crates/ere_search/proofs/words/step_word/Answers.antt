@@ -2,11 +2,8 @@
 -- gives.
 use lib.Count.{count_trailing_zeros, trailing_le}
 use lib.Pow.{pow_pos}
-use Prim.Native.Nat.{◌^◌, ◌<◌}
-use borrow.Author.Rules.{rules}
 use native.Mathlib.Omega.{arith}
-use mathlib.Core.Path.{◌≡◌, refl, sym, ◌∙◌}
-use Rattle.ere_search.specs.Walk.{step_word}
+use mathlib.Core.Path.{refl, sym, ◌∙◌}
 use Rattle.ere_search.proofs.Steps.{word_more, word_end}
 use Rattle.ere_search.proofs.Trailing.{tz-room, low-le}
 use Rattle.lists.proofs.Digits.{word-pow}

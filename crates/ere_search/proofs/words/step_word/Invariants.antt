@@ -1,15 +1,8 @@
 -- `step_word` meets its contract: what is left of the word, from what is gathered so far, gives what the whole word
 -- gives.
-use lib.Count.{count_trailing_zeros, trailing_le}
-use lib.Pow.{pow_pos}
 use Prim.Native.Nat.{◌^◌, ◌<◌}
-use borrow.Author.Rules.{rules}
-use native.Mathlib.Omega.{arith}
-use mathlib.Core.Path.{◌≡◌, refl, sym, ◌∙◌}
+use mathlib.Core.Path.{◌≡◌}
 use Rattle.ere_search.specs.Walk.{step_word}
-use Rattle.ere_search.proofs.Steps.{word_more, word_end}
-use Rattle.ere_search.proofs.Trailing.{tz-room, low-le}
-use Rattle.lists.proofs.Digits.{word-pow}
 use Rattle.ere_search.proofs.words.step_word.Given as goal
 
 abbrev pub invariant-loop-rest : goal.invariant-loop-rest

@@ -13,26 +13,13 @@ loop-i-init c =
     let a = c.args in
     let z : 0 ≡ a.start - a.start = omega arith in (
       omega arith,
-      c.requires.order,
       c.requires.state,
       subst (λ (n : ℕ). RanBy a.d.now a.x.now a.start n a.from a.from) z (ran-none _ _ _ _ _),
     )
 
-pub either-f-requires : goal.either-f-requires
-either-f-requires c = tt
-
-pub bounds-x-i : goal.bounds-x-i
-bounds-x-i c = omega arith
-
 pub next-s-requires : goal.next-s-requires
 next-s-requires c =
-    (c.requires.ranged, c.loop-i.invariant.2)
-
-pub overflow_add-i : goal.overflow_add-i
-overflow_add-i c = omega arith
-
-pub loop-i-smaller : goal.loop-i-smaller
-loop-i-smaller c = omega arith
+    (c.requires.ranged, c.loop-i.invariant.1)
 
 pub loop-i-preserved : goal.loop-i-preserved
 loop-i-preserved c =
@@ -43,9 +30,8 @@ loop-i-preserved c =
     let bytes : (n : ℕ) → get_or x n 0 < 256 = λ n. (c.shared_slice_known-2-1.given n).fits in
     let e = c.next-s.ensures in (
       omega arith,
-      omega arith,
-      subst (State d) (sym e) (c.requires.ranged.moves l.s (get_or x l.i 0) l.invariant.2 (bytes l.i)),
-      ran-at d x a.start a.from.state a.from.seen l.i l.s l.f l.invariant.0 l.invariant.3 a.later _ _
+      subst (State d) (sym e) (c.requires.ranged.moves l.s (get_or x l.i 0) l.invariant.1 (bytes l.i)),
+      ran-at d x a.start a.from.state a.from.seen l.i l.s l.f l.invariant.0 l.invariant.2 a.later _ _
           c.requires.is_later c.either-f.ensures e,
     )
 
@@ -56,4 +42,4 @@ returns c =
     let z : l.i ≡ a.end = omega arith in
     let f = a.from in
     subst (λ (n : ℕ). Ran a.d.now a.x.now a.start (n - a.start) f.state f.seen l.s l.f) z
-    l.invariant.3
+    l.invariant.2

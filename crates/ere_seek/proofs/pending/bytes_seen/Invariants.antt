@@ -6,7 +6,4 @@ use Rattle.ere_seek.proofs.pending.bytes_seen.Given as goal
 
 abbrev pub invariant-loop-i : goal.invariant-loop-i
 invariant-loop-i l =
-    (l.start ≤ l.i) × (l.i ≤ l.end) × (State l.d l.s) × (Ran l.d l.x l.start (l.i - l.start) l.initial.s l.initial.f l.s l.f)
-
-abbrev pub decreases-loop-i : goal.decreases-loop-i
-decreases-loop-i l = l.end - l.i
+    (l.start ≤ l.i) × (State l.d l.s) × (Ran l.d l.x l.start (l.i - l.start) l.initial.s l.initial.f l.s l.f)

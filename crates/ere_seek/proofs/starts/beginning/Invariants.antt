@@ -1,11 +1,6 @@
 -- `beginning` meets its contract: each byte before i leads to the state in which nothing may come next.
-use Prim.Native.Nat.{◌-◌}
-use lib.ListN.{length}
 use Rattle.ere_seek.specs.Starts.{Passed}
 use Rattle.ere_seek.proofs.starts.beginning.Given as goal
 
 abbrev pub invariant-loop-i : goal.invariant-loop-i
 invariant-loop-i l = Passed l.d l.x l.from l.i
-
-abbrev pub decreases-loop-i : goal.decreases-loop-i
-decreases-loop-i l = length l.x - l.i
