@@ -12,15 +12,7 @@ use Rattle.edition.specs.Limits.{field_count}
 use Rattle.splitting.specs.Separator.{Separator}
 use Rattle.splitting.specs.Field.{Span, span, field, none, next_field, fields_from, fields_of}
 use Rattle.splitting.proofs.Turns.{fields-more, fields-none, fields-of, fields-empty}
-use Rattle.separators.specs.Kinds.{next_of}
 use Rattle.field_spans.specs.Spread.{with_span, with_spans, up_to_many}
-use Rattle.separators.specs.declared.steps.Step.{Step}
-
-pub step-found : (r : Step) → r.found ≡ true → next_of r ≡ field (span r.start r.size) r.after
-step-found r h = rw h
-
-pub step-none : (r : Step) → r.found ≡ false → next_of r ≡ none
-step-none r h = rw h
 
 -- a room takes no more fields than a record may have
 full : (room : List ℕ) (first k : ℕ) (fs : List Span) → field_count ≤ k → with_spans room first k fs ≡ room

@@ -49,15 +49,12 @@ pub fn split_into(
         return 0;
     }
     let mut at: usize = 0;
-    let mut n: usize = 0;
-    while n <= Edition::FIELDS {
-        let f = separators::next_field(text, kind, edition, t, at);
-        if !f.found {
+    for n in 0..Edition::FIELDS + 1 {
+        let Some(f) = separators::next_field(text, kind, edition, t, at) else {
             return n;
-        }
+        };
         put_span(spans, first, n, f.start, f.size);
         at = f.after;
-        n += 1;
     }
-    n
+    Edition::FIELDS + 1
 }

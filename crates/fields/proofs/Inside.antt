@@ -6,7 +6,7 @@ use mathlib.Core.Option.{Option, some, none}
 use Prim.Native.Nat.{ℕ, zero, suc, ◌+◌, ◌-◌, ◌≤◌, ◌<◌}
 use native.Mathlib.Omega.{arith}
 use native.Mathlib.Nat.{add_comm}
-use lib.ListN.{length, get_or}
+use lib.ListN.{length, get_or, take, drop}
 use lib.Dec.{leb}
 use borrow.Rule.Slice.PartMut.{mid_of}
 use Rattle.edition.specs.Limits.{record_bytes, field_count}
@@ -19,14 +19,14 @@ use Rattle.splitting.specs.Splitting.{split_of, count_of, span_of, text_of}
 use Rattle.splitting.proofs.Turns.{ordered}
 use Rattle.fields.specs.Answer.{counting_of, place_of}
 use Rattle.field_spans.specs.Spread.{room_of}
-use Rattle.fields.specs.declared.entries.Splitting.TheVariants.{Fields}
+use Rattle.std.specs.Prelude.{Ok}
 use Rattle.field_spans.proofs.Located.{field-whole, field_past, field-inside}
 use Rattle.fields.proofs.Entering.{Has, has_split}
 
 -- ---- read off the room
 
 module _ (edition : ℕ) (separator text room₀ : List ℕ) (k n : ℕ)
-    (h : counting_of (Fields n) ≡ count_of (split_of edition separator text)) where
+    (h : counting_of (Ok n) ≡ count_of (split_of edition separator text)) where
   has : Has n (split_of edition separator text) room₀ (k - 1) (room_of edition separator text (k - 1) room₀)
   has = has_split edition separator text room₀ (k - 1) n h
 
@@ -96,3 +96,10 @@ module _ (text : List ℕ) (p : ℕ × ℕ) (a n : ℕ) (f : Span) (e : span a n
 
   pub handed-within : (end : ℕ) → Within end f → a + n ≤ end
   handed-within end h = subst (Within end) (sym e) h
+
+-- `&text[end..]`, of the empty part at the end
+pub handed-none : (text : List ℕ) (f : Span) → span (length text) 0 ≡ f
+    → take (length text - length text) (drop (length text) text) ≡ text_of text f
+handed-none text f e =
+    let z : length text ≡ length text + 0 = omega arith in
+    part-lent text (length text) (length text) 0 z ∙ ap (text_of text) e

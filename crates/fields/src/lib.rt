@@ -3,4 +3,4 @@
 
 mod entries;
 
-pub use entries::{Located, Splitting, field, locate, split};
+pub use entries::{Located, SplitError, field, locate, split};

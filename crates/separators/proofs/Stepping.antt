@@ -13,8 +13,7 @@ use Rattle.buffer.proofs.First.{first-byte-most}
 use Rattle.buffer.proofs.Lent.{tail-lent}
 use Rattle.ere_meaning.specs.Tree.{Class, Ere}
 use Rattle.ere_search.specs.Find.{Finds, Inside, match_of}
-use Rattle.ere_search.specs.declared.search.Found.{Found}
-use Rattle.ere_search.specs.declared.search.Found.TheVariants.{At}
+use Rattle.std.specs.Prelude.{Option, Some}
 use Rattle.ere.specs.Answer.{Serves, Bytes}
 use Rattle.ere.proofs.Serving.{serves-answer}
 use Rattle.splitting.specs.Separator.{Separator, blank, byte, ere}
@@ -62,7 +61,7 @@ module _ (text : List ℕ) (at : ℕ) where
 
   -- ---- an ERE
 
-  pub ere-is : (t : List ℕ) (r : Found) → at ≤ length text → Bytes text → Finds t (mid_of at (length text - at) text) at 1 r → (e : Ere Class) → Serves t e
+  pub ere-is : (t : List ℕ) (r : Option (ℕ × ℕ)) → at ≤ length text → Bytes text → Finds t (mid_of at (length text - at) text) at 1 r → (e : Ere Class) → Serves t e
       → until_separator at (length text) (match_of r) ≡ next_field text (ere e) at
   unfolding next_field
   ere-is t r h bytes f e v =
@@ -75,7 +74,7 @@ module _ (text : List ℕ) (at : ℕ) where
   pub next-goes : (s : Separator) (o : Next) → o ≡ next_field text s at → Goes at (length text) o
   next-goes s o e = rw e (goes text s at)
 
-  pub found-goes : (s n : ℕ) → at ≤ length text → Inside at 1 (length (mid_of at (length text - at) text)) (At s n)
+  pub found-goes : (s n : ℕ) → at ≤ length text → Inside at 1 (length (mid_of at (length text - at) text)) (Some (s, n))
       → Goes at (length text) (field (span at (s - at)) (s + n))
   found-goes s n h i =
       let l = ap length (tail-lent text at) ∙ length-drop at text in

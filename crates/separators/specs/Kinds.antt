@@ -1,6 +1,6 @@
 -- Internal: cited by private contracts only. What the code's own values stand for: the kind of a separator, and the
 -- next field.
-use Rattle.std.specs.Prelude.{◌≡◌, cond, List, ℕ, length}
+use Rattle.std.specs.Prelude.{◌≡◌, List, ℕ, length, Option, Some, None}
 use Rattle.std.proofs.Math.Option.{some, none}
 use Rattle.ere_meaning.specs.Tree.{Class, Ere}
 use Rattle.ere_table.specs.Table.{table_words}
@@ -36,5 +36,6 @@ Tells edition bytes t Pattern = Told edition bytes t Pattern
 Tells edition bytes t Refused = separator_of edition bytes ≡ none
 
 -- a step's answer
-abbrev pub next_of : Step → Next
-next_of r = cond r.found (field (span r.start r.size) r.after) nothing
+abbrev pub next_of : Option Step → Next
+next_of (Some r) = field (span r.start r.size) r.after
+next_of None = nothing

@@ -10,13 +10,10 @@ ghost use Rattle.separators.specs.Kinds.{Sized, Means, next_of};
 
 use crate::kinds::Kind;
 use edition::Edition;
-use ere_search::Found;
 
-// The next field, and the place from which on the one after it is looked for; unless `found`, there is none. Numbers
-// instead of an enum with a part: a copy of an enum moves its unused bytes too.
+// A field, and the place from which on the one after it is looked for.
 #[derive(Drop)]
 pub struct Step {
-    pub found: bool,
     pub start: usize,
     pub size: usize,
     pub after: usize,
@@ -34,39 +31,32 @@ fn run_end(text: &[u8], edition: Edition, blank: bool, at: usize) -> usize
 }
 
 // Returns the next field between blanks.
-fn next_word(text: &[u8], edition: Edition, at: usize) -> Step
+fn next_word(text: &[u8], edition: Edition, at: usize) -> Option<Step>
     requires { at ≤ length text.now }
     ensures { (Goes at (length text.now) (next_of result))
         × (next_of result ≡ next_field text.now (blank (blanks edition.number)) at) }
 {
     let start = run_end(text, edition, true, at);
     if text.len() <= start {
-        return Step {
-            found: false,
-            start: 0,
-            size: 0,
-            after: 0,
-        };
+        return None;
     }
     // The byte at `start` is no blank.
     let end = run_end(text, edition, false, start + 1);
-    Step {
-        found: true,
-        start: start,
+    Some(Step {
+        start,
         size: end - start,
         after: end,
-    }
+    })
 }
 
 // Returns the next field up to the byte b.
 fn next_by_byte(text: &[u8], b: u8, at: usize) -> Step
     requires { at ≤ length text.now }
-    ensures { (Goes at (length text.now) (next_of result))
-        × (next_of result ≡ next_field text.now (byte b) at) }
+    ensures { (Goes at (length text.now) (next_of (Some result)))
+        × (next_of (Some result) ≡ next_field text.now (byte b) at) }
 {
     let end = lanes::first_byte_from(text, at, b);
     Step {
-        found: true,
         start: at,
         size: end - at,
         after: end + 1,
@@ -76,19 +66,17 @@ fn next_by_byte(text: &[u8], b: u8, at: usize) -> Step
 // Returns the next field up to a nonempty match of the table's ERE.
 fn next_by_pattern(t: &[u64], text: &[u8], at: usize) -> Step
     requires { (length t.now ≡ table_words) × (at ≤ length text.now) }
-    ensures { (Goes at (length text.now) (next_of result))
-        × ((e : Ere Class) → Serves t.now e → next_of result ≡ next_field text.now (ere e) at) }
+    ensures { (Goes at (length text.now) (next_of (Some result)))
+        × ((e : Ere Class) → Serves t.now e → next_of (Some result) ≡ next_field text.now (ere e) at) }
 {
     let end = text.len();
     match ere_search::find_from(t, &text[at..], at, 1) {
-        Found::At(s, n) => Step {
-            found: true,
+        Some((s, n)) => Step {
             start: at,
             size: s - at,
             after: s + n,
         },
-        Found::Nowhere => Step {
-            found: true,
+        None => Step {
             start: at,
             size: end - at,
             after: end + 1,
@@ -96,31 +84,21 @@ fn next_by_pattern(t: &[u64], text: &[u8], at: usize) -> Step
     }
 }
 
-// Returns the next field from the place `at` on. Whatever the table has, the field is in the text, and the place after
-// it moves on.
-pub fn next_field(text: &[u8], kind: Kind, edition: Edition, t: &[u64], at: usize) -> Step
+// Returns the next field from the place `at` on, if there is one. Whatever the table has, the field is in the text, and
+// the place after it moves on.
+pub fn next_field(text: &[u8], kind: Kind, edition: Edition, t: &[u64], at: usize) -> Option<Step>
     requires { Sized kind t.now }
     ensures { (Goes at (length text.now) (next_of result))
         × ((s : Separator) → Means edition.number t.now kind s
         → next_of result ≡ next_field text.now s at) }
 {
     if text.len() < at {
-        return Step {
-            found: false,
-            start: 0,
-            size: 0,
-            after: 0,
-        };
+        return None;
     }
     match kind {
         Kind::Blank => next_word(text, edition, at),
-        Kind::Byte(b) => next_by_byte(text, b, at),
-        Kind::Pattern => next_by_pattern(t, text, at),
-        Kind::Refused => Step {
-            found: false,
-            start: 0,
-            size: 0,
-            after: 0,
-        },
+        Kind::Byte(b) => Some(next_by_byte(text, b, at)),
+        Kind::Pattern => Some(next_by_pattern(t, text, at)),
+        Kind::Refused => None,
     }
 }
