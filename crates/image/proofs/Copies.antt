@@ -1,6 +1,5 @@
 -- What reader and writer answer, by their passes: an image's content words or its bytes, whatever it is read from.
 use mathlib.Core.Path.{◌≡◌, refl, sym, ap, ap₂, ◌∙◌}
-use mathlib.Core.Bool.{true, false}
 use mathlib.Core.List.{List, [], ◌∷◌, ◌++◌}
 use mathlib.Core.Option.{Option, some, none}
 use Prim.Native.Nat.{ℕ, ◌≤◌, ◌<◌}
@@ -15,14 +14,13 @@ use Rattle.varint.specs.Room.{with_all}
 use Rattle.varint.proofs.Words.{all-fits}
 use Rattle.image.specs.Pass.{Filled, passed_of, pass_of}
 use Rattle.image.specs.Copy.{copying, given, is_image}
-use Rattle.image.specs.declared.passed.Passed.{Passed}
-use Rattle.image.specs.declared.passed.Passed.TheVariants.{Whole, Malformed}
+use Rattle.std.specs.Prelude.{Option as Answer, Some, None, is_some}
 
 -- what a whole pass leaves in the room
-left_in : (r : Passed) (room : List ℕ) (f : Filled) → passed_of r room ≡ some f → room ≡ f.room
+left_in : (r : Answer ℕ) (room : List ℕ) (f : Filled) → passed_of r room ≡ some f → room ≡ f.room
 unfolding passed_of
-left_in (Whole n) room f h = ap (λ (x : Filled). x.room) (some_one refl h)
-left_in Malformed room f h = absurd (none-some h)
+left_in (Some n) room f h = ap (λ (x : Filled). x.room) (some_one refl h)
+left_in None room f h = absurd (none-some h)
 
 module _ (w : Image → List ℕ) where
   -- there is an image, and it is written by n elements
@@ -32,42 +30,43 @@ module _ (w : Image → List ℕ) where
     long : length (w image) ≡ n
 
   -- by a first pass, over a room of its own
-  module _ (own : List ℕ) (r : Passed) (own' : List ℕ) (o : Option Image)
+  module _ (own : List ℕ) (r : Answer ℕ) (own' : List ℕ) (o : Option Image)
       (first : passed_of r own' ≡ pass_of w own o)
     where
-      no-image : r ≡ Malformed → o ≡ none
+      no-image : r ≡ None → o ≡ none
       unfolding passed_of pass_of
       no-image e = by o (rw e at first)
         where
-          by : (o : Option Image) → passed_of Malformed own' ≡ pass_of w own o → o ≡ none
+          by : (o : Option Image) → passed_of None own' ≡ pass_of w own o → o ≡ none
           by none h = refl
           by (some i) h = absurd (none-some h)
 
-      an-image : (n : ℕ) → r ≡ Whole n → Long n o
+      an-image : (n : ℕ) → r ≡ Some n → Long n o
       unfolding passed_of pass_of
       an-image n e = by o (rw e at first)
         where
-          by : (o : Option Image) → passed_of (Whole n) own' ≡ pass_of w own o → Long n o
+          by : (o : Option Image) → passed_of (Some n) own' ≡ pass_of w own o → Long n o
           by none h = absurd (none-some (sym h))
           by (some i) h = record { image = i; is = refl; long = ap (λ (x : Filled). x.count) (some_one h refl) }
 
-      pub pass-is-image : (n : ℕ) → r ≡ Whole n → true ≡ is_image o
-      pass-is-image n e = sym (ap is_image (an-image n e).is)
-
-      pub pass-is-none : r ≡ Malformed → false ≡ is_image o
-      pass-is-none e = sym (ap is_image (no-image e))
+      pub pass-tells : is_some r ≡ is_image o
+      pass-tells = by r refl
+        where
+          by : (x : Answer ℕ) → r ≡ x → is_some x ≡ is_image o
+          by None e = sym (ap is_image (no-image e))
+          by (Some n) e = sym (ap is_image (an-image n e).is)
 
       module _ (room : List ℕ) where
-        pub copied-malformed : r ≡ Malformed → copying image_malformed 0 room ≡ given w room o
+        pub copied-malformed : r ≡ None → copying image_malformed 0 room ≡ given w room o
         copied-malformed e = sym (ap (given w room) (no-image e))
 
-        pub copied-no-room : (n : ℕ) → r ≡ Whole n → length room < n → copying room_too_small 0 room ≡ given w room o
+        pub copied-no-room : (n : ℕ) → r ≡ Some n → length room < n → copying room_too_small 0 room ≡ given w room o
         copied-no-room n e b =
             let i = an-image n e in
             rw (i.is, lt-leb (length (w i.image)) (length room) (omega (arith, i.long)))
 
         -- and a second one, over the room
-        pub copied-written : (n : ℕ) → r ≡ Whole n → n ≤ length room → (again : Passed) (room' : List ℕ)
+        pub copied-written : (n : ℕ) → r ≡ Some n → n ≤ length room → (again : Answer ℕ) (room' : List ℕ)
             → passed_of again room' ≡ pass_of w room o → copying done n room' ≡ given w room o
         unfolding pass_of
         copied-written n e b again room' second =

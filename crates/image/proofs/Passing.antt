@@ -1,6 +1,6 @@
 -- A pass over an image, whatever it reads from and however it writes: with what is still to come, what it has written
 -- comes to the same at each turn.
-use mathlib.Core.Path.{◌≡◌, refl, sym, ap, ap₂, subst, ◌∙◌}
+use mathlib.Core.Path.{◌≡◌, refl, sym, ap, ap₂, ◌∙◌}
 use mathlib.Core.Bool.{Bool, true, false, cond}
 use mathlib.Core.List.{List, [], ◌++◌}
 use mathlib.Core.Option.{Option, some, none}
@@ -15,18 +15,14 @@ use Rattle.image_format.specs.Image.{Image}
 use Rattle.image_format.specs.Reading.{Source, read_image}
 use Rattle.image_format.specs.Writing.{written}
 use Rattle.varint.specs.Room.{with_all}
-use Rattle.varint.specs.declared.numbers.Taken.{Taken}
-use Rattle.varint.specs.declared.numbers.Taken.TheVariants.{Number, Nothing}
+use Rattle.std.specs.Prelude.{Option as Answer, Some, None}
 use Rattle.varint.proofs.Words.{all_append}
 use Rattle.image_stages.specs.Stages.{at_end, start, after, taken_at, written_at}
 use Rattle.image_stages.specs.declared.stages.State.{State}
-use Rattle.image_stages.specs.declared.stages.Next.{Next}
-use Rattle.image_stages.specs.declared.stages.Next.TheVariants.{At, Unknown}
 use Rattle.image_stages.proofs.Transcript.{before, transcript, ended_with, mapped}
 use Rattle.image_stages.proofs.Steps.{rest, onward, rest-step, rest_end, rest-start}
 use Rattle.image_stages.proofs.Tellings.{whole-transcript}
 use Rattle.image.specs.Pass.{TakesStage, Filled, passed_of, pass_of}
-use Rattle.image.specs.declared.passed.Passed.TheVariants.{Whole, Malformed}
 
 -- what a room has from index k on, if nothing is left of the source
 abbrev ended : List ℕ → ℕ → List ℕ → Bool → Option Filled
@@ -85,7 +81,7 @@ module _ (source : Source) (write : ℕ → List ℕ) (l room₀ : List ℕ) (mo
   pub record Took (room : List ℕ) (s : State) (at k v n : ℕ) : Type 0 where
     pub going : Going room s at k
     pub opens : s.stage < at_end
-    pub takes : TakesStage source l s.stage at (Number v n)
+    pub takes : TakesStage source l s.stage at (Some (v, n))
 
   pub pass-starts : (s : State) → s ≡ start → Going room₀ s 0 0
   pass-starts s e =
@@ -109,10 +105,10 @@ module _ {source : Source} {write : ℕ → List ℕ} {l room₀ room : List ℕ
 
   module _ (g : Going source write l room₀ most room s at k) where
     -- nothing comes where something should
-    pub pass-cut : s.stage < at_end → (r : Taken) → TakesStage source l s.stage at r → r ≡ Nothing
-        → passed_of Malformed room ≡ answer source write l room₀
+    pub pass-cut : s.stage < at_end → taken_at source s.stage (drop at l) ≡ none
+        → passed_of None room ≡ answer source write l room₀
     unfolding finished passed_of
-    pass-cut opens r t e = sym (comes-step g opens none (subst (TakesStage source l s.stage at) e t))
+    pass-cut opens t = sym (comes-step g opens none t)
 
     -- nothing is to come
     module _ (ends : at_end ≤ s.stage) where
@@ -120,14 +116,14 @@ module _ {source : Source} {write : ℕ → List ℕ} {l room₀ room : List ℕ
       comes-end = ap (finished room k) (sym (rest_end source write s ends (drop at l))) ∙ g.same
 
       -- "Nothing follows."
-      pub pass-followed : at < length l → passed_of Malformed room ≡ answer source write l room₀
+      pub pass-followed : at < length l → passed_of None room ≡ answer source write l room₀
       unfolding finished passed_of
       pass-followed h =
           let n = length-drop at l in
           let e : eqb (length (drop at l)) 0 ≡ false = ne_eqb (length (drop at l)) 0 (λ z. omega arith) in
           rw e at comes-end
 
-      pub pass-whole : length l ≤ at → passed_of (Whole k) room ≡ answer source write l room₀
+      pub pass-whole : length l ≤ at → passed_of (Some k) room ≡ answer source write l room₀
       unfolding finished passed_of with_all
       pass-whole h = rw (drop_of_length-le l {i = at} h, add-zero) at comes-end
 
@@ -136,10 +132,10 @@ module _ {source : Source} {write : ℕ → List ℕ} {l room₀ room : List ℕ
     ws = written_at write s.stage v
 
     -- what a pass comes to by what is after it
-    abbrev onto : Next → Option Filled
+    abbrev onto : Answer State → Option Filled
     onto a = finished (with_all room k ws) (k + length ws) (onward source write a (drop n l))
 
-    comes-on : (a : Next) → after s v ≡ a → onto a ≡ answer source write l room₀
+    comes-on : (a : Answer State) → after s v ≡ a → onto a ≡ answer source write l room₀
     comes-on a e =
         sym
         (comes-step t.going t.opens (parsed v (drop n l)) t.takes.0
@@ -147,15 +143,15 @@ module _ {source : Source} {write : ℕ → List ℕ} {l room₀ room : List ℕ
         ∙ ap onto e)
 
     -- an unknown edition, kind or code
-    pub pass-unknown : (room' : List ℕ) → after s v ≡ Unknown → passed_of Malformed room' ≡ answer source write l room₀
+    pub pass-unknown : (room' : List ℕ) → after s v ≡ None → passed_of None room' ≡ answer source write l room₀
     unfolding finished passed_of
-    pass-unknown room' e = comes-on Unknown e
+    pass-unknown room' e = comes-on None e
 
     -- a turn
-    pub pass-goes : (next : State) (room' : List ℕ) (k' : ℕ) → after s v ≡ At next → length ws ≤ most
+    pub pass-goes : (next : State) (room' : List ℕ) (k' : ℕ) → after s v ≡ Some next → length ws ≤ most
         → k' ≡ k + length ws → room' ≡ with_all room k ws → Going source write l room₀ most room' next n k'
     pass-goes next room' k' e b c r =
-        record { within = t.takes.2; few = bound; same = rw (c, r) (comes-on (At next) e) }
+        record { within = t.takes.2; few = bound; same = rw (c, r) (comes-on (Some next) e) }
       where
         bound : k' ≤ most * n
         bound =

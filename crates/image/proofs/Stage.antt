@@ -17,8 +17,7 @@ use Rattle.image_format.specs.Numbers.{coded}
 use Rattle.image_format.specs.Reading.{word_up_to, from_bytes, from_words}
 use Rattle.image_stages.specs.Stages.{is_byte, most_at, taken_at, written_at}
 use Rattle.varint.specs.Take.{TakesAt}
-use Rattle.varint.specs.declared.numbers.Taken.{Taken}
-use Rattle.varint.specs.declared.numbers.Taken.TheVariants.{Number, Nothing}
+use Rattle.std.specs.Prelude.{Option as Answer, Some, None}
 use Rattle.varint.proofs.Puts.{coded-short}
 use Rattle.image.specs.Pass.{TakesStage}
 
@@ -51,14 +50,14 @@ module _ (stage : ℕ) where
       by true = refl
       by false = refl
 
-  pub words-most : (l : List ℕ) (at v n : ℕ) → TakesStage from_words l stage at (Number v n) → v ≤ most_at stage
+  pub words-most : (l : List ℕ) (at v n : ℕ) → TakesStage from_words l stage at (Some (v, n)) → v ≤ most_at stage
   words-most l at v n h = up-most (most_at stage) (drop at l) v (drop n l) (sym (words-at (drop at l)) ∙ h.0)
 
   -- of bytes a number comes but for a text byte
-  pub number_at : (l : List ℕ) (at : ℕ) (r : Taken) → is_byte stage ≡ false → TakesAt l at r
+  pub number_at : (l : List ℕ) (at : ℕ) (r : Answer (ℕ × ℕ)) → is_byte stage ≡ false → TakesAt l at r
       → TakesStage from_bytes l stage at r
-  number_at l at (Number v n) e h = (rw e h.0, h.1, h.2)
-  number_at l at Nothing e h = rw e h
+  number_at l at (Some r) e h = (rw e h.0, h.1, h.2)
+  number_at l at None e h = rw e h
 
   -- ---- how it is written
 

@@ -1,13 +1,13 @@
 -- Document 01, "Outcomes": "Image reader: 8, then 7. Image writer: 8 for content that no reading gives, then 7. Both
 -- answer the length written, 0 on a refusal; the room beyond it is untouched."
-use Rattle.std.specs.Prelude.{Bool, true, false, cond, List, ◌++◌, ℕ, length, drop, leb}
+use Rattle.std.specs.Prelude.{Result, Ok, Err, Bool, true, false, cond, List, ◌++◌, ℕ, length, drop, leb}
 use Rattle.std.proofs.Math.Option.{Option, some, none}
 use Rattle.edition.specs.Outcomes.{done, room_too_small, image_malformed}
 use Rattle.image_format.specs.Image.{Image}
 use Rattle.image_format.specs.Reading.{read_image, from_bytes, from_words}
 use Rattle.image_format.specs.Writing.{bytes_of, content_of}
-use Rattle.image.specs.declared.copied.Copied.{Copied}
-use Rattle.image.specs.declared.copied.Copied.TheVariants.{Written, Malformed, NoRoom}
+use Rattle.image.specs.declared.error.CopyError.{CopyError}
+use Rattle.image.specs.declared.error.CopyError.TheVariants.{Malformed, NoRoom}
 
 -- the outcome, the length written, and the room afterwards
 pub record Copying : Type 0 where
@@ -19,10 +19,10 @@ abbrev pub copying : ℕ → ℕ → List ℕ → Copying
 copying o n room = record { outcome = o; length = n; room = room }
 
 -- what a case of an answer says, with the room
-abbrev pub copying_of : Copied → List ℕ → Copying
-copying_of (Written n) room = copying done n room
-copying_of Malformed room = copying image_malformed 0 room
-copying_of NoRoom room = copying room_too_small 0 room
+abbrev pub copying_of : Result ℕ CopyError → List ℕ → Copying
+copying_of (Ok n) room = copying done n room
+copying_of (Err Malformed) room = copying image_malformed 0 room
+copying_of (Err NoRoom) room = copying room_too_small 0 room
 
 -- a list put at the front of a room, if it fits
 abbrev pub fitted : List ℕ → List ℕ → Copying

@@ -1,10 +1,8 @@
-// Images: reading one to its content words, and what reader and writer answer.
+// Images: reading one to its content words, and why reader and writer write nothing.
 #![tactic(auto)]
 
-mod copied;
-mod passed;
+mod error;
 mod reading;
 
-pub use copied::Copied;
-pub use passed::Passed;
+pub use error::CopyError;
 pub use reading::{is_image, read};

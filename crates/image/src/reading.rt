@@ -10,13 +10,11 @@ ghost use Rattle.varint.specs.Room.{with_one};
 ghost use Rattle.image.specs.Pass.{TakesStage, passed_of, pass_of};
 ghost use Rattle.image.specs.Copy.{copying_of, read_of, is_image};
 
-use crate::copied::Copied;
-use crate::passed::Passed;
-use image_stages::Next;
-use varint::Taken;
+use crate::error::CopyError;
 
-// Takes what comes at a stage off the bytes, from a place on: a text byte or a number.
-fn take(image: &[u8], stage: u64, at: usize) -> Taken
+// Takes what comes at a stage off the bytes, from a place on: a text byte or a number; returns it and the place after
+// it.
+fn take(image: &[u8], stage: u64, at: usize) -> Option<(u64, usize)>
     requires { at ≤ length image.now }
     ensures { TakesStage from_bytes image.now stage at result }
 {
@@ -24,9 +22,9 @@ fn take(image: &[u8], stage: u64, at: usize) -> Taken
         return varint::take_number(image, at);
     }
     if image.len() <= at {
-        return Taken::Nothing;
+        return None;
     }
-    Taken::Number(image[at] as u64, at + 1)
+    Some((image[at] as u64, at + 1))
 }
 
 // Writes word k, if the room has one there.
@@ -38,8 +36,9 @@ fn put_word(room: &mut [u64], k: usize, x: u64)
     }
 }
 
-// Passes over a whole image, and writes a word for each of its numbers and text bytes, as far as the room goes.
-fn pass(image: &[u8], words: &mut [u64]) -> Passed
+// Passes over a whole image, and writes a word for each of its numbers and text bytes, as far as the room goes; returns
+// how many there are.
+fn pass(image: &[u8], words: &mut [u64]) -> Option<usize>
     ensures { passed_of result words.new
         ≡ pass_of content_of words.old (read_image from_bytes image.now) }
 {
@@ -47,46 +46,36 @@ fn pass(image: &[u8], words: &mut [u64]) -> Passed
     let mut at: usize = 0;
     let mut k: usize = 0;
     while s.stage < image_stages::END {
-        let Taken::Number(v, end) = take(image, s.stage, at) else {
-            return Passed::Malformed;
-        };
+        let (v, end) = take(image, s.stage, at)?;
         put_word(words, k, v);
-        let Next::At(next) = image_stages::after(s, v) else {
-            return Passed::Malformed;
-        };
-        s = next;
+        s = image_stages::after(s, v)?;
         at = end;
         k += 1;
     }
     if at < image.len() {
-        return Passed::Malformed;
+        return None;
     }
-    Passed::Whole(k)
+    Some(k)
 }
 
 // Tells whether the bytes are an image's.
 pub fn is_image(image: &[u8]) -> bool
     ensures { result ≡ is_image (read_image from_bytes image.now) }
 {
-    let mut none = [0u64; 0];
-    let p = pass(image, &mut none);
-    match p {
-        Passed::Whole(_) => true,
-        Passed::Malformed => false,
-    }
+    pass(image, &mut [0u64; 0]).is_some()
 }
 
-// Reads an image: its content, if the room has words enough; else the room is as it was. So a first pass, which says
-// how many words there are, is lent no word of the room.
-pub fn read(image: &[u8], content: &mut [u64]) -> Copied
+// Reads an image: its content, if the room has words enough, whose number is returned; else the room is as it was. So
+// a first pass, which says how many words there are, is lent no word of the room.
+pub fn read(image: &[u8], content: &mut [u64]) -> Result<usize, CopyError>
     ensures { copying_of result content.new ≡ read_of image.now content.old }
 {
-    let Passed::Whole(words) = pass(image, &mut content[0..0]) else {
-        return Copied::Malformed;
+    let Some(words) = pass(image, &mut content[0..0]) else {
+        return Err(CopyError::Malformed);
     };
     if content.len() < words {
-        return Copied::NoRoom;
+        return Err(CopyError::NoRoom);
     }
     pass(image, content);
-    Copied::Written(words)
+    Ok(words)
 }

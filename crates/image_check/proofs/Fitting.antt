@@ -23,6 +23,7 @@ use Rattle.image_index.specs.Lists.{ItemOf, taker_of, FitsOf, Indexes, Fits, Lis
 use Rattle.image_index.specs.declared.indexes.Kind.{Kind}
 use Rattle.image_index.specs.declared.indexes.Kind.TheVariants.{Constants, Eres, Instructions}
 use Rattle.image_index.specs.declared.indexes.Listed.{Listed}
+use Rattle.std.specs.Prelude.{Some, None}
 
 -- ---- tests
 
@@ -92,15 +93,14 @@ module _ (i : Image) where
 
   -- ---- a list by what the code found
 
-  module _ (k : Kind) (xs : List (ItemOf k)) (l : List ℕ) (at : ℕ) (r : Listed) (index : List ℕ) (x : ListAt i.edition k l at r index)
-      (t : List ℕ) (e : counted from_bytes (taker_of i.edition k) (drop at l) ≡ parsed xs t) where
-    pub list-refused : (Checked i → Fits i.edition k l xs) → r.ok ≡ false → check i ≡ false
-    list-refused fit h = unchecked (λ c. x.refused h xs t e (fit c))
+  module _ (k : Kind) (xs : List (ItemOf k)) (l : List ℕ) (at : ℕ) (index t : List ℕ)
+      (e : counted from_bytes (taker_of i.edition k) (drop at l) ≡ parsed xs t) where
+    pub list-refused : ListAt i.edition k l at None index → (Checked i → Fits i.edition k l xs) → check i ≡ false
+    list-refused x fit = unchecked (λ c. x xs t e (fit c))
 
-    pub list-found : r.ok ≡ true
+    pub list-found : (r : Listed) → ListAt i.edition k l at (Some r) index
         → (t ≡ drop r.end l) × (r.count ≡ length xs) × (Fits i.edition k l xs) × (Indexes i.edition k l xs index)
-    list-found h =
-        let f = x.found h in
+    list-found r f =
         let same = taken-same f.1.taken e in (
           sym same.1,
           f.2 ∙ ap length same.0,

@@ -6,71 +6,53 @@ ghost use Rattle.image_check.specs.Sections.{SectionJudged, SectionsJudged, Imag
 ghost use Rattle.image_check.specs.Verdict.{outcome_of, check_of};
 
 use edition::Edition;
-use image_index::{Kind, Listed};
+use image_index::Kind;
 use image_instructions::Context;
 
-// What the checker answers.
-#[derive(Drop)]
-pub enum Verdict {
-    Accepted,
+// Why the checker does not accept an image.
+#[derive(Clone, Copy, PartialEq, Eq)]
+pub enum CheckError {
     Malformed,
     Rejected,
 }
 
-// Reads the section at a place with its index, and checks its instructions.
-fn section(image: &[u8], context: Context, at: usize, index: &mut [u32]) -> Listed
+// Reads the section at a place with its index, and checks its instructions; returns where it ends, if it passes.
+fn section(image: &[u8], context: Context, at: usize, index: &mut [u32]) -> Option<usize>
     requires { (at ≤ length image.now) × (length image.now < image_bound) × (instruction_count ≤ length index.old)
         × (context.users ≤ user_names) }
     ensures { SectionJudged context image.now at result }
 {
-    let s = image_index::list_at(image, context.edition, Kind::Instructions, at, index);
-    if !s.ok {
-        return s;
+    let s = image_index::list_at(image, context.edition, Kind::Instructions, at, index)?;
+    if !image_instructions::check_instructions(index, context, s.count) {
+        return None;
     }
-    Listed {
-        ok: image_instructions::check_instructions(index, context, s.count),
-        count: s.count,
-        end: s.end,
-    }
+    Some(s.end)
 }
 
 // Tells whether the sections from a place on pass, and end the image. One index serves all three.
-fn sections(
-    image: &[u8],
-    edition: u64,
-    users: u64,
-    constants: usize,
-    eres: usize,
-    at: usize,
-) -> bool
-    requires { (at ≤ length image.now) × (length image.now < image_bound) × (users ≤ user_names) }
-    ensures { SectionsJudged edition users constants eres image.now at result }
+fn sections(image: &[u8], context: Context, at: usize) -> bool
+    requires { (at ≤ length image.now) × (length image.now < image_bound) × (context.users ≤ user_names) }
+    ensures { SectionsJudged context.edition context.users context.constants context.eres image.now at result }
 {
     let mut index = [0u32; Edition::INSTRUCTIONS];
     let outside_main = Context {
-        edition,
-        users,
-        constants: constants as u64,
-        eres: eres as u64,
         main: false,
+        ..context
     };
     let in_main = Context {
-        edition,
-        users,
-        constants: constants as u64,
-        eres: eres as u64,
         main: true,
+        ..context
     };
-    let begin = section(image, outside_main, at, &mut index);
-    if !begin.ok {
+    let Some(begin) = section(image, outside_main, at, &mut index) else {
         return false;
-    }
-    let main = section(image, in_main, begin.end, &mut index);
-    if !main.ok {
+    };
+    let Some(main) = section(image, in_main, begin, &mut index) else {
         return false;
-    }
-    let end = section(image, outside_main, main.end, &mut index);
-    end.ok && end.end == image.len()
+    };
+    let Some(end) = section(image, outside_main, main, &mut index) else {
+        return false;
+    };
+    end == image.len()
 }
 
 // Tells whether the bytes are an image that passes the check.
@@ -79,40 +61,39 @@ fn passes(image: &[u8]) -> bool
     ensures { ImageJudged image.now result }
 {
     let mut places = [0u32; 0];
-    let h = image_items::header_of(image);
-    if !h.ok {
+    let Some(h) = image_items::header_of(image) else {
         return false;
-    }
+    };
     if (Edition::USERS as u64) < h.users {
         return false;
     }
-    let constants = image_index::list_at(image, h.edition, Kind::Constants, h.at, &mut places);
-    if !constants.ok {
+    let Some(constants) = image_index::list_at(image, h.edition, Kind::Constants, h.at, &mut places)
+    else {
         return false;
-    }
-    let eres = image_index::list_at(image, h.edition, Kind::Eres, constants.end, &mut places);
-    if !eres.ok {
+    };
+    let Some(eres) = image_index::list_at(image, h.edition, Kind::Eres, constants.end, &mut places)
+    else {
         return false;
-    }
-    sections(
-        image,
-        h.edition,
-        h.users,
-        constants.count,
-        eres.count,
-        eres.end,
-    )
+    };
+    let context = Context {
+        edition: h.edition,
+        users: h.users,
+        constants: constants.count as u64,
+        eres: eres.count as u64,
+        main: false,
+    };
+    sections(image, context, eres.end)
 }
 
 // Checks an image. One that passes is walked through once; the form of any other is looked at by itself.
-pub fn check(image: &[u8]) -> Verdict
+pub fn check(image: &[u8]) -> Result<(), CheckError>
     ensures { outcome_of result ≡ check_of image.now }
 {
     if image.len() < image_index::IMAGE_BYTES && passes(image) {
-        return Verdict::Accepted;
+        return Ok(());
     }
     if image::is_image(image) {
-        return Verdict::Rejected;
+        return Err(CheckError::Rejected);
     }
-    Verdict::Malformed
+    Err(CheckError::Malformed)
 }

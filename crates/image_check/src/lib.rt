@@ -3,4 +3,4 @@
 
 mod checking;
 
-pub use checking::{Verdict, check};
+pub use checking::{CheckError, check};

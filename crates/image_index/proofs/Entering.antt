@@ -1,71 +1,62 @@
 -- An item's entry, by what is at the item's place.
 use mathlib.Core.Path.{◌≡◌, refl, sym, subst, ◌∙◌}
-use mathlib.Core.Bool.{Bool, true, false, cond}
 use mathlib.Core.List.{List, [], ◌∷◌}
 use mathlib.Core.Option.{none}
 use Prim.Native.Nat.{ℕ, zero, suc, ◌+◌, ◌-◌, ◌*◌, ◌/◌, ◌%◌, ◌≤◌, ◌<◌}
 use native.Mathlib.Omega.{arith}
 use lib.ListN.{length, take, drop}
-use lib.Dec.{eqb}
-use borrow.Author.Tests.{eqb-true}
 use Rattle.lists.proofs.Many.{same_item}
 use Rattle.lists.proofs.Options.{none-some}
 use Rattle.lists.specs.Elements.{Every, empty, cons}
 use Rattle.edition.specs.Limits.{text_bytes, instruction_count, operand_depth}
-use Rattle.buffer.specs.Parts.{part}
 use Rattle.buffer.proofs.Parts.{length_part}
 use Rattle.image_format.specs.Codes.{code_of}
-use Rattle.image_format.specs.Image.{number, text, Instruction}
+use Rattle.image_format.specs.Image.{Instruction}
 use Rattle.opcodes.specs.Rows.{operands_in}
-use Rattle.image_items.specs.Stands.{Stands, ConstantAt, constant_of, instruction_of}
-use Rattle.image_index.specs.Lists.{ItemOf, taker_of, FitsOf, TellsOf, packed, unpacked, EntryAt}
-use Rattle.image_items.specs.declared.items.Found.{Found}
+use Rattle.image_items.specs.Stands.{Stands, Inside, Within, bytes_of, constant_of, instruction_of}
+use Rattle.image_index.specs.Lists.{ItemOf, taker_of, FitsOf, packed, unpacked, EntryAt}
+use Rattle.image_items.specs.declared.items.Text.{Text}
+use Rattle.image_items.specs.declared.items.Constant.{Constant}
+use Rattle.image_items.specs.declared.items.Constant.TheVariants.{Number, Text as TextRead}
+use Rattle.std.specs.Prelude.{None}
 use Rattle.image_index.specs.declared.indexes.Kind.{Kind}
 use Rattle.image_index.specs.declared.indexes.Kind.TheVariants.{Constants, Instructions}
-use Rattle.image_index.specs.declared.indexes.Entry.{Entry}
-use Rattle.image_items.proofs.Standing.{never}
 
 -- ---- of any kind
 
-module _ (edition : ℕ) (k : Kind) (l : List ℕ) (at : ℕ) (r : Entry) where
+module _ (edition : ℕ) (k : Kind) (l : List ℕ) (at : ℕ) where
   -- nothing is there
-  pub entry-missing : r.ok ≡ false → taker_of edition k (drop at l) ≡ none → EntryAt edition k l at r
-  entry-missing e h = record { refused = λ g a t i f. none-some (sym h ∙ i); found = λ g. never e g }
+  pub entry-missing : taker_of edition k (drop at l) ≡ none → EntryAt edition k l at None
+  entry-missing h a t i f = none-some (sym h ∙ i)
 
   -- what is there doesn't fit
-  pub entry-unfit : r.ok ≡ false → (a : ItemOf k) (end : ℕ) → Stands (taker_of edition k) l at a end → (FitsOf edition k a → ⊥) → EntryAt edition k l at r
-  entry-unfit e a end s n =
-      record { refused = λ g b t i f. n (subst (FitsOf edition k) (sym (same_item s.taken i)) f); found = λ g. never e g }
-
-  pub entry-there : r.ok ≡ true → (a : ItemOf k) → Stands (taker_of edition k) l at a r.end → FitsOf edition k a → TellsOf edition k l r.entry a
-      → EntryAt edition k l at r
-  entry-there e a s f t = record { refused = λ g. never g e; found = λ g. (a, s, f, t) }
+  pub entry-unfit : (a : ItemOf k) (end : ℕ) → Stands (taker_of edition k) l at a end → (FitsOf edition k a → ⊥)
+      → EntryAt edition k l at None
+  entry-unfit a end s n b t i f = n (subst (FitsOf edition k) (sym (same_item s.taken i)) f)
 
 -- ---- constants
 
-module _ (edition : ℕ) (l : List ℕ) (at : ℕ) (c : Found) (y : ConstantAt l at c) where
-  bytes : List ℕ
-  bytes = part c.start (c.end - c.start) l
+module _ (edition : ℕ) (l : List ℕ) where
+  text-size : (t : Text) → Inside l t → length (bytes_of l t) ≡ t.end - t.start
+  text-size t h = length_part t.start (t.end - t.start) l (omega (arith, h.0, h.1))
 
-  bytes-length : length bytes ≡ c.end - c.start
-  unfolding bytes
-  bytes-length = length_part c.start (c.end - c.start) l (omega (arith, y.ordered, y.inside))
+  pub number-fits : (c : Constant) → ((t : Text) → c ≡ TextRead t → ⊥) → FitsOf edition Constants (constant_of l c)
+  number-fits (Number n) h = tt
+  number-fits (TextRead t) h = absurd (h t refl)
 
-  pub constant-fits : c.end - c.start ≤ text_bytes → FitsOf edition Constants (constant_of l c)
-  unfolding bytes
-  constant-fits few = by (eqb c.kind 0)
-    where
-      by : (b : Bool) → FitsOf edition Constants (cond b (number c.value) (text bytes))
-      by true = tt
-      by false = omega (arith, bytes-length)
+  module _ (c : Constant) (w : Within l c) (t : Text) (e : c ≡ TextRead t) where
+    size-of-text : length (bytes_of l t) ≡ t.end - t.start
+    size-of-text = let i : Inside l t = rw e at w in text-size t i
 
-  pub constant-long : c.ok ≡ true → text_bytes < c.end - c.start → FitsOf edition Constants (constant_of l c) → ⊥
-  unfolding bytes
-  constant-long h many = by (eqb c.kind 0) refl
-    where
-      by : (b : Bool) → eqb c.kind 0 ≡ b → FitsOf edition Constants (cond b (number c.value) (text bytes)) → ⊥
-      by true e f = omega (arith, y.empty h (eqb-true c.kind 0 e))
-      by false e f = omega (arith, bytes-length)
+    pub text-fits : t.end - t.start ≤ text_bytes → FitsOf edition Constants (constant_of l c)
+    text-fits few =
+        let f : FitsOf edition Constants (constant_of l (TextRead t)) = omega (arith, size-of-text, few) in
+        subst (λ (x : Constant). FitsOf edition Constants (constant_of l x)) (sym e) f
+
+    pub text-long : text_bytes < t.end - t.start → FitsOf edition Constants (constant_of l c) → ⊥
+    text-long many f =
+        let g : FitsOf edition Constants (constant_of l (TextRead t)) = rw e at f in
+        omega (arith, size-of-text, g)
 
 -- ---- instructions
 

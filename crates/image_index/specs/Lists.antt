@@ -1,6 +1,6 @@
 -- Internal: cited by private contracts only. The lists of an image, by their kind: what their items are, which of them
 -- the check can accept by themselves, and what an index says of them.
-use Rattle.std.specs.Prelude.{◌≡◌, true, false, List, ℕ, ◌+◌, ◌*◌, ◌/◌, ◌%◌, ◌≤◌, ◌<◌, length, drop, get_or}
+use Rattle.std.specs.Prelude.{◌≡◌, Option, Some, None, List, ℕ, ◌+◌, ◌*◌, ◌/◌, ◌%◌, ◌≤◌, ◌<◌, length, drop, get_or}
 use Rattle.std.proofs.Math.Option.{some}
 use Rattle.lists.specs.Elements.{nth, Every}
 use Rattle.lists.specs.Parsing.{parsed, Parser, many}
@@ -71,10 +71,9 @@ module _ (edition : ℕ) where
 
   module _ (k : Kind) (l : List ℕ) where
     -- an item that fits, and its entry
-    pub record EntryAt (at : ℕ) (r : Entry) : Type 0 where
-      pub refused : r.ok ≡ false → (a : ItemOf k) (t : List ℕ) → taker_of k (drop at l) ≡ parsed a t → FitsOf k a → ⊥
-      pub found : r.ok ≡ true
-          → (a : ItemOf k) × (Stands (taker_of k) l at a r.end) × (FitsOf k a) × (TellsOf k l r.entry a)
+    abbrev pub EntryAt : ℕ → Option Entry → Type 0
+    EntryAt at None = (a : ItemOf k) (t : List ℕ) → taker_of k (drop at l) ≡ parsed a t → FitsOf k a → ⊥
+    EntryAt at (Some r) = (a : ItemOf k) × (Stands (taker_of k) l at a r.end) × (FitsOf k a) × (TellsOf k l r.entry a)
 
     -- each entry that the index has tells its item
     abbrev pub Indexes : List (ItemOf k) → List ℕ → Type 0
@@ -87,19 +86,20 @@ module _ (edition : ℕ) where
       pub each : Every (FitsOf k) xs
 
     -- n items, each of which fits
-    pub record ItemsAt (n at : ℕ) (r : Listed) (index : List ℕ) : Type 0 where
-      pub refused : r.ok ≡ false → (xs : List (ItemOf k)) (t : List ℕ) → many (taker_of k) n (drop at l) ≡ parsed xs t
-          → Every (FitsOf k) xs → ⊥
-      pub found : r.ok ≡ true
-          → (xs : List (ItemOf k)) × (many (taker_of k) n (drop at l) ≡ parsed xs (drop r.end l)) × (at ≤ r.end)
-          × (r.end ≤ length l) × (r.count ≡ n) × (length xs ≡ n) × (Every (FitsOf k) xs) × (Indexes xs index)
+    abbrev pub ItemsAt : ℕ → ℕ → Option Listed → List ℕ → Type 0
+    ItemsAt n at None index =
+        (xs : List (ItemOf k)) (t : List ℕ) → many (taker_of k) n (drop at l) ≡ parsed xs t → Every (FitsOf k) xs → ⊥
+    ItemsAt n at (Some r) index =
+        (xs : List (ItemOf k)) × (many (taker_of k) n (drop at l) ≡ parsed xs (drop r.end l)) × (at ≤ r.end)
+        × (r.end ≤ length l) × (r.count ≡ n) × (length xs ≡ n) × (Every (FitsOf k) xs) × (Indexes xs index)
 
-    pub record ListAt (at : ℕ) (r : Listed) (index : List ℕ) : Type 0 where
-      pub refused : r.ok ≡ false → (xs : List (ItemOf k)) (t : List ℕ)
-          → counted from_bytes (taker_of k) (drop at l) ≡ parsed xs t → Fits xs → ⊥
-      pub found : r.ok ≡ true
-          → (xs : List (ItemOf k)) × (Stands (counted from_bytes (taker_of k)) l at xs r.end) × (r.count ≡ length xs)
-          × (Fits xs) × (Indexes xs index)
+    -- a list that fits
+    abbrev pub ListAt : ℕ → Option Listed → List ℕ → Type 0
+    ListAt at None index =
+        (xs : List (ItemOf k)) (t : List ℕ) → counted from_bytes (taker_of k) (drop at l) ≡ parsed xs t → Fits xs → ⊥
+    ListAt at (Some r) index =
+        (xs : List (ItemOf k)) × (Stands (counted from_bytes (taker_of k)) l at xs r.end) × (r.count ≡ length xs)
+        × (Fits xs) × (Indexes xs index)
 
 -- ---- what an entry leads to
 

@@ -1,12 +1,12 @@
 // The lists of an image, and an index of each: an entry for each of its items.
-ghost use Rattle.std.specs.Prelude.{◌≡◌, false, ◌≤◌, ◌<◌, length};
+ghost use Rattle.std.specs.Prelude.{◌≡◌, ◌≤◌, ◌<◌, length};
 ghost use Rattle.image_format.specs.Image.{image_bound};
 ghost use Rattle.varint.specs.Room.{with_one};
 ghost use Rattle.image_index.specs.declared.indexes.Kind.TheVariants.{Constants, Eres, Instructions};
 ghost use Rattle.image_index.specs.Lists.{most_of, least_of, EntryAt, ItemsAt, ListAt};
 
 use edition::Edition;
-use varint::Taken;
+use image_items::Constant;
 
 // The numbers of an instruction: its code, the depth before it, and its first and second number, 0 where the code names
 // none.
@@ -26,18 +26,16 @@ pub enum Kind {
     Instructions,
 }
 
-// An item's entry in an index, and where the item ends; unless `ok`, there is no item that an accepted image can have.
+// An item's entry in an index, and where the item ends.
 #[derive(Drop)]
 pub struct Entry {
-    pub ok: bool,
     pub entry: u32,
     pub end: usize,
 }
 
-// How many items a list has, and where it ends; unless `ok`, there is no list that an accepted image can have.
+// How many items a list has, and where it ends.
 #[derive(Drop)]
 pub struct Listed {
-    pub ok: bool,
     pub count: usize,
     pub end: usize,
 }
@@ -45,88 +43,65 @@ pub struct Listed {
 // An accepted image has fewer bytes.
 pub const IMAGE_BYTES: usize = 65536;
 
-// Returns the entry of an item that no accepted image can have.
-fn no_entry() -> Entry
-    ensures { result.ok ≡ false }
-{
-    Entry {
-        ok: false,
-        entry: 0,
-        end: 0,
-    }
-}
-
-// Makes the entry of the constant at a place: that place.
-fn constant_entry(image: &[u8], edition: u64, at: usize) -> Entry
+// Makes the entry of the constant at a place: that place. It is none if no accepted image can have the constant; the
+// same holds for the other items.
+fn constant_entry(image: &[u8], edition: u64, at: usize) -> Option<Entry>
     requires { (at ≤ length image.now) × (length image.now < image_bound) }
     ensures { EntryAt edition Constants image.now at result }
 {
-    let c = image_items::constant_at(image, at);
-    if !c.ok {
-        return no_entry();
+    let c = image_items::constant_at(image, at)?;
+    if let Constant::Text(t) = c.constant {
+        if Edition::TEXT < t.end - t.start {
+            return None;
+        }
     }
-    if Edition::TEXT < c.end - c.start {
-        return no_entry();
-    }
-    Entry {
-        ok: true,
+    Some(Entry {
         entry: at as u32,
         end: c.end,
-    }
+    })
 }
 
 // Makes the entry of the ERE at a place: that place. The ERE is compiled to see that it reads.
-fn ere_entry(image: &[u8], edition: u64, at: usize) -> Entry
+fn ere_entry(image: &[u8], edition: u64, at: usize) -> Option<Entry>
     requires { (at ≤ length image.now) × (length image.now < image_bound) }
     ensures { EntryAt edition Eres image.now at result }
 {
-    let e = image_items::text_at(image, at);
-    if !e.ok {
-        return no_entry();
-    }
+    let e = image_items::text_at(image, at)?;
     let start = e.start;
     let end = e.end;
     let place = at as u32;
     let mut t = [0u64; ere_table::TABLE_WORDS];
     let by = Edition { number: edition };
     if !ere::compile(&image[start..end], by, &mut t) {
-        return no_entry();
+        return None;
     }
-    Entry {
-        ok: true,
-        entry: place,
-        end,
-    }
+    Some(Entry { entry: place, end })
 }
 
 // Makes the entry of the instruction at a place: six bits for the code, six for the depth, ten each for the first and
 // the second number.
-fn instruction_entry(image: &[u8], edition: u64, at: usize) -> Entry
+fn instruction_entry(image: &[u8], edition: u64, at: usize) -> Option<Entry>
     requires { (at ≤ length image.now) × (length image.now < image_bound) }
     ensures { EntryAt edition Instructions image.now at result }
 {
-    let i = image_items::instruction_at(image, edition, at);
-    if !i.ok {
-        return no_entry();
-    }
+    let i = image_items::instruction_at(image, edition, at)?;
     if (Edition::DEPTH as u64) < i.depth {
-        return no_entry();
+        return None;
     }
     if (Edition::INSTRUCTIONS as u64) <= i.first {
-        return no_entry();
+        return None;
     }
     if (Edition::INSTRUCTIONS as u64) <= i.second {
-        return no_entry();
+        return None;
     }
-    Entry {
-        ok: true,
+    Some(Entry {
         entry: (i.code + 64 * i.depth + 4096 * i.first + 4194304 * i.second) as u32,
         end: i.end,
-    }
+    })
 }
 
 // Makes the entry of the item at a place.
-fn entry_at(image: &[u8], edition: u64, kind: Kind, at: usize) -> Entry
+fn entry_at(image: &[u8], edition: u64, kind: Kind, at: usize) -> Option<Entry>
     requires { (at ≤ length image.now) × (length image.now < image_bound) }
     ensures { EntryAt edition kind image.now at result }
 {
@@ -153,20 +128,8 @@ fn least(kind: Kind) -> usize
     ensures { result ≡ least_of kind }
 {
     match kind {
-        Kind::Constants => 0,
-        Kind::Eres => 0,
+        Kind::Constants | Kind::Eres => 0,
         Kind::Instructions => 1,
-    }
-}
-
-// Returns the answer for a list that no accepted image can have.
-fn no_list() -> Listed
-    ensures { result.ok ≡ false }
-{
-    Listed {
-        ok: false,
-        count: 0,
-        end: 0,
     }
 }
 
@@ -187,42 +150,34 @@ fn items_at(
     n: usize,
     first: usize,
     index: &mut [u32],
-) -> Listed
+) -> Option<Listed>
     requires { (first ≤ length image.now) × (length image.now < image_bound) }
     ensures { ItemsAt edition kind image.now n first result index.new }
 {
     let mut at = first;
-    let mut k: usize = 0;
-    while k < n {
-        let e = entry_at(image, edition, kind, at);
-        if !e.ok {
-            return no_list();
-        }
+    for k in 0..n {
+        let e = entry_at(image, edition, kind, at)?;
         put_entry(index, k, e.entry);
         at = e.end;
-        k += 1;
     }
-    Listed {
-        ok: true,
-        count: n,
-        end: at,
-    }
+    Some(Listed { count: n, end: at })
 }
 
-// Reads the list whose count is at a place, and writes its index, as far as the room goes. Where it refuses, what the
-// index has is left open.
-pub fn list_at(image: &[u8], edition: u64, kind: Kind, at: usize, index: &mut [u32]) -> Listed
+// Reads the list whose count is at a place, and writes its index, as far as the room goes. It is none if no accepted
+// image can have the list; what the index has is then left open.
+pub fn list_at(
+    image: &[u8],
+    edition: u64,
+    kind: Kind,
+    at: usize,
+    index: &mut [u32],
+) -> Option<Listed>
     requires { (at ≤ length image.now) × (length image.now < image_bound) }
     ensures { ListAt edition kind image.now at result index.new }
 {
-    let Taken::Number(n, first) = varint::take_number(image, at) else {
-        return no_list();
-    };
-    if (most(kind) as u64) < n {
-        return no_list();
-    }
-    if n < (least(kind) as u64) {
-        return no_list();
+    let (n, first) = varint::take_number(image, at)?;
+    if (most(kind) as u64) < n || n < (least(kind) as u64) {
+        return None;
     }
     items_at(image, edition, kind, n as usize, first, index)
 }

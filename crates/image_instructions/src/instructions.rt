@@ -161,12 +161,10 @@ pub fn check_instructions(index: &[u32], context: Context, count: usize) -> bool
     requires { (count ≤ length index.now) × (context.users ≤ user_names) }
     ensures { Judges context index.now count result }
 {
-    let mut n: usize = 0;
-    while n < count {
+    for n in 0..count {
         if !check_instruction(index, context, count, n) {
             return false;
         }
-        n += 1;
     }
     true
 }

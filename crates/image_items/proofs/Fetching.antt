@@ -17,9 +17,8 @@ use Rattle.image_format.specs.Reading.{from_bytes, instruction, instruction_of}
 use Rattle.opcodes.specs.Rows.{is_known, operands_in}
 use Rattle.opcodes.proofs.Below.{known-below}
 use Rattle.varint.specs.Take.{TakesAt}
-use Rattle.varint.specs.declared.numbers.Taken.TheVariants.{Number}
-use Rattle.image_items.specs.Stands.{take_named, OperandAt, NumbersAt, InstructionAt, instruction_of as instruction_in}
-use Rattle.image_items.specs.declared.items.Operand.{Operand}
+use Rattle.std.specs.Prelude.{Option as Answer, Some, None}
+use Rattle.image_items.specs.Stands.{take_named, IsOperand, OperandAt, AreNumbers, NumbersAt, InstructionAt, instruction_of as instruction_in}
 use Rattle.image_items.specs.declared.items.Fetched.{Fetched}
 use Rattle.image_items.proofs.Standing.{never}
 
@@ -48,52 +47,44 @@ many-two (suc (suc zero)) h l = by (take_number l)
 many-two (suc (suc (suc n))) h l = absurd (omega arith)
 
 module _ (named : Bool) (l : List ℕ) (at : ℕ) where
-  pub operand-none : named ≡ false → at ≤ length l → OperandAt named l at (record { ok = true; value = 0; end = at })
-  operand-none e h = rw e (record { refused = λ g. never g refl; found = λ g. (refl, omega arith, h); plain = λ g z. refl })
+  pub operand-none : named ≡ false → at ≤ length l → IsOperand named l at (0, at)
+  operand-none e h = rw e (record { found = refl; forward = omega arith; inside = h; plain = λ z. refl })
 
-  pub operand-missing : named ≡ true → take_number (drop at l) ≡ none → OperandAt named l at (record { ok = false; value = 0; end = at })
-  operand-missing e t = rw e (record { refused = λ g. t; found = λ g. never refl g; plain = λ g. never refl g })
+  pub operand-there : named ≡ true → (r : Answer (ℕ × ℕ)) → TakesAt l at r → OperandAt named l at r
+  operand-there e None t = rw e t
+  operand-there e (Some r) t = rw e (record { found = t.0; forward = omega (arith, t.1); inside = t.2; plain = λ z. never z refl })
 
-  pub operand-there : named ≡ true → (v n : ℕ) → TakesAt l at (Number v n) → OperandAt named l at (record { ok = true; value = v; end = n })
-  operand-there e v n t =
-      rw e (record { refused = λ g. never g refl; found = λ g. (t.0, omega (arith, t.1), t.2); plain = λ g z. never z refl })
-
-module _ (n code depth : ℕ) (few : n ≤ 2) (l : List ℕ) (at : ℕ) (x : Operand) (p : OperandAt (ltb 0 n) l at x) where
+module _ (n code depth : ℕ) (few : n ≤ 2) (l : List ℕ) (at : ℕ) where
   -- what follows the first number, and what the second
   abbrev behind_first : ℕ → Parser (List ℕ)
   behind_first a l = bind (take_named (ltb 1 n) l) (λ b. succeed (take n (a ∷ b ∷ [])))
 
-  abbrev behind_second : ℕ → Parser (List ℕ)
-  behind_second b = succeed (take n (x.value ∷ b ∷ []))
+  pub first-missing : {m : ℕ} → n ≡ m → take_named (ltb 0 n) (drop at l) ≡ none → many take_number m (drop at l) ≡ none
+  first-missing m h = rw (← m) (many-two n few (drop at l) ∙ on behind_first h)
 
-  pub numbers-missing : {m : ℕ} → n ≡ m → x.ok ≡ false → (r : Fetched) → r.ok ≡ false → NumbersAt m code depth l at r
-  numbers-missing m h r e =
-      rw (← m)
-      (record {
-        refused = λ g. many-two n few (drop at l) ∙ on behind_first (p.refused h);
-        found = λ g. never e g;
-        no_first = λ g. never e g;
-        no_second = λ g. never e g;
-      })
+  module _ (x : ℕ × ℕ) (p : IsOperand (ltb 0 n) l at x) where
+    abbrev behind_second : ℕ → Parser (List ℕ)
+    behind_second b = succeed (take n (x.0 ∷ b ∷ []))
 
-  pub numbers-there : {m : ℕ} → n ≡ m → x.ok ≡ true → (y : Operand) → OperandAt (ltb 1 n) l x.end y
-      → NumbersAt m code depth l at (record { ok = y.ok; code = code; depth = depth; first = x.value; second = y.value; end = y.end })
-  numbers-there m h y q =
-      let s = p.found h in
-      let first = many-two n few (drop at l) ∙ on behind_first s.0 in
-      rw (← m)
-      (record {
-        refused = λ g. first ∙ on behind_second (q.refused g);
-        found = λ g. (
-          first ∙ on behind_second (q.found g).0,
-          omega (arith, s.1, (q.found g).1),
-          (q.found g).2,
-          refl,
-          refl,
-        );
-        no_first = λ g z. p.plain h (le-ltb 0 n (omega arith));
-        no_second = λ g z. q.plain g (le-ltb 1 n z);
-      })
+    first-there : many take_number n (drop at l) ≡ behind_first x.0 (drop x.1 l)
+    first-there = many-two n few (drop at l) ∙ on behind_first p.found
+
+    pub second-missing : {m : ℕ} → n ≡ m → take_named (ltb 1 n) (drop x.1 l) ≡ none → many take_number m (drop at l) ≡ none
+    second-missing m h = rw (← m) (first-there ∙ on behind_second h)
+
+    pub numbers-there : {m : ℕ} → n ≡ m → (y : ℕ × ℕ) → IsOperand (ltb 1 n) l x.1 y
+        → AreNumbers m code depth l at (record { code = code; depth = depth; first = x.0; second = y.0; end = y.1 })
+    numbers-there m y q =
+        rw (← m)
+        (record {
+          found = first-there ∙ on behind_second q.found;
+          forward = omega (arith, p.forward, q.forward);
+          inside = q.inside;
+          same_code = refl;
+          same_depth = refl;
+          no_first = λ z. p.plain (le-ltb 0 n (omega arith));
+          no_second = λ z. q.plain (le-ltb 1 n z);
+        })
 
 -- ---- the instruction
 
@@ -111,14 +102,10 @@ code-none code none l h = refl
 code-none code (some k) l h = never h refl
 
 module _ (edition : ℕ) (l : List ℕ) (at : ℕ) where
-  pub instruction-none : (r : Fetched) → r.ok ≡ false → instruction from_bytes edition (drop at l) ≡ none → InstructionAt edition l at r
-  instruction-none r e h =
-      record { refused = λ g. h; found = λ g. never e g; known = λ g. never e g; no_first = λ g. never e g; no_second = λ g. never e g }
-
   pub code-missing : take_number (drop at l) ≡ none → instruction from_bytes edition (drop at l) ≡ none
   code-missing t = on (λ c. instruction_of from_bytes c (code_of edition c)) t
 
-  module _ (code behind : ℕ) (t : TakesAt l at (Number code behind)) where
+  module _ (code behind : ℕ) (t : TakesAt l at (Some (code, behind))) where
     on-code : instruction from_bytes edition (drop at l) ≡ instruction_of from_bytes code (code_of edition code) (drop behind l)
     on-code = on (λ c. instruction_of from_bytes c (code_of edition c)) t.0
 
@@ -140,23 +127,26 @@ module _ (edition : ℕ) (l : List ℕ) (at : ℕ) where
       pub depth-missing : take_number (drop behind l) ≡ none → instruction from_bytes edition (drop at l) ≡ none
       depth-missing e = on-numbers ∙ on behind_depth e
 
-      pub depth-there : (depth last : ℕ) → TakesAt l behind (Number depth last) → (r : Fetched) → NumbersAt (operands_in (code_of edition code)) code depth l last r → InstructionAt edition l at r
-      depth-there depth last d r y =
-          let made : (named : List ℕ) → Parser Instruction = λ named. succeed (record { code = code; depth = depth; immediates = named }) in
-          record {
-            refused = λ g. on-numbers ∙ on behind_depth d.0 ∙ on made (y.refused g);
-            found = λ g.
-                let s = y.found g in
-                record {
-                  taken =
-                      on-numbers
-                      ∙ on behind_depth d.0
-                      ∙ on made s.0
-                      ∙ ap₂ (λ (c m : ℕ). parsed (instruction_in edition c m r.first r.second) (drop r.end l)) (sym s.3) (sym s.4);
-                  forward = omega (arith, t.1, d.1, s.1);
-                  inside = s.2;
-                };
-            known = λ g. rw (y.found g).3 code_below;
-            no_first = λ g. subst (λ (c : ℕ). operands_in (code_of edition c) ≡ 0 → r.first ≡ 0) (sym (y.found g).3) (y.no_first g);
-            no_second = λ g. subst (λ (c : ℕ). operands_in (code_of edition c) ≤ 1 → r.second ≡ 0) (sym (y.found g).3) (y.no_second g);
-          }
+      module _ (depth last : ℕ) (d : TakesAt l behind (Some (depth, last))) where
+        made : (named : List ℕ) → Parser Instruction
+        made named = succeed (record { code = code; depth = depth; immediates = named })
+
+        pub depth-there : (r : Answer Fetched) → NumbersAt (operands_in (code_of edition code)) code depth l last r
+            → InstructionAt edition l at r
+        unfolding made
+        depth-there None y = on-numbers ∙ on behind_depth d.0 ∙ on made y
+        depth-there (Some r) y =
+            record {
+              found = record {
+                taken =
+                    on-numbers
+                    ∙ on behind_depth d.0
+                    ∙ on made y.found
+                    ∙ ap₂ (λ (c m : ℕ). parsed (instruction_in edition c m r.first r.second) (drop r.end l)) (sym y.same_code) (sym y.same_depth);
+                forward = omega (arith, t.1, d.1, y.forward);
+                inside = y.inside;
+              };
+              known = rw y.same_code code_below;
+              no_first = subst (λ (c : ℕ). operands_in (code_of edition c) ≡ 0 → r.first ≡ 0) (sym y.same_code) y.no_first;
+              no_second = subst (λ (c : ℕ). operands_in (code_of edition c) ≤ 1 → r.second ≡ 0) (sym y.same_code) y.no_second;
+            }

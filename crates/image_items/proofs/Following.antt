@@ -14,10 +14,9 @@ use Rattle.image_format.specs.Image.{Constant, Instruction, Image, known}
 use Rattle.image_format.specs.Numbers.{take_number}
 use Rattle.image_format.specs.Reading.{from_bytes, word_up_to, counted, constant, instruction, parts, ended, read_image}
 use Rattle.varint.specs.Take.{TakesAt}
-use Rattle.varint.specs.declared.numbers.Taken.TheVariants.{Number}
+use Rattle.std.specs.Prelude.{Some}
 use Rattle.image_items.proofs.Standing.{never}
-use Rattle.image_items.specs.Header.{ListsIn, HeaderAt}
-use Rattle.image_items.specs.declared.header.Header.{Header}
+use Rattle.image_items.specs.Header.{ListsIn, IsHeader}
 
 -- what was taken in two steps
 bind-some : {A B : Type 0} (f : A → Parser B) (g : Parsed B) (o : Option (Parsed A)) → bind o f ≡ some g
@@ -93,36 +92,30 @@ taken-same p q = (same_item p q, same_left p q)
 -- ---- the numbers before the lists
 
 module _ (l : List ℕ) where
-  no_header : (h : Header) → h.ok ≡ false → ((i : Image) → read_image from_bytes l ≡ some i → ⊥) → HeaderAt l h
-  no_header h e n = record { refused = λ _ i r. n i r; found = λ g. never e g; inside = λ g. never e g; there = λ g. never e g }
+  pub edition-missing : take_number l ≡ none → (i : Image) → read_image from_bytes l ≡ some i → ⊥
+  edition-missing m i r = none-some (sym m ∙ (read_some l i r).1)
 
-  pub edition-missing : (h : Header) → h.ok ≡ false → take_number l ≡ none → HeaderAt l h
-  edition-missing h e m = no_header h e (λ i r. none-some (sym m ∙ (read_some l i r).1))
-
-  module _ (edition behind : ℕ) (x : TakesAt l 0 (Number edition behind)) where
-    pub edition-unknown : (h : Header) → h.ok ≡ false → known edition ≡ false → HeaderAt l h
-    edition-unknown h e n =
-        no_header h e (λ i r.
+  module _ (edition behind : ℕ) (x : TakesAt l 0 (Some (edition, behind))) where
+    pub edition-unknown : known edition ≡ false → (i : Image) → read_image from_bytes l ≡ some i → ⊥
+    edition-unknown n i r =
         let p = read_some l i r in
-        never n (ap known (taken-same x.0 p.1).0 ∙ p.2))
+        never n (ap known (taken-same x.0 p.1).0 ∙ p.2)
 
-    pub users-missing : (h : Header) → h.ok ≡ false → take_number (drop behind l) ≡ none → HeaderAt l h
-    users-missing h e m =
-        no_header h e (λ i r.
+    pub users-missing : take_number (drop behind l) ≡ none → (i : Image) → read_image from_bytes l ≡ some i → ⊥
+    users-missing m i r =
         let p = read_some l i r in
         let same = taken-same x.0 p.1 in
-        none-some (sym m ∙ ap take_number same.1 ∙ p.3.1))
+        none-some (sym m ∙ ap take_number same.1 ∙ p.3.1)
 
-    pub header-there : known edition ≡ true → (users at : ℕ) → TakesAt l behind (Number users at)
-        → HeaderAt l (record { ok = true; edition = edition; users = users; at = at })
+    pub header-there : known edition ≡ true → (users at : ℕ) → TakesAt l behind (Some (users, at))
+        → IsHeader l (record { edition = edition; users = users; at = at })
     header-there k users at y =
         record {
-          refused = λ g. never g refl;
-          found = λ g i r.
+          found = λ i r.
               let p = read_some l i r in
               let first = taken-same x.0 p.1 in
               let second = taken-same y.0 (ap take_number first.1 ∙ p.3.1) in
               (first.0, second.0, rw second.1 p.3.2);
-          inside = λ g. y.2;
-          there = λ g. (drop behind l, x.0, k, y.0);
+          inside = y.2;
+          there = (drop behind l, x.0, k, y.0);
         }

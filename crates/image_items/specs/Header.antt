@@ -1,5 +1,5 @@
 -- Internal: cited by private contracts only. The numbers before the lists of an image, and the lists after them.
-use Rattle.std.specs.Prelude.{◌≡◌, true, false, List, ℕ, ◌≤◌, length, drop}
+use Rattle.std.specs.Prelude.{◌≡◌, Option, Some, None, true, List, ℕ, ◌≤◌, length, drop}
 use Rattle.std.proofs.Math.Option.{some}
 use Rattle.lists.specs.Parsing.{parsed, Parser}
 use Rattle.image_format.specs.Image.{Instruction, Image, known}
@@ -28,11 +28,14 @@ module _ (i : Image) where
       (Follows (counted from_bytes (word_up_to 255)) i.eres SectionsIn)
 
 -- the numbers before the lists
-pub record HeaderAt (l : List ℕ) (h : Header) : Type 0 where
-  pub refused : h.ok ≡ false → (i : Image) → read_image from_bytes l ≡ some i → ⊥
-  pub found : h.ok ≡ true → (i : Image) → read_image from_bytes l ≡ some i
+pub record IsHeader (l : List ℕ) (h : Header) : Type 0 where
+  pub found : (i : Image) → read_image from_bytes l ≡ some i
       → (h.edition ≡ i.edition) × (h.users ≡ i.users) × (ListsIn i (drop h.at l))
-  pub inside : h.ok ≡ true → h.at ≤ length l
-  pub there : h.ok ≡ true
-      → (t : List ℕ) × (take_number l ≡ parsed h.edition t) × (known h.edition ≡ true)
+  pub inside : h.at ≤ length l
+  pub there : (t : List ℕ) × (take_number l ≡ parsed h.edition t) × (known h.edition ≡ true)
       × (take_number t ≡ parsed h.users (drop h.at l))
+
+-- these, or there is no image
+abbrev pub HeaderAt : List ℕ → Option Header → Type 0
+HeaderAt l None = (i : Image) → read_image from_bytes l ≡ some i → ⊥
+HeaderAt l (Some h) = IsHeader l h

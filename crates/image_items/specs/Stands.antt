@@ -1,5 +1,5 @@
 -- Internal: cited by private contracts only. What is in an image's bytes from a place on, and what the code says of it.
-use Rattle.std.specs.Prelude.{◌≡◌, Bool, true, false, cond, List, [], ◌∷◌, ℕ, ◌-◌, ◌≤◌, ◌<◌, length, take, drop, eqb}
+use Rattle.std.specs.Prelude.{◌≡◌, Option, Some, None, Bool, true, false, List, [], ◌∷◌, ℕ, ◌-◌, ◌≤◌, ◌<◌, length, take, drop}
 use Rattle.std.proofs.Math.Option.{none}
 use Rattle.lists.specs.Parsing.{parsed, Parser, many}
 use Rattle.buffer.specs.Parts.{part}
@@ -10,7 +10,8 @@ use Rattle.image_format.specs.Reading.{from_bytes, word_up_to, counted, constant
 use Rattle.opcodes.specs.Rows.{operands_in}
 use Rattle.image_items.specs.declared.items.Text.{Text}
 use Rattle.image_items.specs.declared.items.Found.{Found}
-use Rattle.image_items.specs.declared.items.Operand.{Operand}
+use Rattle.image_items.specs.declared.items.Constant.{Constant as Read}
+use Rattle.image_items.specs.declared.items.Constant.TheVariants.{Number, Text as TextRead}
 use Rattle.image_items.specs.declared.items.Fetched.{Fetched}
 
 -- p takes a off the bytes from `at` on, and goes on at `end`
@@ -27,31 +28,36 @@ a_text = counted from_bytes (word_up_to 255)
 abbrev pub bytes_of : List ℕ → Text → List ℕ
 bytes_of l r = part r.start (r.end - r.start) l
 
-pub record TextAt (l : List ℕ) (at : ℕ) (r : Text) : Type 0 where
-  pub refused : r.ok ≡ false → a_text (drop at l) ≡ none
-  pub found : r.ok ≡ true → Stands a_text l at (bytes_of l r) r.end
-  pub ordered : r.start ≤ r.end
-  pub inside : r.end ≤ length l
+-- its bytes are some of l
+abbrev pub Inside : List ℕ → Text → Type 0
+Inside l r = (r.start ≤ r.end) × (r.end ≤ length l)
+
+pub record IsText (l : List ℕ) (at : ℕ) (r : Text) : Type 0 where
+  pub found : Stands a_text l at (bytes_of l r) r.end
+  pub inside : Inside l r
+
+abbrev pub TextAt : List ℕ → ℕ → Option Text → Type 0
+TextAt l at None = a_text (drop at l) ≡ none
+TextAt l at (Some r) = IsText l at r
 
 -- ---- a constant
 
-abbrev pub constant_of : List ℕ → Found → Constant
-constant_of l r = cond (eqb r.kind 0) (number r.value) (text (part r.start (r.end - r.start) l))
+abbrev pub constant_of : List ℕ → Read → Constant
+constant_of l (Number n) = number n
+constant_of l (TextRead t) = text (bytes_of l t)
 
--- after the kind 0, a number
-pub record NumberAt (l : List ℕ) (at : ℕ) (r : Found) : Type 0 where
-  pub refused : r.ok ≡ false → take_number (drop at l) ≡ none
-  pub found : r.ok ≡ true → Stands take_number l at r.value r.end
-  pub kind : r.ok ≡ true → r.kind ≡ 0
-  pub empty : r.start ≡ r.end
-  pub inside : r.end ≤ length l
+-- the bytes of a text are some of l
+abbrev pub Within : List ℕ → Read → Type 0
+Within l (Number n) = Unit {0}
+Within l (TextRead t) = Inside l t
 
-pub record ConstantAt (l : List ℕ) (at : ℕ) (r : Found) : Type 0 where
-  pub refused : r.ok ≡ false → constant from_bytes (drop at l) ≡ none
-  pub found : r.ok ≡ true → Stands (constant from_bytes) l at (constant_of l r) r.end
-  pub empty : r.ok ≡ true → r.kind ≡ 0 → r.start ≡ r.end
-  pub ordered : r.start ≤ r.end
-  pub inside : r.end ≤ length l
+pub record IsConstant (l : List ℕ) (at : ℕ) (r : Found) : Type 0 where
+  pub found : Stands (constant from_bytes) l at (constant_of l r.constant) r.end
+  pub inside : Within l r.constant
+
+abbrev pub ConstantAt : List ℕ → ℕ → Option Found → Type 0
+ConstantAt l at None = constant from_bytes (drop at l) ≡ none
+ConstantAt l at (Some r) = IsConstant l at r
 
 -- ---- an instruction
 
@@ -65,26 +71,36 @@ abbrev pub take_named : Bool → Parser ℕ
 take_named false l = parsed 0 l
 take_named true l = take_number l
 
-pub record OperandAt (named : Bool) (l : List ℕ) (at : ℕ) (r : Operand) : Type 0 where
-  pub refused : r.ok ≡ false → take_named named (drop at l) ≡ none
-  pub found : r.ok ≡ true
-      → (take_named named (drop at l) ≡ parsed r.value (drop r.end l)) × (at ≤ r.end) × (r.end ≤ length l)
-  pub plain : r.ok ≡ true → named ≡ false → r.value ≡ 0
+pub record IsOperand (named : Bool) (l : List ℕ) (at : ℕ) (r : ℕ × ℕ) : Type 0 where
+  pub found : take_named named (drop at l) ≡ parsed r.0 (drop r.1 l)
+  pub forward : at ≤ r.1
+  pub inside : r.1 ≤ length l
+  pub plain : named ≡ false → r.0 ≡ 0
+
+abbrev pub OperandAt : Bool → List ℕ → ℕ → Option (ℕ × ℕ) → Type 0
+OperandAt named l at None = take_named named (drop at l) ≡ none
+OperandAt named l at (Some r) = IsOperand named l at r
 
 -- after code and depth, n numbers
-pub record NumbersAt (n code depth : ℕ) (l : List ℕ) (at : ℕ) (r : Fetched) : Type 0 where
-  pub refused : r.ok ≡ false → many take_number n (drop at l) ≡ none
-  pub found : r.ok ≡ true
-      → (many take_number n (drop at l) ≡ parsed (take n (r.first ∷ r.second ∷ [])) (drop r.end l))
-      × (at ≤ r.end) × (r.end ≤ length l) × (r.code ≡ code) × (r.depth ≡ depth)
-  pub no_first : r.ok ≡ true → n ≡ 0 → r.first ≡ 0
-  pub no_second : r.ok ≡ true → n ≤ 1 → r.second ≡ 0
+pub record AreNumbers (n code depth : ℕ) (l : List ℕ) (at : ℕ) (r : Fetched) : Type 0 where
+  pub found : many take_number n (drop at l) ≡ parsed (take n (r.first ∷ r.second ∷ [])) (drop r.end l)
+  pub forward : at ≤ r.end
+  pub inside : r.end ≤ length l
+  pub same_code : r.code ≡ code
+  pub same_depth : r.depth ≡ depth
+  pub no_first : n ≡ 0 → r.first ≡ 0
+  pub no_second : n ≤ 1 → r.second ≡ 0
 
-pub record InstructionAt (edition : ℕ) (l : List ℕ) (at : ℕ) (r : Fetched) : Type 0 where
-  pub refused : r.ok ≡ false → instruction from_bytes edition (drop at l) ≡ none
-  pub found : r.ok ≡ true
-      → Stands (instruction from_bytes edition) l at (instruction_of edition r.code r.depth r.first r.second)
-      r.end
-  pub known : r.ok ≡ true → r.code < code_count edition
-  pub no_first : r.ok ≡ true → operands_in (code_of edition r.code) ≡ 0 → r.first ≡ 0
-  pub no_second : r.ok ≡ true → operands_in (code_of edition r.code) ≤ 1 → r.second ≡ 0
+abbrev pub NumbersAt : ℕ → ℕ → ℕ → List ℕ → ℕ → Option Fetched → Type 0
+NumbersAt n code depth l at None = many take_number n (drop at l) ≡ none
+NumbersAt n code depth l at (Some r) = AreNumbers n code depth l at r
+
+pub record IsInstruction (edition : ℕ) (l : List ℕ) (at : ℕ) (r : Fetched) : Type 0 where
+  pub found : Stands (instruction from_bytes edition) l at (instruction_of edition r.code r.depth r.first r.second) r.end
+  pub known : r.code < code_count edition
+  pub no_first : operands_in (code_of edition r.code) ≡ 0 → r.first ≡ 0
+  pub no_second : operands_in (code_of edition r.code) ≤ 1 → r.second ≡ 0
+
+abbrev pub InstructionAt : ℕ → List ℕ → ℕ → Option Fetched → Type 0
+InstructionAt edition l at None = instruction from_bytes edition (drop at l) ≡ none
+InstructionAt edition l at (Some r) = IsInstruction edition l at r

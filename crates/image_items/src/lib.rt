@@ -5,4 +5,4 @@ mod header;
 mod items;
 
 pub use header::{Header, header_of};
-pub use items::{Fetched, Found, Text, constant_at, instruction_at, text_at};
+pub use items::{Constant, Fetched, Found, Text, constant_at, instruction_at, text_at};

@@ -6,7 +6,7 @@ ghost use Rattle.image_loader.specs.Loads.{rooms, SectionsLoaded, LoadsAccepted}
 use image_index::Kind;
 
 // The edition, the count of user variables, and how many items each list has.
-#[derive(Drop)]
+#[derive(Clone, Copy, Default)]
 pub struct Loaded {
     pub edition: u64,
     pub users: u64,
@@ -18,36 +18,15 @@ pub struct Loaded {
 }
 
 // How many instructions each section has.
-#[derive(Drop)]
+#[derive(Clone, Copy, Default)]
 pub struct Counts {
     pub begin: usize,
     pub main: usize,
     pub end: usize,
 }
 
-// Returns the counts of sections that an accepted image can not have.
-fn no_counts() -> Counts {
-    Counts {
-        begin: 0,
-        main: 0,
-        end: 0,
-    }
-}
-
-// Returns the answer for bytes that an accepted image can not have.
-fn nothing() -> Loaded {
-    Loaded {
-        edition: 0,
-        users: 0,
-        constants: 0,
-        eres: 0,
-        begin: 0,
-        main: 0,
-        end: 0,
-    }
-}
-
-// Fills the indexes of the three sections, from their place on.
+// Fills the indexes of the three sections, from their place on. The counts of sections that no accepted image can have
+// are 0.
 fn sections(
     image: &[u8],
     edition: u64,
@@ -60,15 +39,15 @@ fn sections(
     ensures { SectionsLoaded edition image.now at result begin.new main.new
         end.new }
 {
-    let b = image_index::list_at(image, edition, Kind::Instructions, at, begin);
-    if !b.ok {
-        return no_counts();
-    }
-    let r = image_index::list_at(image, edition, Kind::Instructions, b.end, main);
-    if !r.ok {
-        return no_counts();
-    }
-    let f = image_index::list_at(image, edition, Kind::Instructions, r.end, end);
+    let Some(b) = image_index::list_at(image, edition, Kind::Instructions, at, begin) else {
+        return Counts::default();
+    };
+    let Some(r) = image_index::list_at(image, edition, Kind::Instructions, b.end, main) else {
+        return Counts::default();
+    };
+    let Some(f) = image_index::list_at(image, edition, Kind::Instructions, r.end, end) else {
+        return Counts::default();
+    };
     Counts {
         begin: b.count,
         main: r.count,
@@ -90,20 +69,17 @@ pub fn load(
         (rooms constants.new eres.new begin.new main.new end.new) }
 {
     if image_index::IMAGE_BYTES <= image.len() {
-        return nothing();
+        return Loaded::default();
     }
-    let h = image_items::header_of(image);
-    if !h.ok {
-        return nothing();
-    }
-    let c = image_index::list_at(image, h.edition, Kind::Constants, h.at, constants);
-    if !c.ok {
-        return nothing();
-    }
-    let e = image_index::list_at(image, h.edition, Kind::Eres, c.end, eres);
-    if !e.ok {
-        return nothing();
-    }
+    let Some(h) = image_items::header_of(image) else {
+        return Loaded::default();
+    };
+    let Some(c) = image_index::list_at(image, h.edition, Kind::Constants, h.at, constants) else {
+        return Loaded::default();
+    };
+    let Some(e) = image_index::list_at(image, h.edition, Kind::Eres, c.end, eres) else {
+        return Loaded::default();
+    };
     let s = sections(image, h.edition, e.end, begin, main, end);
     Loaded {
         edition: h.edition,

@@ -19,8 +19,7 @@ use Rattle.image_stages.specs.Stages.{at_edition, at_count, at_kind, at_length, 
 use Rattle.image_stages.specs.Stages.{start, with_units, edition_told, kind_told, code_told, advance, moved, after}
 use Rattle.image_stages.specs.Stages.{taken_at, written_at}
 use Rattle.image_stages.specs.declared.stages.State.{State}
-use Rattle.image_stages.specs.declared.stages.Next.{Next}
-use Rattle.image_stages.specs.declared.stages.Next.TheVariants.{At, Unknown}
+use Rattle.std.specs.Prelude.{Option as Answer, Some, None}
 use Rattle.image_stages.proofs.Transcript.{Rest, before, refused, a_number, a_byte, times, numbers, bytes, a_text}
 use Rattle.image_stages.proofs.Transcript.{of_kind, of_code, a_constant, an_instruction, an_item, lists, transcript}
 use Rattle.image_stages.proofs.Then.{bind-same}
@@ -61,9 +60,9 @@ module _ (source : Source) (write : ℕ → List ℕ) where
       (succeed [])))))))
 
   -- from the state after something on, if there is one
-  abbrev pub onward : Next → Rest
-  onward (At t) = rest t
-  onward Unknown = refused
+  abbrev pub onward : Answer State → Rest
+  onward (Some t) = rest t
+  onward None = refused
 
   -- ---- to the next unit, item or list
 
@@ -110,7 +109,7 @@ module _ (source : Source) (write : ℕ → List ℕ) where
 
       by : (x : Bool)
           → cond x (numbers source write s.units (after_item s v)) refused l
-          ≡ onward (moved (cond x (At t) Unknown)) l
+          ≡ onward (moved (cond x (Some t) None)) l
       by true = sym (next-plain v s.lists s.items s.units l)
       by false = refl
 
@@ -124,7 +123,7 @@ module _ (source : Source) (write : ℕ → List ℕ) where
 
       by : (x y : Bool)
           → cond x (a_number source write (λ n. k)) (cond y (a_text source write k) refused) l
-          ≡ onward (moved (cond x (At (with_units s at_plain 1)) (cond y (At (with_units s at_length 1)) Unknown))) l
+          ≡ onward (moved (cond x (Some (with_units s at_plain 1)) (cond y (Some (with_units s at_length 1)) None))) l
       by true y = refl
       by false true = refl
       by false false = refl
@@ -136,7 +135,7 @@ module _ (source : Source) (write : ℕ → List ℕ) where
     where
       by : (o : Option Code)
           → of_code source write o (after_item s s.edition) l
-          ≡ onward (moved (cond (is_known o) (At (with_units s at_plain (1 + operands_in o))) Unknown)) l
+          ≡ onward (moved (cond (is_known o) (Some (with_units s at_plain (1 + operands_in o))) None)) l
       by none = refl
       by (some c) =
           let n = length c.immediates in

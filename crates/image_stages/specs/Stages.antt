@@ -1,6 +1,6 @@
 -- Internal: cited by private contracts only. Where a walk over an image's numbers and text bytes is, what comes there,
 -- and where it goes by that.
-use Rattle.std.specs.Prelude.{Bool, cond, List, [], ◌∷◌, ℕ, ◌+◌, ◌-◌, eqb}
+use Rattle.std.specs.Prelude.{Bool, Option, Some, None, cond, List, [], ◌∷◌, ℕ, ◌+◌, ◌-◌, eqb}
 use Rattle.lists.specs.Parsing.{Parser}
 use Rattle.edition.specs.Limits.{number_bound}
 use Rattle.image_format.specs.Codes.{code_of}
@@ -8,8 +8,6 @@ use Rattle.image_format.specs.Image.{known}
 use Rattle.image_format.specs.Reading.{Source}
 use Rattle.opcodes.specs.Rows.{is_known, operands_in}
 use Rattle.image_stages.specs.declared.stages.State.{State}
-use Rattle.image_stages.specs.declared.stages.Next.{Next}
-use Rattle.image_stages.specs.declared.stages.Next.TheVariants.{At, Unknown}
 
 -- ---- the stages
 
@@ -54,25 +52,25 @@ opening lists = cond (eqb lists 4) at_kind (cond (eqb lists 3) at_length at_code
 abbrev pub with_units : State → ℕ → ℕ → State
 with_units s stage units = state stage s.edition s.lists s.items units
 
-abbrev pub edition_told : State → ℕ → Next
-edition_told s v = cond (known v) (At (state at_plain v s.lists s.items s.units)) Unknown
+abbrev pub edition_told : State → ℕ → Option State
+edition_told s v = cond (known v) (Some (state at_plain v s.lists s.items s.units)) None
 
-abbrev pub kind_told : State → ℕ → Next
-kind_told s v = cond (eqb v 0) (At (with_units s at_plain 1)) (cond (eqb v 1) (At (with_units s at_length 1)) Unknown)
+abbrev pub kind_told : State → ℕ → Option State
+kind_told s v = cond (eqb v 0) (Some (with_units s at_plain 1)) (cond (eqb v 1) (Some (with_units s at_length 1)) None)
 
 -- a depth, and the operand where the code names one
-abbrev pub code_told : State → ℕ → Next
-code_told s v = let o = code_of s.edition v in cond (is_known o) (At (with_units s at_plain (1 + operands_in o))) Unknown
+abbrev pub code_told : State → ℕ → Option State
+code_told s v = let o = code_of s.edition v in cond (is_known o) (Some (with_units s at_plain (1 + operands_in o))) None
 
 -- what v says of the list and of the item
-abbrev pub told : State → ℕ → Next
+abbrev pub told : State → ℕ → Option State
 told s v =
     cond (eqb s.stage at_edition) (edition_told s v)
-    (cond (eqb s.stage at_count) (At (state s.stage s.edition s.lists v 0))
+    (cond (eqb s.stage at_count) (Some (state s.stage s.edition s.lists v 0))
     (cond (eqb s.stage at_kind) (kind_told s v)
-    (cond (eqb s.stage at_length) (At (with_units s at_byte v))
+    (cond (eqb s.stage at_length) (Some (with_units s at_byte v))
     (cond (eqb s.stage at_code) (code_told s v)
-    (At s)))))
+    (Some s)))))
 
 -- to the next unit of the item, else to the next item of the list, else to the next list
 abbrev pub advance : State → State
@@ -85,12 +83,12 @@ advance s =
     (state (opening s.lists) s.edition s.lists (s.items - 1) 0))
     (with_units s s.stage (s.units - 1))
 
-abbrev pub moved : Next → Next
-moved (At t) = At (advance t)
-moved Unknown = Unknown
+abbrev pub moved : Option State → Option State
+moved (Some t) = Some (advance t)
+moved None = None
 
 -- the state after v came
-abbrev pub after : State → ℕ → Next
+abbrev pub after : State → ℕ → Option State
 after s v = moved (told s v)
 
 -- ---- what comes

@@ -3,4 +3,4 @@
 
 mod stages;
 
-pub use stages::{BYTE, END, Next, State, after, start};
+pub use stages::{BYTE, END, State, after, start};

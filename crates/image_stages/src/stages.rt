@@ -40,13 +40,6 @@ pub struct State {
     pub units: u64,
 }
 
-// The state after what came, or that it is an unknown edition, kind or code.
-#[derive(Drop)]
-pub enum Next {
-    At(State),
-    Unknown,
-}
-
 // The lists of an image: constants, EREs and three sections.
 const LISTS: u64 = 5;
 
@@ -72,85 +65,70 @@ pub fn start() -> State
 fn opening(lists: u64) -> u64
     ensures { result ≡ opening lists }
 {
-    if lists == AFTER_CONSTANTS {
-        return KIND;
+    match lists {
+        AFTER_CONSTANTS => KIND,
+        AFTER_ERES => LENGTH,
+        _ => CODE,
     }
-    if lists == AFTER_ERES {
-        return LENGTH;
-    }
-    CODE
 }
 
 // Returns the state with `units` units of a stage left of its item.
 fn with_units(s: State, stage: u64, units: u64) -> State
     ensures { result ≡ with_units s stage units }
 {
-    State {
-        stage,
-        edition: s.edition,
-        lists: s.lists,
-        items: s.items,
-        units,
-    }
+    State { stage, units, ..s }
 }
 
-// Takes the edition.
-fn edition_told(s: State, v: u64) -> Next
+// Takes the edition, if it is known.
+fn edition_told(s: State, v: u64) -> Option<State>
     ensures { result ≡ edition_told s v }
 {
-    if opcodes::known_edition(v) {
-        return Next::At(State {
-            stage: PLAIN,
-            edition: v,
-            lists: s.lists,
-            items: s.items,
-            units: s.units,
-        });
+    if !opcodes::known_edition(v) {
+        return None;
     }
-    Next::Unknown
+    Some(State {
+        stage: PLAIN,
+        edition: v,
+        ..s
+    })
 }
 
-// Takes a constant's kind: a number or a text follows.
-fn kind_told(s: State, v: u64) -> Next
+// Takes a constant's kind, if there is such a kind: a number or a text follows.
+fn kind_told(s: State, v: u64) -> Option<State>
     ensures { result ≡ kind_told s v }
 {
-    if v == 0 {
-        return Next::At(with_units(s, PLAIN, 1));
+    match v {
+        0 => Some(with_units(s, PLAIN, 1)),
+        1 => Some(with_units(s, LENGTH, 1)),
+        _ => None,
     }
-    if v == 1 {
-        return Next::At(with_units(s, LENGTH, 1));
-    }
-    Next::Unknown
 }
 
-// Takes an instruction's code: its depth and the numbers that it names follow.
-fn code_told(s: State, v: u64) -> Next
+// Takes an instruction's code, if there is such a code: its depth and the numbers that it names follow.
+fn code_told(s: State, v: u64) -> Option<State>
     ensures { result ≡ code_told s v }
 {
-    if opcodes::known_code(s.edition, v) {
-        return Next::At(with_units(s, PLAIN, 1 + opcodes::operands(s.edition, v)));
+    if !opcodes::known_code(s.edition, v) {
+        return None;
     }
-    Next::Unknown
+    Some(with_units(s, PLAIN, 1 + opcodes::operands(s.edition, v)))
 }
 
 // Takes what v says: how many items the list has, or how many units of which stage the item has left.
-fn told(s: State, v: u64) -> Next
+fn told(s: State, v: u64) -> Option<State>
     ensures { result ≡ told s v }
 {
-    let stage = s.stage;
-    match stage {
+    match s.stage {
         EDITION => edition_told(s, v),
-        COUNT => Next::At(State {
-            stage,
-            edition: s.edition,
-            lists: s.lists,
+        COUNT => Some(State {
             items: v,
             units: 0,
+            ..s
         }),
         KIND => kind_told(s, v),
-        LENGTH => Next::At(with_units(s, BYTE, v)),
+        LENGTH => Some(with_units(s, BYTE, v)),
         CODE => code_told(s, v),
-        _ => Next::At(s),
+        _ => Some(s),
     }
 }
 
@@ -164,19 +142,18 @@ fn advance(s: State) -> State
     if s.items != 0 {
         return State {
             stage: opening(s.lists),
-            edition: s.edition,
-            lists: s.lists,
             items: s.items - 1,
             units: 0,
+            ..s
         };
     }
     if s.lists != 0 {
         return State {
             stage: COUNT,
-            edition: s.edition,
             lists: s.lists - 1,
             items: 0,
             units: 0,
+            ..s
         };
     }
     State {
@@ -189,11 +166,8 @@ fn advance(s: State) -> State
 }
 
 // Returns the state after v came, or that v is an unknown edition, kind or code.
-pub fn after(s: State, v: u64) -> Next
+pub fn after(s: State, v: u64) -> Option<State>
     ensures { result ≡ after s v }
 {
-    let Next::At(t) = told(s, v) else {
-        return Next::Unknown;
-    };
-    Next::At(advance(t))
+    Some(advance(told(s, v)?))
 }

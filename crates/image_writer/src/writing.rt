@@ -11,9 +11,7 @@ ghost use Rattle.image.specs.Pass.{TakesStage, passed_of, pass_of};
 ghost use Rattle.image.specs.Copy.{copying_of, written_of};
 
 use edition::Edition;
-use image::{Copied, Passed};
-use image_stages::Next;
-use varint::Taken;
+use image::CopyError;
 
 // The greatest text byte.
 const BYTE: u64 = 255;
@@ -28,19 +26,19 @@ fn most(stage: u64) -> u64
     Edition::NUMBER
 }
 
-// Takes what comes at a stage off the words, from a place on.
-fn take(content: &[u64], stage: u64, at: usize) -> Taken
+// Takes what comes at a stage off the words, from a place on; returns it and the place after it.
+fn take(content: &[u64], stage: u64, at: usize) -> Option<(u64, usize)>
     requires { at ≤ length content.now }
     ensures { TakesStage from_words content.now stage at result }
 {
     if content.len() <= at {
-        return Taken::Nothing;
+        return None;
     }
     let w = content[at];
     if most(stage) < w {
-        return Taken::Nothing;
+        return None;
     }
-    Taken::Number(w, at + 1)
+    Some((w, at + 1))
 }
 
 // Writes what came at a stage from byte k on; returns the index after it.
@@ -56,8 +54,8 @@ fn put(bytes: &mut [u8], stage: u64, k: usize, v: u64) -> usize
     varint::put_number(bytes, k, v)
 }
 
-// Passes over all content words, and writes the image's bytes as far as the room goes.
-fn pass(content: &[u64], bytes: &mut [u8]) -> Passed
+// Passes over all content words, and writes the image's bytes as far as the room goes; returns how many there are.
+fn pass(content: &[u64], bytes: &mut [u8]) -> Option<usize>
     ensures { passed_of result bytes.new
         ≡ pass_of bytes_of bytes.old (read_image from_words content.now) }
 {
@@ -65,33 +63,28 @@ fn pass(content: &[u64], bytes: &mut [u8]) -> Passed
     let mut at: usize = 0;
     let mut k: usize = 0;
     while s.stage < image_stages::END {
-        let Taken::Number(v, end) = take(content, s.stage, at) else {
-            return Passed::Malformed;
-        };
+        let (v, end) = take(content, s.stage, at)?;
         k = put(bytes, s.stage, k, v);
-        let Next::At(next) = image_stages::after(s, v) else {
-            return Passed::Malformed;
-        };
-        s = next;
+        s = image_stages::after(s, v)?;
         at = end;
     }
     if at < content.len() {
-        return Passed::Malformed;
+        return None;
     }
-    Passed::Whole(k)
+    Some(k)
 }
 
-// Writes an image: its bytes, if the room has enough; else the room is as it was. So a first pass, which says how many
-// bytes there are, is lent no byte of the room.
-pub fn write(content: &[u64], image: &mut [u8]) -> Copied
+// Writes an image: its bytes, if the room has enough, whose number is returned; else the room is as it was. So a first
+// pass, which says how many bytes there are, is lent no byte of the room.
+pub fn write(content: &[u64], image: &mut [u8]) -> Result<usize, CopyError>
     ensures { copying_of result image.new ≡ written_of content.now image.old }
 {
-    let Passed::Whole(bytes) = pass(content, &mut image[0..0]) else {
-        return Copied::Malformed;
+    let Some(bytes) = pass(content, &mut image[0..0]) else {
+        return Err(CopyError::Malformed);
     };
     if image.len() < bytes {
-        return Copied::NoRoom;
+        return Err(CopyError::NoRoom);
     }
     pass(content, image);
-    Copied::Written(bytes)
+    Ok(bytes)
 }

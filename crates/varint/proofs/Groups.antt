@@ -15,7 +15,7 @@ use Rattle.lists.specs.Parsing.{Parsed, parsed}
 use Rattle.edition.specs.Limits.{number_bound}
 use Rattle.image_format.specs.Numbers.{above, take_groups, bounded, take_number}
 use Rattle.varint.specs.Take.{TakesAt, last_of}
-use Rattle.varint.specs.declared.numbers.Taken.TheVariants.{Number, Nothing}
+use Rattle.std.specs.Prelude.{Some, None}
 
 -- what is read so far, with what comes after it; after others a 0 is needless
 abbrev pub combined : ℕ → ℕ → Option (Parsed ℕ) → Option (Parsed ℕ)
@@ -83,7 +83,7 @@ module _ (l : List ℕ) (at : ℕ) where
     read_more v s p b g e =
         e ∙ ap (combined v s) (groups-more b g) ∙ combined-more v s (get_or l i 0 - 128) (take_groups (drop (suc i) l)) p
 
-    pub read-many : (v : ℕ) → get_or l i 0 < 256 → 128 ≤ get_or l i 0 → ReadTo i v (2 ^ 49) → TakesAt l at Nothing
+    pub read-many : (v : ℕ) → get_or l i 0 < 256 → 128 ≤ get_or l i 0 → ReadTo i v (2 ^ 49) → TakesAt l at None
     unfolding take_number
     read-many v b g e =
         ap bounded (e ∙ ap (combined v (2 ^ 49)) (groups-more b g)) ∙ too_many v (get_or l i 0 - 128) (take_groups (drop (suc i) l))
@@ -102,15 +102,15 @@ module _ (l : List ℕ) (at : ℕ) where
         q = e ∙ ap (combined v s) (groups-last b)
 
         within : take_groups (drop at l) ≡ parsed n (drop (suc i) l) → (x : Bool) → ltb number_bound n ≡ x
-            → TakesAt l at (cond x Nothing (Number n (suc i)))
+            → TakesAt l at (cond x None (Some (n, suc i)))
         within c true w = ap bounded c ∙ rw (lt-leb n number_bound (ltb-true number_bound n w))
         within c false w = (ap bounded c ∙ rw (le-leb n number_bound (ltb-false number_bound n w)), omega arith, omega arith)
 
-        by : (x : Bool) → (eqb g 0 && not (eqb s 1)) ≡ x → TakesAt l at (cond x Nothing (cond (ltb number_bound n) Nothing (Number n (suc i))))
+        by : (x : Bool) → (eqb g 0 && not (eqb s 1)) ≡ x → TakesAt l at (cond x None (cond (ltb number_bound n) None (Some (n, suc i))))
         by true z = let c : combined v s (parsed g (drop (suc i) l)) ≡ none = rw z in ap bounded (q ∙ c)
         by false z = let c : combined v s (parsed g (drop (suc i) l)) ≡ parsed n (drop (suc i) l) = rw z in within (q ∙ c) (ltb number_bound n) refl
 
-  pub read_out : (i v s : ℕ) → length l ≤ i → ReadTo i v s → TakesAt l at Nothing
+  pub read_out : (i v s : ℕ) → length l ≤ i → ReadTo i v s → TakesAt l at None
   unfolding take_number take_groups
   read_out i v s h e = ap bounded (e ∙ ap (λ (t : List ℕ). combined v s (take_groups t)) (drop_of_length-le l {i = i} h))
 
@@ -130,7 +130,7 @@ module _ (l : List ℕ) (at : ℕ) where
         let z : suc (at + k) ≡ at + (k + 1) = omega arith in
         subst (λ (n : ℕ). ReadTo n (v + s * (get_or l (at + k) 0 - 128)) (s * 128)) z (read_more (at + k) h v s p b g e)
 
-    pub take-many : s ≡ 128 ^ k → k ≡ 7 → get_or l (at + k) 0 < 256 → 128 ≤ get_or l (at + k) 0 → TakesAt l at Nothing
+    pub take-many : s ≡ 128 ^ k → k ≡ 7 → get_or l (at + k) 0 < 256 → 128 ≤ get_or l (at + k) 0 → TakesAt l at None
     take-many p q b g = read-many (at + k) h v b g (subst (ReadTo (at + k) v) (p ∙ ap (λ (n : ℕ). 128 ^ n) q) e)
 
 -- ---- scales

@@ -4,5 +4,5 @@
 mod numbers;
 mod room;
 
-pub use numbers::{Taken, take_number};
+pub use numbers::take_number;
 pub use room::{put_byte, put_number};

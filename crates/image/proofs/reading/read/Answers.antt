@@ -24,7 +24,7 @@ returns-then-content-words c =
     let room = c.args.content.now in
     let e = nothing_lent first.new.words room first.auto.words in
     ap (copying room_too_small 0) e
-    ∙ copied-no-room content_of _ _ _ _ first.ensures room _ c.in-Whole.is
+    ∙ copied-no-room content_of _ _ _ _ first.ensures room _ c.in-Some.is
     (omega (arith, ap length e, c.if-content-words.true))
 
 pub returns : goal.returns
@@ -33,6 +33,6 @@ returns c =
     let first = c.pass in
     let room = c.args.content.now in
     let e = nothing_lent first.new.words room first.auto.words in
-    copied-written content_of _ _ _ _ first.ensures room _ c.in-Whole.is
+    copied-written content_of _ _ _ _ first.ensures room _ c.in-Some.is
     (omega (arith, ap length e, c.if-content-words.false)) _ _
     (rw e at c.pass-2.ensures)

@@ -1,34 +1,38 @@
 -- `sections` meets its contract: each section starts where the one before it ends, and the last ends where the image
 -- does.
-use Rattle.image_check.proofs.Deciding.{first-refused, second-refused, third-judged}
-use borrow.Author.Tests.{not-true, not-false}
+use mathlib.Core.Path.{refl}
 use borrow.Author.Rules.{rules}
+use Rattle.image_check.proofs.Deciding.{first-refused, second-refused, third-refused, third-judged}
 use Rattle.image_check.proofs.checking.sections.Goals as goal
 
-pub returns-then-not-begin : goal.returns-then-not-begin
-returns-then-not-begin c =
+pub returns-in_default : goal.returns-in_default
+returns-in_default c =
     let a = c.args in
-    first-refused a.edition a.users a.constants a.eres a.image.now a.at _ c.section-begin.ensures (not-true _ c.if-not-begin.true)
+    let x = a.context in
+    first-refused x.edition x.users x.constants x.eres a.image.now a.at c.in_default.ensures
 
-pub section-main-requires : goal.section-main-requires
-section-main-requires c =
-    (c.section-begin.ensures.inside (not-false _ c.if-not-begin.false), c.requires.1, search rules, c.requires.2)
+pub section-requires-2 : goal.section-requires-2
+section-requires-2 c = (c.in-Some.ensures.inside, c.requires.1, search rules, c.requires.2)
 
-pub returns-then-not-main : goal.returns-then-not-main
-returns-then-not-main c =
+pub returns-in_default-section : goal.returns-in_default-section
+returns-in_default-section c =
     let a = c.args in
-    second-refused a.edition a.users a.constants a.eres a.image.now a.at _ c.section-begin.ensures (not-false _ c.if-not-begin.false) _ c.section-main.ensures (not-true _ c.if-not-main.true)
+    let x = a.context in
+    second-refused x.edition x.users x.constants x.eres a.image.now a.at _ c.in-Some.ensures c.in_default-section.ensures
 
-pub section-end-requires : goal.section-end-requires
-section-end-requires c =
-    (c.section-main.ensures.inside (not-false _ c.if-not-main.false), c.requires.1, search rules, c.requires.2)
+pub section-requires-3 : goal.section-requires-3
+section-requires-3 c = (c.in-Some-section.ensures.inside, c.requires.1, search rules, c.requires.2)
 
-pub returns-then-end : goal.returns-then-end
-returns-then-end c =
+pub returns-in_default-section-2 : goal.returns-in_default-section-2
+returns-in_default-section-2 c =
     let a = c.args in
-    third-judged a.edition a.users a.constants a.eres a.image.now a.at _ c.section-begin.ensures (not-false _ c.if-not-begin.false) _ c.section-main.ensures (not-false _ c.if-not-main.false) _ c.section-end.ensures _ (rw c.if-end.true)
+    let x = a.context in
+    third-refused x.edition x.users x.constants x.eres a.image.now a.at _ c.in-Some.ensures _ c.in-Some-section.ensures
+    c.in_default-section-2.ensures
 
-pub returns-else-end : goal.returns-else-end
-returns-else-end c =
+pub returns : goal.returns
+returns c =
     let a = c.args in
-    third-judged a.edition a.users a.constants a.eres a.image.now a.at _ c.section-begin.ensures (not-false _ c.if-not-begin.false) _ c.section-main.ensures (not-false _ c.if-not-main.false) _ c.section-end.ensures _ (rw c.if-end.false)
+    let x = a.context in
+    third-judged x.edition x.users x.constants x.eres a.image.now a.at _ c.in-Some.ensures _ c.in-Some-section.ensures _
+    c.in-Some-section-2.ensures _ refl

@@ -1,13 +1,9 @@
 -- `items_at` meets its contract: k items are passed, each fits, and those that the index has room for have their
 -- entries there.
 use mathlib.Core.Path.{◌≡◌}
-use Prim.Native.Nat.{◌≤◌, ◌-◌}
 use lib.ListN.{length}
 use Rattle.image_index.proofs.Indexing.{Passed}
 use Rattle.image_index.proofs.indexes.items_at.Given as goal
 
 abbrev pub invariant-loop-k : goal.invariant-loop-k
-invariant-loop-k l = (l.k ≤ l.n) × (length l.index ≡ length l.initial.index) × (Passed l.edition l.kind l.image l.first l.k l.at l.index)
-
-abbrev pub decreases-loop-k : goal.decreases-loop-k
-decreases-loop-k l = l.n - l.k
+invariant-loop-k l = (length l.index ≡ length l.initial.index) × (Passed l.edition l.kind l.image l.first l.k l.at l.index)

@@ -1,31 +1,24 @@
 -- `header_of` meets its contract: the two numbers, one after the other.
-use Rattle.image_items.proofs.Following.{edition-missing, edition-unknown, users-missing, header-there}
-use Rattle.lists.proofs.Tests.{was-false, was-true}
-use Rattle.varint.specs.Take.{TakesAt}
-use mathlib.Core.Path.{sym, subst}
-use Rattle.image_items.proofs.header.header_of.Goals as goal
-use mathlib.Core.Path.{ap}
+use mathlib.Core.Path.{sym, ap, ◌∙◌}
 use mathlib.Core.Bool.{not}
+use borrow.Author.Tests.{not-true, not-false}
+use Rattle.image_items.proofs.Following.{edition-missing, edition-unknown, users-missing, header-there}
+use Rattle.image_items.proofs.header.header_of.Goals as goal
 
-pub returns-in_default : goal.returns-in_default
-returns-in_default c =
-    let a = c.args in
-    edition-missing a.image.now _ c.no_header.ensures (subst (TakesAt a.image.now 0) c.in_default.is c.take_number.ensures)
+pub returns-in_err-edition : goal.returns-in_err-edition
+returns-in_err-edition c = rw c.from_residual.ensures (edition-missing c.args.image.now c.in_err-edition.ensures)
 
 pub returns-then-not-known_edition : goal.returns-then-not-known_edition
 returns-then-not-known_edition c =
-    let a = c.args in
-    edition-unknown a.image.now _ _ (subst (TakesAt a.image.now 0) c.in-Number.is c.take_number.ensures) _ c.no_header-then-not-known_edition.ensures (sym (was-false (ap not c.if-not-known_edition.true) c.known_edition.ensures))
+    edition-unknown c.args.image.now _ _ c.in_ok-edition.ensures
+    (sym c.known_edition.ensures ∙ not-true _ (ap not c.if-not-known_edition.true))
 
-pub take_number-requires-2 : goal.take_number-requires-2
-take_number-requires-2 c = (subst (TakesAt c.args.image.now 0) c.in-Number.is c.take_number.ensures).2
-
-pub returns-in_default-take_number : goal.returns-in_default-take_number
-returns-in_default-take_number c =
-    let a = c.args in
-    users-missing a.image.now _ _ (subst (TakesAt a.image.now 0) c.in-Number.is c.take_number.ensures) _ c.no_header-in_default-take_number.ensures (subst (TakesAt a.image.now _) c.in_default-take_number.is c.take_number-2.ensures)
+pub returns-in_err-users : goal.returns-in_err-users
+returns-in_err-users c =
+    rw c.from_residual-in_err-users.ensures
+    (users-missing c.args.image.now _ _ c.in_ok-edition.ensures c.in_err-users.ensures)
 
 pub returns : goal.returns
 returns c =
-    let a = c.args in
-    header-there a.image.now _ _ (subst (TakesAt a.image.now 0) c.in-Number.is c.take_number.ensures) (sym (was-true (ap not c.if-not-known_edition.false) c.known_edition.ensures)) _ _ (subst (TakesAt a.image.now _) c.in-Number-take_number.is c.take_number-2.ensures)
+    header-there c.args.image.now _ _ c.in_ok-edition.ensures
+    (sym c.known_edition.ensures ∙ not-false _ (ap not c.if-not-known_edition.false)) _ _ c.in_ok-users.ensures

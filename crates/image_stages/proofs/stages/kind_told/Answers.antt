@@ -1,15 +1,15 @@
--- `kind_told` meets its contract, by its tests.
+-- `kind_told` meets its contract, by the kind.
 use mathlib.Core.Path.{ap}
-use borrow.Author.Tests.{eq-eqb, ne_eqb}
-use Rattle.image_stages.specs.declared.stages.Next.TheVariants.{At}
+use native.Mathlib.Omega.{arith}
+use borrow.Author.Tests.{ne_eqb}
+use Rattle.std.specs.Prelude.{Some}
 use Rattle.image_stages.proofs.stages.kind_told.Goals as goal
 
-pub returns-then-v-eq0 : goal.returns-then-v-eq0
-returns-then-v-eq0 c = rw (eq-eqb _ 0 c.if-v-eq0.true) (ap At c.with_units.ensures)
+pub returns-in-0 : goal.returns-in-0
+returns-in-0 c = rw c.in-0.is (ap Some c.with_units.ensures)
 
-pub returns-then-v-eq1 : goal.returns-then-v-eq1
-returns-then-v-eq1 c =
-    rw (ne_eqb _ 0 c.if-v-eq0.false, eq-eqb _ 1 c.if-v-eq1.true) (ap At c.with_units-then-v-eq1.ensures)
+pub returns-in-1 : goal.returns-in-1
+returns-in-1 c = rw c.in-1.is (ap Some c.with_units-in-1.ensures)
 
-pub returns : goal.returns
-returns c = rw (ne_eqb _ 0 c.if-v-eq0.false, ne_eqb _ 1 c.if-v-eq1.false)
+pub returns-in_default : goal.returns-in_default
+returns-in_default c = rw (ne_eqb c.args.v 0 (omega arith), ne_eqb c.args.v 1 (omega arith))

@@ -1,12 +1,13 @@
 -- `opening` meets its contract, by its tests.
-use borrow.Author.Tests.{eq-eqb, ne_eqb}
+use native.Mathlib.Omega.{arith}
+use borrow.Author.Tests.{ne_eqb}
 use Rattle.image_stages.proofs.stages.opening.Goals as goal
 
-pub returns-then-lists-eq-AFTER_CONSTANTS : goal.returns-then-lists-eq-AFTER_CONSTANTS
-returns-then-lists-eq-AFTER_CONSTANTS c = rw (eq-eqb _ 4 c.if-lists-eq-AFTER_CONSTANTS.true)
+pub returns-in-4 : goal.returns-in-4
+returns-in-4 c = rw c.in-4.is
 
-pub returns-then-lists-eq-AFTER_ERES : goal.returns-then-lists-eq-AFTER_ERES
-returns-then-lists-eq-AFTER_ERES c = rw (ne_eqb _ 4 c.if-lists-eq-AFTER_CONSTANTS.false, eq-eqb _ 3 c.if-lists-eq-AFTER_ERES.true)
+pub returns-in-3 : goal.returns-in-3
+returns-in-3 c = rw c.in-3.is
 
-pub returns : goal.returns
-returns c = rw (ne_eqb _ 4 c.if-lists-eq-AFTER_CONSTANTS.false, ne_eqb _ 3 c.if-lists-eq-AFTER_ERES.false)
+pub returns-in_default : goal.returns-in_default
+returns-in_default c = rw (ne_eqb c.args.lists 4 (omega arith), ne_eqb c.args.lists 3 (omega arith))

@@ -1,7 +1,8 @@
 -- `told` meets its contract: by the stage, it answers what the definition says.
 use mathlib.Core.Path.{ap}
+use native.Mathlib.Omega.{arith}
 use borrow.Author.Tests.{ne_eqb}
-use Rattle.image_stages.specs.declared.stages.Next.TheVariants.{At}
+use Rattle.std.specs.Prelude.{Some}
 use Rattle.image_stages.proofs.stages.told.Goals as goal
 
 pub returns-in-0 : goal.returns-in-0
@@ -14,13 +15,13 @@ pub returns-in-2 : goal.returns-in-2
 returns-in-2 c = rw c.in-2.is c.kind_told.ensures
 
 pub returns-in-3 : goal.returns-in-3
-returns-in-3 c = rw c.in-3.is (ap At c.with_units.ensures)
+returns-in-3 c = rw c.in-3.is (ap Some c.with_units.ensures)
 
 pub returns-in-5 : goal.returns-in-5
 returns-in-5 c = rw c.in-5.is c.code_told.ensures
 
 pub returns-in_default : goal.returns-in_default
 returns-in_default c =
-    let no = c.in_default.in_default-own.rest in
-    rw (ne_eqb _ 0 no.0.0.0.0.1, ne_eqb _ 1 no.0.0.0.1, ne_eqb _ 2 no.0.0.1)
-    (rw (ne_eqb _ 3 no.0.1, ne_eqb _ 5 no.1))
+    let stage = c.args.s.stage in
+    rw (ne_eqb stage 0 (omega arith), ne_eqb stage 1 (omega arith), ne_eqb stage 2 (omega arith))
+    (rw (ne_eqb stage 3 (omega arith), ne_eqb stage 5 (omega arith)))

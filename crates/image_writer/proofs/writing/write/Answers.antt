@@ -24,7 +24,7 @@ returns-then-image-bytes c =
     let room = c.args.image.now in
     let e = nothing_lent first.new.bytes room first.auto.bytes in
     ap (copying room_too_small 0) e
-    ∙ copied-no-room bytes_of _ _ _ _ first.ensures room _ c.in-Whole.is
+    ∙ copied-no-room bytes_of _ _ _ _ first.ensures room _ c.in-Some.is
     (omega (arith, ap length e, c.if-image-bytes.true))
 
 pub returns : goal.returns
@@ -33,6 +33,6 @@ returns c =
     let first = c.pass in
     let room = c.args.image.now in
     let e = nothing_lent first.new.bytes room first.auto.bytes in
-    copied-written bytes_of _ _ _ _ first.ensures room _ c.in-Whole.is
+    copied-written bytes_of _ _ _ _ first.ensures room _ c.in-Some.is
     (omega (arith, ap length e, c.if-image-bytes.false)) _ _
     (rw e at c.pass-2.ensures)

@@ -1,8 +1,5 @@
 -- `last` meets its contract, by its tests.
 use Rattle.varint.proofs.Groups.{group-fits}
-use Rattle.edition.specs.Limits.{number_bound}
-use Prim.Native.Nat.{◌+◌, ◌*◌}
-use borrow.Author.Tests.{le-ltb}
 use mathlib.Core.Path.{sym, ◌∙◌}
 use native.Mathlib.Omega.{arith}
 use Rattle.varint.proofs.numbers.last.Goals as goal
