@@ -1,2 +1,3 @@
 -- The laws on the pool of automata.
 pub mod Filling
+pub mod Deriving

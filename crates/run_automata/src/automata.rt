@@ -21,24 +21,13 @@ const BOUNDS: usize = uses::SLOTS + 1;
 // The words of the pool.
 pub const POOL_WORDS: usize = 13312;
 
-// Fills words with zeros.
-fn clear(words: &mut [u64])
-    ensures { words.new ≡ replicate (length words.old) 0 }
-{
-    let mut k = 0;
-    while k < words.len() {
-        words[k] = 0;
-        k += 1;
-    }
-}
-
 // Compiles ERE n into a table whose other words are zeros then: no place that the ERE doesn't have takes a byte.
 fn compile_alone(image: &[u8], index: &[u32], edition: Edition, n: usize, table: &mut [u64])
     requires { (length table.old ≡ table_words)
         × ((xs : List (List ℕ)) × (Readable edition.number image.now index.now xs) × (n < length xs)) }
     ensures { Compiled edition.number image.now index.now n table.new }
 {
-    clear(table);
+    table.fill(0);
     run_image::compile(image, index, edition, n, table);
 }
 
@@ -49,9 +38,9 @@ fn derive(t: &[u64], k: usize, d: &mut [u16], pairs: usize) -> usize
     ensures { Made k t.now d.old result d.new }
 {
     if k < Edition::ERES {
-        return ere_derive::derive(t, d, pairs);
+        return ere_derive::derive(t, d, pairs).unwrap_or(0);
     }
-    ere_derive::derive_both(t, d, pairs)
+    ere_derive::derive_both(t, d, pairs).unwrap_or(0)
 }
 
 // Makes what slot k has of the EREs, and gives how many words it has: 0 if `pairs` is, or there is no room.
@@ -116,10 +105,8 @@ fn fill_pool(
         → Pooled edition.number xs pool.new }
 {
     pool[0] = BOUNDS as u16;
-    let mut k = 0;
-    while k < uses::SLOTS {
+    for k in 0..uses::SLOTS {
         add(image, index, edition, asked, k, table, pool);
-        k += 1;
     }
 }
 

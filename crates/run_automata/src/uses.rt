@@ -28,11 +28,9 @@ fn note(asked: &mut [u8], code: u64, n: usize)
 pub fn note_all(program: &[u32], asked: &mut [u8])
     requires { length asked.old ≡ pool_slots }
 {
-    let mut k = 0;
-    while k < program.len() {
+    for k in 0..program.len() {
         let i = image_access::instruction(program, k);
         note(asked, i.code, i.first as usize);
-        k += 1;
     }
 }
 
@@ -55,10 +53,8 @@ fn wanted(asked: &[u8], k: usize) -> usize
     requires { length asked.now ≡ pool_slots }
 {
     let mut n = 0;
-    let mut j = k;
-    while j < asked.len() {
+    for j in k..asked.len() {
         n += count(asked, j);
-        j += 1;
     }
     n
 }

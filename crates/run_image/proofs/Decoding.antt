@@ -8,7 +8,7 @@ use native.Mathlib.Omega.{arith}
 use lib.ListN.{length, drop, get_or, set}
 use lib.Seq.{get_or-set_same, get_or-set_other}
 use lib.Dec.{eqb, ltb}
-use borrow.Author.Tests.{eqb-true, eqb-false, ne_eqb, ltb-true, ltb-false}
+use borrow.Author.Tests.{eqb-true, eqb-false, ltb-true, ltb-false}
 use Rattle.lists.proofs.Many.{same_item}
 use Rattle.lists.proofs.Elements.{nth-none}
 use Rattle.lists.proofs.Options.{none-some}
@@ -23,7 +23,10 @@ use Rattle.image_format.specs.Reading.{from_bytes, constant, constant_of}
 use Rattle.image_format.proofs.Numbers.{number-only}
 use Rattle.semantics.specs.Checked.{Short}
 use Rattle.semantics.proofs.Tables.{nth-some}
-use Rattle.image_items.specs.Stands.{Stands, a_text, ConstantAt, constant_of as constant_in}
+use Rattle.image_items.specs.Stands.{Stands, a_text, Inside, IsConstant, ConstantAt, constant_of as constant_in}
+use Rattle.std.specs.Prelude.{Option as Answer, Some, None, IsSome}
+use Rattle.image_items.specs.declared.items.Text.{Text}
+use Rattle.image_items.specs.declared.items.Constant.TheVariants.{Number, Text as TextRead}
 use Rattle.image_items.specs.declared.items.Found.{Found}
 use Rattle.run_image.specs.Constants.{text_base, place_in, size_in, Decoded, Listed, Words}
 
@@ -96,47 +99,52 @@ module _ {image index : List ℕ} {xs : List Constant} (y : Listed image index x
       let s = (y.indexed k a.0 a.1 h).1 in
       omega (arith, s.forward, s.inside)
 
-  module _ {r : Found} (c : ConstantAt image (get_or index k 0) r) (a : Constant) (e : nth xs k ≡ some a) where
+  module _ (a : Constant) (e : nth xs k ≡ some a) where
     told : Stands (constant from_bytes) image (get_or index k 0) a (y.indexed k a e h).0
     told = (y.indexed k a e h).1
 
-    constant-same : constant_in image r ≡ a
-    constant-same = by r.ok refl
-      where
-        by : (b : Bool) → r.ok ≡ b → constant_in image r ≡ a
-        by true g = same_item (c.found g).taken told.taken
-        by false g = absurd (none-some (sym (c.refused g) ∙ told.taken))
+    -- it is there
+    pub constant-there : (o : Answer Found) → ConstantAt image (get_or index k 0) o → IsSome o
+    constant-there None c = absurd (none-some (sym c ∙ told.taken))
+    constant-there (Some r) c = refl
 
-    -- of kind 0, a number
-    is-number : r.kind ≡ 0 → number r.value ≡ a
-    is-number z = (rw z) ∙ constant-same
+    module _ {r : Found} (c : IsConstant image (get_or index k 0) r) where
+      constant-same : constant_in image r.constant ≡ a
+      constant-same = same_item c.found.taken told.taken
 
-    pub value-small : r.kind ≡ 0 → r.value ≤ number_bound
-    value-small z =
-        number_small (drop (get_or index k 0) image) r.value (drop (y.indexed k a e h).0 image)
-        (rw (is-number z) told.taken)
+      -- as a number
+      module _ (n : ℕ) (z : r.constant ≡ Number n) where
+        is-number : number n ≡ a
+        is-number = rw z at constant-same
 
-    pub decoded-number : r.kind ≡ 0 → Decoded image (number_bound + r.value) a
-    decoded-number z =
-        subst (Decoded image (number_bound + r.value)) (is-number z) (number-decoded image r.value (value-small z))
+        pub value-small : n ≤ number_bound
+        value-small =
+            number_small (drop (get_or index k 0) image) n (drop (y.indexed k a e h).0 image) (rw is-number told.taken)
 
-    -- else a text, as long as a text may be
-    is-text : (r.kind ≡ 0 → ⊥) → text (part r.start (r.end - r.start) image) ≡ a
-    is-text z = (rw (ne_eqb r.kind 0 z)) ∙ constant-same
+        pub decoded-number : Decoded image (number_bound + n) a
+        decoded-number = subst (Decoded image (number_bound + n)) is-number (number-decoded image n value-small)
 
-    inside : r.start + (r.end - r.start) ≤ length image
-    inside = omega (arith, c.ordered, c.inside)
+      -- or as a text, as long as a text may be
+      module _ (t : Text) (z : r.constant ≡ TextRead t) where
+        is-text : text (part t.start (t.end - t.start) image) ≡ a
+        is-text = rw z at constant-same
 
-    size_small : (r.kind ≡ 0 → ⊥) → r.end - r.start ≤ text_bytes
-    size_small z =
-        let n = length_part r.start (r.end - r.start) image inside in
-        let m = subst Short (sym (is-text z)) (y.short k a e) in
-        omega arith
+        text-inside : Inside image t
+        text-inside = rw z at c.inside
 
-    pub decoded-text : (r.kind ≡ 0 → ⊥) → Decoded image (word_of r.start (r.end - r.start)) a
-    decoded-text z =
-        subst (Decoded image (word_of r.start (r.end - r.start))) (is-text z)
-        (text-decoded image r.start (r.end - r.start) inside (size_small z))
+        inside : t.start + (t.end - t.start) ≤ length image
+        inside = omega (arith, text-inside.0, text-inside.1)
+
+        size_small : t.end - t.start ≤ text_bytes
+        size_small =
+            let n = length_part t.start (t.end - t.start) image inside in
+            let m = subst Short (sym is-text) (y.short k a e) in
+            omega arith
+
+        pub decoded-text : Decoded image (word_of t.start (t.end - t.start)) a
+        decoded-text =
+            subst (Decoded image (word_of t.start (t.end - t.start))) is-text
+            (text-decoded image t.start (t.end - t.start) inside size_small)
 
 -- ---- words
 

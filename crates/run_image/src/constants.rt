@@ -15,11 +15,11 @@ fn word_of(image: &[u8], index: &[u32], k: usize) -> u64
     ensures { (xs : List Constant) (a : Constant) → Listed image.now index.now xs
         → nth xs k ≡ some a → Decoded image.now result a }
 {
-    let c = image_access::constant(image, index, k);
-    if c.kind == 0 {
-        return number::ZERO + c.value;
+    let c = image_access::constant(image, index, k).unwrap();
+    match c.constant {
+        image_items::Constant::Number(n) => number::ZERO + n,
+        image_items::Constant::Text(t) => TEXTS + 65536 * t.start as u64 + (t.end - t.start) as u64,
     }
-    TEXTS + 65536 * c.start as u64 + (c.end - c.start) as u64
 }
 
 // Writes the words of the first n constants.
@@ -30,9 +30,7 @@ pub fn decode(image: &[u8], index: &[u32], n: usize, words: &mut [u64])
         × ((xs : List Constant) → Listed image.now index.now xs → n ≡ length xs
         → Words image.now words.new xs) }
 {
-    let mut k = 0;
-    while k < n {
+    for k in 0..n {
         words[k] = word_of(image, index, k);
-        k += 1;
     }
 }

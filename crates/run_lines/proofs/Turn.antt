@@ -15,6 +15,7 @@ use Rattle.splitting.specs.Separator.{Separator}
 use Rattle.splitting.specs.Field.{Span, span, Next, field, none, Goes, next_field, follow, fields_in, fields_from}
 use Rattle.splitting.specs.Splitting.{text_of}
 use Rattle.splitting.proofs.Turns.{fields-more, fields-none, next_past}
+use Rattle.std.specs.Prelude.{Option, Some, None}
 use Rattle.separators.specs.Kinds.{Means, next_of}
 use Rattle.separators.specs.declared.kinds.Kind.{Kind}
 use Rattle.separators.specs.declared.steps.Step.{Step}
@@ -40,18 +41,6 @@ pub line_kept : (a : ℕ) (x y : List ℕ) (l r : Line) → Outside a base_end x
 unfolding line_of
 line_kept a x y l r o h i e f =
     ap₂ (λ (n m : ℕ). part (record_start n) m y) e f ∙ part-before a base_end (record_start l.side) l.size o (omega arith)
-
--- ---- a step
-
-pub step-some : (text : List ℕ) (s : Separator) (at : ℕ) (f : Step) → next_of f ≡ next_field text s at → f.found ≡ true
-    → next_field text s at ≡ field (span f.start f.size) f.after
-step-some text s at f e h = sym e ∙ rw h
-
-pub step-goes : (at end : ℕ) (f : Step) → Goes at end (next_of f) → f.found ≡ true → Goes at end (field (span f.start f.size) f.after)
-step-goes at end f g h = rw h at g
-
-pub step-none : (text : List ℕ) (s : Separator) (at : ℕ) (f : Step) → next_of f ≡ next_field text s at → f.found ≡ false → next_field text s at ≡ none
-step-none text s at f e h = sym e ∙ rw h
 
 -- ---- what is pending
 
@@ -113,9 +102,9 @@ pub entry_kept : (a e : ℕ) (x y line line' : List ℕ) (k : ℕ) → Outside a
 entry_kept a e x y line line' k o h f s =
     subst (λ (b : List ℕ). EntryHeld b y k) (sym f) (kept_entry line x y k (part-before a e (entries_start + k * entry_bytes) entry_bytes o h) s)
 
-module _ (x : List ℕ) (l r : Line) (fits : base_end ≤ length x) (i : Placed l) (pends : l.after ≤ l.size) (f : Step) (side : r.side ≡ l.side) (size : r.size ≡ l.size) where
+module _ (x : List ℕ) (l r : Line) (fits : base_end ≤ length x) (i : Placed l) (pends : l.after ≤ l.size) (side : r.side ≡ l.side) (size : r.size ≡ l.size) where
   -- a field was found, and is written to the next entry
-  module _ (y : List ℕ) (e : Entry) (w : Entered x y l.known e) (kind : e.kind ≡ 3) (start : e.start ≡ f.start) (long : e.size ≡ f.size)
+  module _ (f : Step) (y : List ℕ) (e : Entry) (w : Entered x y l.known e) (kind : e.kind ≡ 3) (start : e.start ≡ f.start) (long : e.size ≡ f.size)
       (known : r.known ≡ l.known + 1) (after : r.after ≡ f.after) (room : l.known < field_count) where
     entry-outside : Outside (entries_start + l.known * entry_bytes) base_end x y
     entry-outside =
@@ -134,16 +123,16 @@ module _ (x : List ℕ) (l r : Line) (fits : base_end ≤ length x) (i : Placed 
         ∙ ap₂ (λ (k : ℕ) (b : List ℕ). value_by k e.number b) kind (ap₂ (λ (a n : ℕ). part a n line) start long)
         ∙ field-value _ _
 
-    pub turn-fields : (s : Separator) → next_of f ≡ next_field (line_of x l) s l.after → f.found ≡ true → fields_of y r s ≡ fields_of x l s
+    pub turn-fields : (s : Separator) → next_of (Some f) ≡ next_field (line_of x l) s l.after → fields_of y r s ≡ fields_of x l s
     unfolding fields_of entries_to
-    turn-fields s h found =
+    turn-fields s h =
         let line = line_of x l in
         ap₂ (λ (t : List ℕ) (n : ℕ). entries_to t y n ++ pending_of t s r.after) line_same (known ∙ add-one l.known)
         ∙ ap (λ (n : ℕ). entries_to line y (suc l.known) ++ pending_of line s n) after
         ∙ ap₂ (λ (a : List Value) (v : Value). a ++ (v ∷ []) ++ pending_of line s f.after)
         (entries-before (entries_start + l.known * entry_bytes) base_end entry-outside line l.known (omega arith)) (new-entry line)
         ∙ append_assoc (entries_to line x l.known) (field_text (text_of line (span f.start f.size)) ∷ []) (pending_of line s f.after)
-        ∙ ap (λ (p : List Value). entries_to line x l.known ++ p) (sym (pending-more line s l.after f.after (span f.start f.size) (step-some line s l.after f h found)))
+        ∙ ap (λ (p : List Value). entries_to line x l.known ++ p) (sym (pending-more line s l.after f.after (span f.start f.size) (sym h)))
 
     pub turn-held : Held x l → Held y r
     turn-held h =
@@ -160,14 +149,14 @@ module _ (x : List ℕ) (l r : Line) (fits : base_end ≤ length x) (i : Placed 
   same_line = line_kept entries_start x x l r (outside-same entries_start base_end x) (omega arith) i side size
 
   -- none was found
-  pub end-fields : r.known ≡ l.known → r.after ≡ l.size + 1 → (s : Separator) → next_of f ≡ next_field (line_of x l) s l.after → f.found ≡ false → fields_of x r s ≡ fields_of x l s
+  pub end-fields : r.known ≡ l.known → r.after ≡ l.size + 1 → (s : Separator) → none ≡ next_field (line_of x l) s l.after → fields_of x r s ≡ fields_of x l s
   unfolding fields_of
-  end-fields known after s h None-found =
+  end-fields known after s h =
       let line = line_of x l in
       let len : length line ≡ l.size = length-line x l i fits in
       ap₂ (λ (t : List ℕ) (n : ℕ). entries_to t x n ++ pending_of t s r.after) same_line known
       ∙ ap (λ (p : List Value). entries_to line x l.known ++ p)
-      (pending-past line s r.after (omega arith) ∙ sym (pending-none line s l.after (step-none line s l.after f h None-found)))
+      (pending-past line s r.after (omega arith) ∙ sym (pending-none line s l.after (sym h)))
 
   pub end-held : r.known ≡ l.known → Held x l → Held x r
   end-held known h =
@@ -177,46 +166,49 @@ module _ (x : List ℕ) (l r : Line) (fits : base_end ≤ length x) (i : Placed 
 
 module _ (edition : ℕ) (t : List ℕ) (kind : Kind) where
   -- what the code's step answers, of the part that it was lent
-  abbrev pub Stepped : List ℕ → Line → ℕ → Step → Type 0
+  abbrev pub Stepped : List ℕ → Line → ℕ → Option Step → Type 0
   Stepped x l a f =
       (Goes l.after (length (mid_of a (a + l.size - a) x)) (next_of f))
       × ((s : Separator) → Means edition t kind s → next_of f ≡ next_field (mid_of a (a + l.size - a) x) s l.after)
 
-  module _ (x : List ℕ) (l : Line) (fits : base_end ≤ length x) (i : Placed l) (pends : l.after ≤ l.size) (a : ℕ) (ea : a ≡ record_start l.side) (f : Step) (stepped : Stepped x l a f) where
-    stepped_line : (s : Separator) → Means edition t kind s → next_of f ≡ next_field (line_of x l) s l.after
-    stepped_line s m = stepped.1 s m ∙ ap (λ (q : List ℕ). next_field q s l.after) (line-lent x l a ea)
+  module _ (x : List ℕ) (l : Line) (fits : base_end ≤ length x) (i : Placed l) (pends : l.after ≤ l.size) (a : ℕ) (ea : a ≡ record_start l.side) where
+    stepped_line : (f : Option Step) → Stepped x l a f → (s : Separator) → Means edition t kind s → next_of f ≡ next_field (line_of x l) s l.after
+    stepped_line f stepped s m = stepped.1 s m ∙ ap (λ (q : List ℕ). next_field q s l.after) (line-lent x l a ea)
 
-    -- a field lies in the record
-    pub turn-bounds : f.found ≡ true → (f.start + f.size ≤ l.size) × (l.after < f.after) × (f.after ≤ suc l.size)
-    turn-bounds found =
-        let len : length (mid_of a (a + l.size - a) x) ≡ l.size = ap length (line-lent x l a ea) ∙ length-line x l i fits in
-        let g = step-goes l.after (length (mid_of a (a + l.size - a) x)) f stepped.0 found in
-        (omega (arith, g.1), omega (arith, g.3), omega (arith, g.4))
+    -- a field was found
+    module _ (f : Step) (stepped : Stepped x l a (Some f)) where
+      -- it lies in the record
+      pub turn-bounds : (f.start + f.size ≤ l.size) × (l.after < f.after) × (f.after ≤ suc l.size)
+      turn-bounds =
+          let len : length (mid_of a (a + l.size - a) x) ≡ l.size = ap length (line-lent x l a ea) ∙ length-line x l i fits in
+          let g = stepped.0 in
+          (omega (arith, g.1), omega (arith, g.3), omega (arith, g.4))
 
-    pub turned : (y : List ℕ) (r : Line) (e : Entry) → f.found ≡ true → l.known < field_count → Entered x y l.known e
-        → (e.kind ≡ 3) × (e.start ≡ f.start) × (e.size ≡ f.size)
-        → (r.side ≡ l.side) × (r.size ≡ l.size) × (r.known ≡ l.known + 1) × (r.after ≡ f.after)
-        → (l.after < r.after) × (r.known ≤ l.known + 1) × (Splits edition t kind x y l r)
-    turned y r e found room w v q =
-        let b = turn-bounds found in (
-          omega (arith, b.1, q.3),
-          omega (arith, q.2),
-          record {
-            outside = turn-outside x l r fits i pends f q.0 q.1 y e w v.0 v.1 v.2 q.2 q.3 room;
-            side = q.0;
-            size = q.1;
-            more = omega (arith, q.2);
-            on = omega (arith, b.1, q.3);
-            pace = omega (arith, q.1, q.2, q.3, b.1, b.2);
-            fields = λ s m. turn-fields x l r fits i pends f q.0 q.1 y e w v.0 v.1 v.2 q.2 q.3 room s (stepped_line s (m pends)) found;
-            held = turn-held x l r fits i pends f q.0 q.1 y e w v.0 v.1 v.2 q.2 q.3 room;
-          },
-        )
+      pub turned : (y : List ℕ) (r : Line) (e : Entry) → l.known < field_count → Entered x y l.known e
+          → (e.kind ≡ 3) × (e.start ≡ f.start) × (e.size ≡ f.size)
+          → (r.side ≡ l.side) × (r.size ≡ l.size) × (r.known ≡ l.known + 1) × (r.after ≡ f.after)
+          → (l.after < r.after) × (r.known ≤ l.known + 1) × (Splits edition t kind x y l r)
+      turned y r e room w v q =
+          let b = turn-bounds in (
+            omega (arith, b.1, q.3),
+            omega (arith, q.2),
+            record {
+              outside = turn-outside x l r fits i pends q.0 q.1 f y e w v.0 v.1 v.2 q.2 q.3 room;
+              side = q.0;
+              size = q.1;
+              more = omega (arith, q.2);
+              on = omega (arith, b.1, q.3);
+              pace = omega (arith, q.1, q.2, q.3, b.1, b.2);
+              fields = λ s m. turn-fields x l r fits i pends q.0 q.1 f y e w v.0 v.1 v.2 q.2 q.3 room s (stepped_line (Some f) stepped s (m pends));
+              held = turn-held x l r fits i pends q.0 q.1 f y e w v.0 v.1 v.2 q.2 q.3 room;
+            },
+          )
 
-    pub ended : (r : Line) → f.found ≡ false
+    -- none was found
+    pub ended : Stepped x l a None → (r : Line)
         → (r.side ≡ l.side) × (r.size ≡ l.size) × (r.known ≡ l.known) × (r.after ≡ l.size + 1)
         → (l.after < r.after) × (r.known ≤ l.known + 1) × (Splits edition t kind x x l r)
-    ended r found q = (
+    ended stepped r q = (
       omega (arith, q.3),
       omega (arith, q.2),
       record {
@@ -226,8 +218,8 @@ module _ (edition : ℕ) (t : List ℕ) (kind : Kind) where
         more = omega (arith, q.2);
         on = omega (arith, q.3);
         pace = omega (arith, q.1, q.2, q.3);
-        fields = λ s m. end-fields x l r fits i pends f q.0 q.1 q.2 q.3 s (stepped_line s (m pends)) found;
-        held = end-held x l r fits i pends f q.0 q.1 q.2;
+        fields = λ s m. end-fields x l r fits i pends q.0 q.1 q.2 q.3 s (stepped_line None stepped s (m pends));
+        held = end-held x l r fits i pends q.0 q.1 q.2;
       },
     )
 

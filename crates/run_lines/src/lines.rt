@@ -19,10 +19,9 @@ fn split_one(work: &mut [u8], t: &[u64], kind: Kind, edition: Edition, line: Lin
 {
     let a = run_room::record_start(line.side);
     let e = a + line.size;
-    let f = separators::next_field(&work[a..e], kind, edition, t, line.after);
-    if !f.found {
+    let Some(f) = separators::next_field(&work[a..e], kind, edition, t, line.after) else {
         return line.split(line.known, line.size + 1);
-    }
+    };
     let field = Entry {
         kind: run_room::FIELD,
         start: f.start,

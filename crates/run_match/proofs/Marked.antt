@@ -2,6 +2,7 @@
 use mathlib.Core.Path.{◌≡◌, refl, sym, ap, ap₂, subst, ◌∙◌}
 use mathlib.Core.Bool.{Bool}
 use mathlib.Core.List.{List}
+use Rattle.std.specs.Prelude.{Option, Some, None}
 use Prim.Native.Nat.{ℕ, suc, ◌+◌, ◌-◌, ◌*◌, ◌≤◌, ◌<◌, zero-le}
 use native.Mathlib.Omega.{arith}
 use native.Mathlib.Decide.{dec_lt}
@@ -17,8 +18,6 @@ use Rattle.ere_meaning.specs.Meaning.{Match, found, nowhere}
 use Rattle.ere_meaning.specs.Search.{best_from, best_of}
 use Rattle.ere_exists.specs.Any.{is_match, Exists}
 use Rattle.ere_search.specs.Find.{match_of, Inside, Finds}
-use Rattle.ere_search.specs.declared.search.Found.{Found}
-use Rattle.ere_search.specs.declared.search.Found.TheVariants.{At, Nowhere}
 use Rattle.ere_automaton.specs.Automaton.{Drives}
 use Rattle.ere_automaton.specs.Follows.{Seeks}
 use Rattle.ere.specs.Answer.{Serves, Bytes}
@@ -58,7 +57,7 @@ marks x y z u a start size inside o p q l =
 
 -- ---- the match in a text that is shown
 
-pub found_inside : (y : List ℕ) (from n : ℕ) (f : Found) (s m : ℕ) → n ≤ text_bytes → f ≡ At s m
+pub found_inside : (y : List ℕ) (from n : ℕ) (f : Option (ℕ × ℕ)) (s m : ℕ) → n ≤ text_bytes → f ≡ Some (s, m)
     → Inside 0 0 (length (mid_of from (from + n - from) y)) f
     → s + m ≤ text_bytes
 found_inside y from n f s m h e inside =
@@ -115,7 +114,7 @@ module _ (t x y z : List ℕ) (a n from : ℕ) (o : Shown x y a n) (inside : a <
       (did-again x y a o.slotted inside z (λ st. with_slot st a (truth_value b)) l
       (did-slot y z l a (truth_value b) q inside q.outside.size (λ h. tt)))
 
-  module _ (d : List ℕ) (f : Found) (finds : FoundBy d t (mid_of from (from + n - from) y) f) where
+  module _ (d : List ℕ) (f : Option (ℕ × ℕ)) (finds : FoundBy d t (mid_of from (from + n - from) y) f) where
     best : (m : Match) → match_of f ≡ m → (e : Ere Class) → Locates d t e → m ≡ best_of accepts (text_of (slot_at x a)) e
     unfolding best_of
     best m em e s =
@@ -135,13 +134,13 @@ module _ (t x y z : List ℕ) (a n from : ℕ) (o : Shown x y a n) (inside : a <
         (did-again x y a o.slotted inside z
         (λ st. with_mark st a (number (unbias start)) (number (unbias size))) l (marks l))
 
-    pub matched-at : (s m : ℕ) → f ≡ At s m → Marks y z a (number_bound + s + 1) (number_bound + m) → Marked d t x z a
+    pub matched-at : (s m : ℕ) → f ≡ Some (s, m) → Marks y z a (number_bound + s + 1) (number_bound + m) → Marked d t x z a
     matched-at s m e marks =
         let g : number_bound + s + 1 ≡ number_bound + suc s = omega arith in
         matched (found s m) (number_bound + s + 1) (number_bound + m) (ap match_of e)
         (ap number (ap unbias g ∙ unbias-plus (suc s))) (ap number (unbias-plus m)) marks
 
-    pub matched-none : f ≡ Nowhere → Marks y z a number_bound (number_bound - 1) → Marked d t x z a
+    pub matched-none : f ≡ None → Marks y z a number_bound (number_bound - 1) → Marked d t x z a
     matched-none e marks =
         matched nowhere number_bound (number_bound - 1) (ap match_of e) (ap number (unbias-plus 0))
         (ap number (unbias-minus 1 (omega arith))) marks

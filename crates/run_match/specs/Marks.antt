@@ -1,11 +1,10 @@
 -- Internal: cited by private contracts only. What a match leaves in the working room.
-use Rattle.std.specs.Prelude.{◌≡◌, Bool, List, ℕ, suc, ◌+◌, ◌<◌, length, pos, negsuc}
+use Rattle.std.specs.Prelude.{◌≡◌, Bool, List, ℕ, suc, ◌+◌, ◌<◌, length, pos, negsuc, Option}
 use Rattle.edition.specs.Limits.{operand_depth}
 use Rattle.ere_meaning.specs.Tree.{Class, Ere}
 use Rattle.ere_meaning.specs.Meaning.{Match, found, nowhere}
 use Rattle.ere_exists.specs.Any.{Exists}
 use Rattle.ere_search.specs.Find.{Inside, Finds}
-use Rattle.ere_search.specs.declared.search.Found.{Found}
 use Rattle.ere_automaton.specs.Automaton.{Drives}
 use Rattle.ere_automaton.specs.Follows.{Seeks}
 use Rattle.ere.specs.Answer.{Serves}
@@ -38,7 +37,7 @@ Told d t text r = TellsBy Drives (λ (u : List ℕ). Exists u text r) d t
 abbrev pub Locates : List ℕ → List ℕ → Ere Class → Type 0
 Locates = SearchesBy Seeks
 
-pub record FoundBy (d t text : List ℕ) (r : Found) : Type 0 where
+pub record FoundBy (d t text : List ℕ) (r : Option (ℕ × ℕ)) : Type 0 where
   pub inside : Inside 0 0 (length text) r
   pub finds : TellsBy Seeks (λ (u : List ℕ). Finds u text 0 0 r) d t
 

@@ -15,8 +15,6 @@ ghost use Rattle.ere_automaton.specs.Follows.{SeekRanged};
 ghost use Rattle.values.specs.Value.{text_of, truth_value};
 ghost use Rattle.run_match.specs.Marks.{Searches, Told, Locates, FoundBy, marked_in, Marks};
 
-use ere_search::Found;
-
 // Tells whether a text has a match of an ERE: by its automaton, or where that is empty by its table.
 fn has_match(d: &[u16], t: &[u64], text: &[u8]) -> bool
     requires { (0 < length d.now → Ranged d.now) × (length t.now ≡ table_words)
@@ -63,7 +61,7 @@ fn mark(work: &mut [u8], a: usize, start: u64, size: u64)
 }
 
 // Finds the leftmost longest match of an ERE in a text: by its automata, or where these are empty by its table.
-fn find(d: &[u16], t: &[u64], text: &[u8]) -> Found
+fn find(d: &[u16], t: &[u64], text: &[u8]) -> Option<(usize, usize)>
     requires { (0 < length d.now → SeekRanged d.now) × (length t.now ≡ table_words)
         × (length text.now < 2 ^ 63) }
     ensures { FoundBy d.now t.now text.now result }
@@ -87,14 +85,13 @@ pub fn match_marked(work: &mut [u8], d: &[u16], t: &[u64], a: usize)
     let n = run_room::show(work, a);
     let from = a * run_room::SLOT + run_room::HEAD;
     let end = from + n;
-    let f = find(d, t, &work[from..end]);
-    match f {
-        Found::At(s, size) => mark(
+    match find(d, t, &work[from..end]) {
+        Some((s, size)) => mark(
             work,
             a,
             number::ZERO + s as u64 + 1,
             number::ZERO + size as u64,
         ),
-        Found::Nowhere => mark(work, a, number::ZERO, number::ZERO - 1),
+        None => mark(work, a, number::ZERO, number::ZERO - 1),
     }
 }

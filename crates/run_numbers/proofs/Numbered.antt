@@ -7,13 +7,14 @@ use native.Mathlib.Omega.{arith}
 use lib.IntN.{ℤ, pos}
 use borrow.Author.Tests.{le-leb, lt-leb}
 use Rattle.edition.specs.Limits.{field_count, number_bound}
-use Rattle.edition.specs.Outcomes.{number_out_of_range, number_not_whole, bad_field_number}
+use Rattle.edition.specs.Outcomes.{bad_field_number}
 use Rattle.number.specs.Range.{Answer, unbias, top}
 use Rattle.number.proofs.Bias.{unbias-above, unbias-below}
-use Rattle.numeral.specs.Answers.{value_of, Bounded, Values}
+use Rattle.numeral.specs.Answers.{outcome_of, value_of, Bounded, Values}
 use Rattle.numeral.specs.Judgement.{number_of as text_number}
-use Rattle.numeral.specs.declared.reading.Value.{Value as Read}
-use Rattle.numeral.specs.declared.reading.Value.TheVariants.{Is, OutOfRange, NotWhole}
+use Rattle.numeral.specs.declared.reading.Unreadable.{Unreadable}
+use Rattle.numeral.specs.declared.reading.Unreadable.TheVariants.{OutOfRange, NotWhole}
+use Rattle.std.specs.Prelude.{Result as Read, Ok, Err}
 use Rattle.values.specs.Value.{Value, unset, number, text, field_text, stop, Result, gives, stops, bind, result, text_of, number_of}
 use Rattle.values.specs.Operations.{field_in, field_number}
 use Rattle.run_room.specs.Room.{kind_of, is_number}
@@ -23,19 +24,20 @@ use Rattle.run_numbers.specs.declared.numbers.FieldNumber.{FieldNumber}
 
 -- ---- a text
 
-module _ (a : Answer) (v : Read) (h : Values v a) (r : Taken) where
-  pub taken_is : (w : ℕ) → v ≡ Is w → r.stop ≡ 0 → r.word ≡ w → TakenBy (result a) r
+-- no outcome of a text is 0
+outcome-some : (e : Unreadable) → outcome_of e ≡ 0 → ⊥
+outcome-some OutOfRange h = omega (arith, h)
+outcome-some NotWhole h = omega (arith, h)
+
+module _ (a : Answer) (v : Read ℕ Unreadable) (h : Values v a) (r : Taken) where
+  pub taken_is : (w : ℕ) → v ≡ Ok w → r.stop ≡ 0 → r.word ≡ w → TakenBy (result a) r
   taken_is w e es ew =
       let bound = subst Bounded e h.bounded in
       subst (λ (q : Answer). TakenBy (result q) r) (ap value_of (sym e) ∙ h.answer) (es, ap unbias (sym ew), omega (arith, bound, ew))
 
-  pub taken_out : v ≡ OutOfRange → r.stop ≡ number_out_of_range → TakenBy (result a) r
-  taken_out e es =
-      subst (λ (q : Answer). TakenBy (result q) r) (ap value_of (sym e) ∙ h.answer) (ap stop (sym es), λ z. omega (arith, es, z))
-
-  pub taken-part : v ≡ NotWhole → r.stop ≡ number_not_whole → TakenBy (result a) r
-  taken-part e es =
-      subst (λ (q : Answer). TakenBy (result q) r) (ap value_of (sym e) ∙ h.answer) (ap stop (sym es), λ z. omega (arith, es, z))
+  pub taken_stop : (s : Unreadable) → v ≡ Err s → r.stop ≡ outcome_of s → TakenBy (result a) r
+  taken_stop s e es =
+      subst (λ (q : Answer). TakenBy (result q) r) (ap value_of (sym e) ∙ h.answer) (ap stop (sym es), λ z. outcome-some s (sym es ∙ z))
 
 -- ---- a value
 

@@ -8,7 +8,6 @@ ghost use Rattle.run_room.specs.Room.{slot_at};
 ghost use Rattle.run_numbers.specs.Numbers.{TakenBy, FieldBy};
 
 use edition::Edition;
-use numeral::Value;
 
 // A number, as its distance from the least one, unless `stop` isn't 0.
 #[derive(Drop)]
@@ -28,12 +27,12 @@ pub struct FieldNumber {
 fn text_number(text: &[u8]) -> Taken
     ensures { TakenBy (result_of (text_number_of text.now)) result }
 {
-    let r = numeral::read_number(text);
-    let v = r.value;
-    match v {
-        Value::Is(w) => Taken { stop: 0, word: w },
-        Value::OutOfRange => Taken { stop: 11, word: 0 },
-        Value::NotWhole => Taken { stop: 12, word: 0 },
+    match numeral::read_number(text).value {
+        Ok(w) => Taken { stop: 0, word: w },
+        Err(e) => Taken {
+            stop: e.outcome(),
+            word: 0,
+        },
     }
 }
 

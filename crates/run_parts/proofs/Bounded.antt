@@ -1,19 +1,18 @@
 -- A bound of the size of all fields joined: of the texts that are there, the value that comes, and what is between.
 use mathlib.Core.Path.{◌≡◌, refl, sym, ap, ◌∙◌}
-use mathlib.Core.Bool.{Bool, true, false, cond}
+use mathlib.Core.Bool.{false}
 use mathlib.Core.List.{List, [], ◌∷◌, ◌++◌}
 use Prim.Native.Nat.{ℕ, zero, suc, ◌+◌, ◌*◌, ◌/◌, ◌%◌, ◌≤◌, ◌<◌, min}
 use native.Mathlib.Nat.{suc-mul}
 use native.Mathlib.Decide.{dec_lt, ℕ_discrete}
 use native.Mathlib.Omega.{arith}
 use lib.ListN.{length, length-take, length-drop}
-use lib.Dec.{eqb, ltb}
 use borrow.Author.Tests.{eq-eqb, ne_eqb, lt-ltb, le-ltb}
 use Rattle.edition.specs.Limits.{text_bytes}
 use Rattle.buffer.specs.Parts.{part}
 use Rattle.buffer.proofs.Parts.{length_part}
 use Rattle.number.specs.Range.{top}
-use Rattle.values.specs.Value.{Value, unset, text_of}
+use Rattle.values.specs.Value.{Value, text_of}
 use Rattle.run_room.specs.Layout.{head_size, slot_bytes, entries_start, entry_bytes}
 use Rattle.run_room.specs.Room.{word_at, value_by, size_in, is_number, slot_at, line_of, entry_at, entries_to, Texted}
 use Rattle.run_room.specs.declared.lines.Line.{Line}

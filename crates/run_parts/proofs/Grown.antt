@@ -1,23 +1,22 @@
 -- A record grows at its end.
 use mathlib.Core.Path.{◌≡◌, refl, sym, ap, ap₂, ◌∙◌}
-use mathlib.Core.Logic.{⊎_elim, inl, inr}
-use mathlib.Core.Bool.{Bool, true, false}
-use mathlib.Core.List.{List, [], ◌∷◌, ◌++◌, append_assoc, append-nil}
+use mathlib.Core.Logic.{⊎_elim}
+use mathlib.Core.Bool.{true, false}
+use mathlib.Core.List.{List, [], ◌++◌, append_assoc, append-nil}
 use Prim.Native.Nat.{ℕ, zero, suc, ◌+◌, ◌-◌, ◌*◌, ◌≤◌, ◌<◌, min}
 use native.Mathlib.Omega.{arith}
-use lib.ListN.{length, take, drop, length-append}
+use lib.ListN.{length, take, length-append}
 use lib.Seq.{take-append-add}
-use lib.Dec.{eqb, ltb}
 use borrow.Author.Tests.{eq-eqb, ne_eqb, lt-ltb, le-ltb}
-use Rattle.edition.specs.Limits.{text_bytes, field_count}
+use Rattle.edition.specs.Limits.{text_bytes}
 use Rattle.buffer.specs.Parts.{part, put}
 use Rattle.buffer.proofs.Parts.{length_part, part-more, part-part}
 use Rattle.block_copy.specs.Rounded.{blocks}
 use Rattle.decimals.specs.Decimal.{decimal_text}
 use Rattle.number.specs.Range.{unbias, top}
 use Rattle.values.specs.Value.{Value, unset, number, text, field_text, text_of}
-use Rattle.run_room.specs.Layout.{head_size, slot_bytes, slot_count, slots_end, record_start, entries_start, entry_bytes, base_end}
-use Rattle.run_room.specs.Room.{value_by, kind_of, is_number, slot_at, line_of, entry_at, Placed, Outside, Numbered, Texted}
+use Rattle.run_room.specs.Layout.{head_size, slot_bytes, record_start, entries_start, base_end}
+use Rattle.run_room.specs.Room.{value_by, kind_of, is_number, slot_at, line_of, Numbered, Texted}
 use Rattle.run_room.specs.Held.{Entered, Reads}
 use Rattle.run_room.specs.declared.lines.Line.{Line}
 use Rattle.run_room.specs.declared.entries.Entry.{Entry}

@@ -1,7 +1,7 @@
 -- One more field is joined.
 use mathlib.Core.Path.{◌≡◌, refl, sym, ap, ap₂, subst, ◌∙◌}
-use mathlib.Core.Bool.{Bool, true, false, cond}
-use mathlib.Core.List.{List, [], ◌∷◌, ◌++◌, append_assoc, append-nil}
+use mathlib.Core.Bool.{cond}
+use mathlib.Core.List.{List, [], ◌∷◌, ◌++◌, append_assoc}
 use Prim.Native.Nat.{ℕ, zero, suc, ◌+◌, ◌-◌, ◌*◌, ◌≤◌, ◌<◌}
 use native.Mathlib.Omega.{arith}
 use native.Mathlib.Nat.{add-suc, add-zero}
@@ -9,13 +9,13 @@ use native.Mathlib.Decide.{dec_lt}
 use lib.ListN.{length, take, drop, length-append}
 use lib.Seq.{drop_at, take-append_seam}
 use lib.Dec.{eqb, ltb}
-use borrow.Author.Tests.{ne_eqb, eq-eqb}
+use borrow.Author.Tests.{ne_eqb}
 use Rattle.edition.specs.Limits.{text_bytes, field_count}
 use Rattle.buffer.specs.Parts.{part}
 use Rattle.values.specs.Value.{Value, unset, text_of}
 use Rattle.semantics.specs.Operations.{joined}
 use Rattle.run_room.specs.Layout.{slot_count, slots_end, record_start, entries_start, entry_bytes, base_end}
-use Rattle.run_room.specs.Room.{slot_at, line_of, entry_at, entries_to, Placed, Outside}
+use Rattle.run_room.specs.Room.{line_of, entry_at, entries_to, Placed}
 use Rattle.run_room.specs.Held.{EntryHeld}
 use Rattle.run_room.specs.declared.lines.Line.{Line}
 use Rattle.run_room.proofs.Outside.{outside-same, outside-on, outside_wider, part-before, part-after}

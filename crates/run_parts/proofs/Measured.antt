@@ -1,12 +1,12 @@
 -- The size of all fields joined, field by field.
-use mathlib.Core.Path.{◌≡◌, refl, sym, ap, ◌∙◌}
+use mathlib.Core.Path.{◌≡◌, refl, ap, ◌∙◌}
 use mathlib.Core.List.{List}
 use Prim.Native.Nat.{ℕ, suc, ◌+◌, ◌≤◌, ◌<◌}
 use native.Mathlib.Omega.{arith}
 use native.Mathlib.Numerals.{add-one}
 use lib.ListN.{length}
 use Rattle.edition.specs.Limits.{text_bytes}
-use Rattle.values.specs.Value.{Value, text_of}
+use Rattle.values.specs.Value.{text_of}
 use Rattle.run_room.specs.declared.lines.Line.{Line}
 use Rattle.run_parts.specs.Join.{new_field, new_fields, gap_of, joined_text, Measured}
 use Rattle.run_parts.proofs.Joined.{joined_length, joined-below}

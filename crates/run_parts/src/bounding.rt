@@ -27,10 +27,8 @@ fn entries_bound(work: &[u8], n: usize) -> usize
     ensures { (result ≤ n * 65536) × ((line : List ℕ) → texts_size (entries_to line work.now n) ≤ result) }
 {
     let mut sum = 0;
-    let mut i = 0;
-    while i < n {
+    for i in 0..n {
         sum = sum + entry_bound(work, i);
-        i += 1;
     }
     sum
 }

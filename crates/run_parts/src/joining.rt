@@ -45,7 +45,7 @@ fn put_text(work: &mut [u8], side: usize, at: usize, p: Part) -> usize
 {
     let k = p.kind;
     if k == run_room::NUMBER {
-        let w = parts::least_word(p.word, number::TOP);
+        let w = p.word.min(number::TOP);
         return decimals::write_decimal(work, run_room::record_start(side) + at, w);
     }
     if k < run_room::TEXT {
@@ -101,11 +101,9 @@ pub fn join_all(
         × (length (joined_text (part from n work.old) (new_fields work.old line k v count)) ≤ text_bytes) }
     ensures { Joins work.old work.new line k v (part from n work.old) count result }
 {
-    let mut i = 0;
     let mut at = 0;
-    while i < count {
+    for i in 0..count {
         at = join_one(work, line, k, v, i, at, from, n);
-        i += 1;
     }
     at
 }

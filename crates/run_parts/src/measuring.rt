@@ -19,7 +19,7 @@ fn text_length(p: Part) -> usize
 {
     let k = p.kind;
     if k == run_room::NUMBER {
-        let w = parts::least_word(p.word, number::TOP);
+        let w = p.word.min(number::TOP);
         return decimals::decimal_length(w);
     }
     if k < run_room::TEXT {
@@ -45,8 +45,7 @@ fn measure(work: &[u8], line: Line, k: usize, v: usize, count: usize, n: usize) 
     ensures { Measured work.now line k v count n result }
 {
     let mut sum = 0;
-    let mut i = 0;
-    while i < count {
+    for i in 0..count {
         let p = parts::field_part(work, line, k, v, i);
         let m = text_length(p);
         if Edition::TEXT < m {
@@ -56,7 +55,6 @@ fn measure(work: &[u8], line: Line, k: usize, v: usize, count: usize, n: usize) 
         if Edition::TEXT < sum {
             return Edition::TEXT + 1;
         }
-        i += 1;
     }
     sum
 }

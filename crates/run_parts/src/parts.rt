@@ -17,13 +17,6 @@ pub struct Part {
     pub size: usize,
 }
 
-// Returns the lesser of two numbers.
-pub fn least_word(a: u64, b: u64) -> u64
-    ensures { result ≡ min a b }
-{
-    if a <= b { a } else { b }
-}
-
 // Returns field i, from 0 on, where field k is to be the value of slot v.
 pub fn field_part(work: &[u8], line: Line, k: usize, v: usize, i: usize) -> Part
     requires { (base_end ≤ length work.now) × Placed line × (i < field_count) × (v < slot_count) }

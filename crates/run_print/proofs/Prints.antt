@@ -20,8 +20,7 @@ use Rattle.run_room.specs.Held.{Shown, Did}
 use Rattle.run_room.specs.declared.lines.Line.{Line}
 use Rattle.run_lines.specs.Records.{ofs_slot}
 use Rattle.run_print.specs.Prints.{InSlot, Kept, ors_slot, line_from, Writes, written, PrintedBy}
-use Rattle.run_print.specs.declared.printing.Printed.{Printed}
-use Rattle.run_print.specs.declared.printing.Printed.TheVariants.{Bytes, Short}
+use Rattle.std.specs.Prelude.{Result as Printed, Ok, Err}
 use Rattle.run_print.proofs.Showing.{in-length, shown-in, kept-shown, kept_on, did-kept}
 use Rattle.run_print.proofs.Joined.{line_kept}
 use Rattle.run_print.proofs.Written.{put_two}
@@ -51,7 +50,7 @@ module _ (x o : List ℕ) (first n size : ℕ) (e : size ≡ length (whole first
       ∙ ap (written-or-short w (whole first n x) size (length o)) eb
 
   pub printed-whole : (o' : List ℕ) → size ≤ length o → o' ≡ put o 0 (whole first n x)
-      → PrintedBy w o o' (Bytes size) (print_values (slots_from first n x) w)
+      → PrintedBy w o o' (Ok size) (print_values (slots_from first n x) w)
   unfolding put
   printed-whole o' h f =
       let z : 0 + length (whole first n x) ≡ size = omega arith in (
@@ -62,13 +61,13 @@ module _ (x o : List ℕ) (first n size : ℕ) (e : size ≡ length (whole first
       )
 
   pub printed-short : length o < size
-      → PrintedBy w o o (Short (size - length o)) (print_values (slots_from first n x) w)
+      → PrintedBy w o o (Err (size - length o)) (print_values (slots_from first n x) w)
   printed-short h = (refl, print-is false (lt-leb size (length o) h))
 
 -- ---- print
 
 -- what `print` says
-abbrev Prints : List ℕ → List ℕ → List ℕ → List ℕ → ℕ → ℕ → Printed → Type 0
+abbrev Prints : List ℕ → List ℕ → List ℕ → List ℕ → ℕ → ℕ → Printed ℕ ℕ → Type 0
 Prints x y o o' first n r =
     (l : Line)
     → Did x l y l ((length y ≡ length x) × (length o' ≡ length o) × (written r ≤ length o))
@@ -125,7 +124,7 @@ measured x y z u first n between ending total fits inside ofs ors counted e =
     }
 
 module _ (x u o : List ℕ) (first n between ending total : ℕ) (m : Measured x u first n between ending total) where
-  pub print-short : length o < total + ending → Prints x u o o first n (Short (total + ending - length o))
+  pub print-short : length o < total + ending → Prints x u o o first n (Err (total + ending - length o))
   print-short h l =
       did-kept x u l m.kept (m.kept.size, refl, omega arith)
       (λ w writes. printed-short x o first n (total + ending) m.size w writes h)
@@ -151,7 +150,7 @@ module _ (x u o : List ℕ) (first n between ending total : ℕ) (m : Measured x
           )
 
       pub print-whole : (q : List ℕ) → q ≡ put p at (text_of (slot_at v ors_slot))
-          → Prints x v o q first n (Bytes (total + ending))
+          → Prints x v o q first n (Ok (total + ending))
       print-whole q e l =
           let all : Kept x v = kept_on m.kept k in
           let long = length-append (line_from first n x) (text_of (slot_at x ors_slot)) in

@@ -1,5 +1,6 @@
 -- Internal: cited by private contracts only. What print writes to the output that is left.
 use Rattle.std.specs.Prelude.{◌≡◌, List, [], ◌++◌, ℕ, ◌+◌, ◌-◌, ◌*◌, ◌≤◌, ◌<◌, length, drop}
+use Rattle.std.specs.Prelude.{Result as Printed, Ok, Err}
 use Rattle.edition.specs.Limits.{text_bytes, operand_depth}
 use Rattle.edition.specs.Outcomes.{output_room_too_small}
 use Rattle.buffer.specs.Parts.{part}
@@ -13,8 +14,6 @@ use Rattle.run_room.specs.Room.{slot_at, slots_from, store_of}
 use Rattle.run_room.specs.Held.{Held}
 use Rattle.run_room.specs.declared.lines.Line.{Line}
 use Rattle.run_lines.specs.Records.{ofs_slot}
-use Rattle.run_print.specs.declared.printing.Printed.{Printed}
-use Rattle.run_print.specs.declared.printing.Printed.TheVariants.{Bytes, Short}
 
 abbrev pub ors_slot : ℕ
 ors_slot = operand_depth + ORS
@@ -51,14 +50,14 @@ pub record Writes (x o : List ℕ) (w : World) : Type 0 where
   pub room : w.output.room ≡ length o
 
 -- how many bytes were written
-abbrev pub written : Printed → ℕ
-written (Bytes k) = k
-written (Short k) = 0
+abbrev pub written : Printed ℕ ℕ → ℕ
+written (Ok k) = k
+written (Err k) = 0
 
 -- The definition's print wrote the same bytes to the front of the output; or it stops, as many bytes short, and nothing
 -- was written.
-abbrev pub PrintedBy : World → List ℕ → List ℕ → Printed → Result Effect → Type 0
-PrintedBy w o o' (Bytes k) r =
+abbrev pub PrintedBy : World → List ℕ → List ℕ → Printed ℕ ℕ → Result Effect → Type 0
+PrintedBy w o o' (Ok k) r =
     (line : List ℕ) × (length line ≡ k) × (o' ≡ line ++ drop k o)
     × (r ≡ gives (effect [] (with_output w (w.output.bytes ++ line) (length o - k))))
-PrintedBy w o o' (Short k) r = (o' ≡ o) × (r ≡ stops (short_by k output_room_too_small))
+PrintedBy w o o' (Err k) r = (o' ≡ o) × (r ≡ stops (short_by k output_room_too_small))

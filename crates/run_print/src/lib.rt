@@ -3,4 +3,4 @@
 
 mod printing;
 
-pub use printing::{Printed, print};
+pub use printing::print;

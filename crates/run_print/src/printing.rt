@@ -16,13 +16,6 @@ ghost use Rattle.run_print.specs.Prints.{InSlot, Kept, ofs_of, line_from, Writes
 // The slot of ORS.
 pub const ORS: usize = run_room::OPERANDS + 4;
 
-// How many bytes were written; or how many more the output would need.
-#[derive(Drop)]
-pub enum Printed {
-    Bytes(usize),
-    Short(usize),
-}
-
 // Returns the length of the texts of n values, with `between` bytes between two.
 fn line_length(work: &mut [u8], first: usize, n: usize, between: usize) -> usize
     requires { (slots_end ≤ length work.old) × (0 < n) × (first + n ≤ slot_count)
@@ -31,10 +24,8 @@ fn line_length(work: &mut [u8], first: usize, n: usize, between: usize) -> usize
         × (result ≤ n * (text_bytes + text_bytes)) }
 {
     let mut sum = run_room::show(work, first);
-    let mut i = 1;
-    while i < n {
+    for i in 1..n {
         sum = sum + between + run_room::show(work, first + i);
-        i += 1;
     }
     sum
 }
@@ -76,16 +67,15 @@ fn write_values(work: &mut [u8], first: usize, n: usize, between: usize, out: &m
 {
     let m = run_room::show(work, first);
     let mut at = write_text(work, first, m, out, 0);
-    let mut i = 1;
-    while i < n {
+    for i in 1..n {
         at = write_next(work, first + i, between, out, at);
-        i += 1;
     }
     at
 }
 
-// Prints n values from slot `first` on, of which there is at least one, to the output that is left.
-pub fn print(work: &mut [u8], first: usize, n: usize, out: &mut [u8]) -> Printed
+// Prints n values from slot `first` on, of which there is at least one, to the output that is left. Returns how many
+// bytes were written; or, where the output is too small, how many more it would need.
+pub fn print(work: &mut [u8], first: usize, n: usize, out: &mut [u8]) -> Result<usize, usize>
     requires { (slots_end ≤ length work.old) × (0 < n) × (first + n ≤ slot_count) }
     ensures { (l : Line) → Did work.old l work.new l
         ((length work.new ≡ length work.old)
@@ -100,9 +90,9 @@ pub fn print(work: &mut [u8], first: usize, n: usize, out: &mut [u8]) -> Printed
     let end = run_room::show(work, ORS);
     let size = line_length(work, first, n, between) + end;
     if out.len() < size {
-        return Printed::Short(size - out.len());
+        return Err(size - out.len());
     }
     let at = write_values(work, first, n, between, out);
     write_text(work, ORS, end, out, at);
-    Printed::Bytes(size)
+    Ok(size)
 }

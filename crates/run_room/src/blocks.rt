@@ -8,10 +8,8 @@ fn move_16(s: &mut [u8], from: usize, to: usize)
     requires { (from + 16 ≤ length s.old) × (to + 16 ≤ length s.old) }
     ensures { s.new ≡ put s.old to (part from 16 s.old) }
 {
-    let a = little_endian::get_word(s, from);
-    let b = little_endian::get_word(s, from + 8);
-    little_endian::put_word(s, to, a);
-    little_endian::put_word(s, to + 8, b);
+    let block: [u8; 16] = buffer::bytes_at(s, from);
+    buffer::copy(s, to, &block);
 }
 
 // Copies `n` bytes, and those after them up to a multiple of 16, one block after the other.
@@ -19,10 +17,8 @@ fn copy_long(s: &mut [u8], from: usize, to: usize, n: usize)
     requires { (from + n + 15 ≤ length s.old) × (to + n + 15 ≤ length s.old) × ((to ≤ from) ⊎ (from + n + 15 ≤ to)) }
     ensures { s.new ≡ put s.old to (part from (blocks n) s.old) }
 {
-    let mut k = 0;
-    while k < n {
+    for k in (0..n).step_by(16) {
         move_16(s, from + k, to + k);
-        k += 16;
     }
 }
 

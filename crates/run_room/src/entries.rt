@@ -17,13 +17,6 @@ pub struct Entry {
     pub number: u64,
 }
 
-// Returns the lesser of two.
-fn least(a: usize, b: usize) -> usize
-    ensures { result ≡ min a b }
-{
-    if a < b { a } else { b }
-}
-
 // Writes entry k.
 pub fn put_entry(work: &mut [u8], k: usize, e: Entry)
     requires { (base_end ≤ length work.old) × (k < field_count) × (e.start < 65536) × (e.size < 65536) }
@@ -46,12 +39,12 @@ pub fn read_entry(work: &[u8], line: Line, k: usize) -> Entry
     let at = ENTRIES + k * ENTRY;
     let h = little_endian::get_word(work, at);
     let w = little_endian::get_word(work, at + 8);
-    let start = least((h % 65536) as usize, line.size);
-    let size = least((h / 65536 % 65536) as usize, line.size - start);
+    let start = ((h % 65536) as usize).min(line.size);
+    let size = ((h / 65536 % 65536) as usize).min(line.size - start);
     Entry {
         kind: (h / 4294967296 % 256) as u8,
-        start: start,
-        size: size,
+        start,
+        size,
         number: w,
     }
 }

@@ -35,7 +35,7 @@ pub fn size_in(h: u64) -> usize
     ensures { result ≡ size_in h }
 {
     let n = (h / 65536 % 65536) as usize;
-    if n < Edition::TEXT { n } else { Edition::TEXT }
+    n.min(Edition::TEXT)
 }
 
 // Returns the kind of a slot's value; field text has all from FIELD on.

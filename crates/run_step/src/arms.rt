@@ -27,14 +27,13 @@ ghost use Rattle.run_operations.specs.Constants.{Fits, Decodes};
 ghost use Rattle.run_operations.specs.Assigns.{Known, Assigns};
 ghost use Rattle.run_match.specs.Marks.{Searches, Locates, marked_in};
 ghost use Rattle.run_print.specs.Prints.{Writes, written, PrintedBy};
-ghost use Rattle.run_print.specs.declared.printing.Printed.{Printed as Prints};
+ghost use Rattle.std.specs.Prelude.{Result as Prints};
 ghost use Rattle.run_step.specs.Machine.{kind_of, kind_in, advanced, advanced_unless, with_line, with_separator};
 ghost use Rattle.run_step.specs.Machine.{with_last, section_by, ended_in, exited_in, branched_to, printed_to};
 
 use crate::machine;
 use crate::machine::{BEGIN, BETWEEN, FINISH, MAIN, Machine, TO_END, TO_RECORDS};
 use edition::Edition;
-use run_print::Printed;
 
 // Pushes constant n.
 pub fn push_constant(
@@ -148,7 +147,7 @@ pub fn print(work: &mut [u8], output: &mut [u8], m: Machine, n: usize) -> Machin
     requires { (slots_end ≤ length work.old) × (0 < n) × (n ≤ m.depth) × (m.depth ≤ slot_count)
         × (m.written ≤ length output.old)
         × (m.at < 1024) }
-    ensures { (p : Prints) × (t : List ℕ) × (result ≡ printed_to m p (m.depth - n))
+    ensures { (p : Prints ℕ ℕ) × (t : List ℕ) × (result ≡ printed_to m p (m.depth - n))
         × (output.new ≡ take m.written output.old ++ t)
         × ((l : Line) → Did work.old l work.new l
         ((length work.new ≡ length work.old)
@@ -163,12 +162,12 @@ pub fn print(work: &mut [u8], output: &mut [u8], m: Machine, n: usize) -> Machin
     let written = m.written;
     let p = run_print::print(work, first, n, &mut output[written..]);
     match p {
-        Printed::Bytes(k) => {
+        Ok(k) => {
             let mut r = m;
             r.written = written + k;
             r.on(first)
         }
-        Printed::Short(k) => m.stop(17),
+        Err(k) => m.stop(17),
     }
 }
 

@@ -54,8 +54,8 @@ fn place_of(work: &[u8], a: usize, n: usize, m: usize) -> u64
     let f = t + m;
     let found = lanes::find(&work[s..e], &work[t..f]);
     match found {
-        buffer::Found::At(p) => p as u64 + 1,
-        buffer::Found::Nothing => 0,
+        Some(p) => p as u64 + 1,
+        None => 0,
     }
 }
 
@@ -83,17 +83,7 @@ pub struct Part {
 fn index_from(w: u64, zero: u64) -> u64
     ensures { result ≡ w - zero - 1 }
 {
-    if w <= zero {
-        return 0;
-    }
-    w - zero - 1
-}
-
-// Returns the lesser of two.
-fn least(a: u64, b: u64) -> u64
-    ensures { result ≡ min a b }
-{
-    if a < b { a } else { b }
+    w.saturating_sub(zero).saturating_sub(1)
 }
 
 // Returns, of a text of n bytes, those at positions p from 1 on with x <= p < x + y, for numbers as distances from the
@@ -105,7 +95,7 @@ fn part_of(n: usize, x: u64, y: u64) -> Part
 {
     let first = index_from(x, number::ZERO);
     let end = index_from(x + y, 2 * number::ZERO);
-    let last = least(end, n as u64);
+    let last = end.min(n as u64);
     if last <= first {
         return Part { start: 0, size: 0 };
     }

@@ -2,12 +2,15 @@
 use mathlib.Core.Path.{◌≡◌, ap}
 use Prim.Native.Nat.{ℕ, ◌≤◌}
 use lib.IntN.{ℤ}
+use native.Mathlib.Omega.{arith}
 use borrow.Author.Tests.{ne_eqb}
 use Rattle.image_format.specs.Codes.{Arithmetic, remainder}
 use Rattle.number.specs.Range.{unbias, top}
 use Rattle.number.specs.Arithmetic.{negation_of}
-use Rattle.number.specs.Answers.{answer_of, Computes}
-use Rattle.number.specs.declared.arithmetic.Computed.{Computed}
+use Rattle.std.specs.Prelude.{Result as Answered}
+use Rattle.number.specs.Answers.{outcome_of, answer_of, Computes}
+use Rattle.number.specs.declared.arithmetic.Stop.{Stop}
+use Rattle.number.specs.declared.arithmetic.Stop.TheVariants.{OutOfRange, NotWhole, ZeroDivisor}
 use Rattle.values.specs.Value.{Value, stop, Result, gives, stops, result, number_of}
 use Rattle.values.specs.Operations.{computed, a_number, arithmetic_of, negate_of}
 use Rattle.run_numbers.specs.Numbers.{TakenBy}
@@ -40,10 +43,16 @@ last-arithmetic code n7 n8 n9 n10 = rw (ne_eqb code 7 n7, ne_eqb code 8 n8, ne_e
 
 -- ---- what was computed is a value, or the stop
 
-pub answered : (c d : Computed) → c ≡ d → a_number (result (answer_of c)) ≡ a_number (result (answer_of d))
-answered c d e = ap (λ (b : Computed). a_number (result (answer_of b))) e
+pub answered : (c d : Answered ℕ Stop) → c ≡ d → a_number (result (answer_of c)) ≡ a_number (result (answer_of d))
+answered c d e = ap (λ (b : Answered ℕ Stop). a_number (result (answer_of b))) e
 
-module _ (v : Value) (s : Taken) (b : TakenBy (number_of v) s) (es : s.stop ≡ 0) (c : Computed) where
+-- no operator stops with 0
+pub outcome-some : (s : Stop) → outcome_of s ≡ 0 → ⊥
+outcome-some OutOfRange h = omega (arith, h)
+outcome-some NotWhole h = omega (arith, h)
+outcome-some ZeroDivisor h = omega (arith, h)
+
+module _ (v : Value) (s : Taken) (b : TakenBy (number_of v) s) (es : s.stop ≡ 0) (c : Answered ℕ Stop) where
   pub arithmetic-is : (o : Arithmetic) (w : Value) (t : Taken) → TakenBy (number_of w) t → t.stop ≡ 0
       → Computes c (computed o (unbias s.word) (unbias t.word))
       → a_number (result (answer_of c)) ≡ arithmetic_of o v w

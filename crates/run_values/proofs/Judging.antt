@@ -12,7 +12,7 @@ use borrow.Author.Tests.{eq-eqb, ne_eqb}
 use Rattle.lists.proofs.Tests.{clash, and-false}
 use Rattle.edition.specs.Limits.{number_bound}
 use Rattle.buffer.specs.Order.{ordering}
-use Rattle.buffer.specs.declared.search.Order.{Order}
+use Rattle.std.specs.declared.cmp.Ordering.{Ordering}
 use Rattle.image_format.specs.Codes.{Comparison}
 use Rattle.number.specs.Range.{unbias}
 use Rattle.number.specs.Arithmetic.{is_zero}
@@ -135,11 +135,11 @@ module _ (v : Value) (t : Truth) where
 
 module _ (o : Comparison) (v w : Value) where
   -- the answer r for the order p
-  ordered : (p q : Order) (r : Bool) → p ≡ q → r ≡ holds o p → compare_of o v w ≡ gives (truth_value (holds o q))
+  ordered : (p q : Ordering) (r : Bool) → p ≡ q → r ≡ holds o p → compare_of o v w ≡ gives (truth_value (holds o q))
       → compare_of o v w ≡ gives (truth_value r)
   ordered p q r e f g = g ∙ ap (λ (b : Bool). gives (truth_value b)) (sym (f ∙ ap (holds o) e))
 
-  module _ (p : Order) (r : Bool) (e : p ≡ ordering (text_of v) (text_of w)) (f : r ≡ holds o p) where
+  module _ (p : Ordering) (r : Bool) (e : p ≡ ordering (text_of v) (text_of w)) (f : r ≡ holds o p) where
     pub compare-left-text : (x : Judged) → JudgedBy v x → x.numeric ≡ false → compare_of o v w ≡ gives (truth_value r)
     unfolding compare_of
     compare-left-text x j h = ordered p _ r e f (rw (sym j.look ∙ h))
@@ -170,7 +170,7 @@ module _ (o : Comparison) (v w : Value) where
           taken-stops (number_of w) (number_in y) (k.taken look-right) ne,
         )
 
-    pub compare-gives : (p : Order) (r : Bool) → p ≡ order_of (unbias x.word) (unbias y.word) → r ≡ holds o p
+    pub compare-gives : (p : Ordering) (r : Bool) → p ≡ order_of (unbias x.word) (unbias y.word) → r ≡ holds o p
         → x.stop ≡ 0 → y.stop ≡ 0 → compare_of o v w ≡ gives (truth_value r)
     unfolding compare_of
     compare-gives p r ep er ex ey =

@@ -4,12 +4,12 @@ use mathlib.Core.Bool.{Bool, not, ◌&&◌, ◌||◌}
 use Prim.Native.Nat.{ℕ, suc, ◌+◌, ◌<◌}
 use native.Mathlib.Omega.{arith}
 use native.Mathlib.Decide.{ℕ_discrete}
-use lib.IntN.{ℤ, pos, nat_abs, ◌+ℤ◌, ◌-ℤ◌, +ℤ_assoc, +ℤ_comm, -ℤ-+ℤ_cancel}
+use lib.IntN.{ℤ, pos, nat_abs, ◌+ℤ◌, +ℤ_assoc, +ℤ_comm, -ℤ-+ℤ_cancel}
 use lib.Dec.{eqb, leb}
 use borrow.Author.Tests.{ne_eqb, le-leb, lt-leb}
 use Rattle.edition.specs.Limits.{number_bound}
-use Rattle.buffer.specs.declared.search.Order.{Order}
-use Rattle.buffer.specs.declared.search.Order.TheVariants.{Less, Equal, Greater}
+use Rattle.std.specs.declared.cmp.Ordering.{Ordering}
+use Rattle.std.specs.declared.cmp.Ordering.TheVariants.{Less, Equal, Greater}
 use Rattle.number.specs.Range.{unbias}
 use Rattle.number.proofs.Bias.{unbias-same}
 use Rattle.values.specs.Operations.{order_of, holds, at_most}
@@ -68,17 +68,17 @@ at-most-test {y} {z} {c} {v} {w} p q = by (sides y z)
 -- ---- the order of numbers
 
 module _ (v w : ℕ) where
-  less_by : {r : Order} → Ordered Below (unbias v) (unbias w) r → v < w → r ≡ Less
+  less_by : {r : Ordering} → Ordered Below (unbias v) (unbias w) r → v < w → r ≡ Less
   less_by (is-less l e g) h = refl
   less_by (is-equal l e g) h = absurd (omega (arith, unbias-same v w e))
   less_by (is_greater l e g) h = absurd (omega (arith, below_less (unbias-distant w) (unbias-distant v) g))
 
-  greater-by : {r : Order} → Ordered Below (unbias v) (unbias w) r → w < v → r ≡ Greater
+  greater-by : {r : Ordering} → Ordered Below (unbias v) (unbias w) r → w < v → r ≡ Greater
   greater-by (is-less l e g) h = absurd (omega (arith, below_less (unbias-distant v) (unbias-distant w) l))
   greater-by (is-equal l e g) h = absurd (omega (arith, unbias-same v w e))
   greater-by (is_greater l e g) h = refl
 
-  equal_by : {r : Order} → Ordered Below (unbias v) (unbias w) r → v ≡ w → r ≡ Equal
+  equal_by : {r : Ordering} → Ordered Below (unbias v) (unbias w) r → v ≡ w → r ≡ Equal
   equal_by (is-less l e g) h = absurd (e (ap unbias h))
   equal_by (is-equal l e g) h = refl
   equal_by (is_greater l e g) h = absurd (e (ap unbias h))
@@ -94,7 +94,7 @@ module _ (v w : ℕ) where
 
 -- ---- the comparison of a code
 
-abbrev pub tested : ℕ → Order → Bool
+abbrev pub tested : ℕ → Ordering → Bool
 tested code Less = eqb code 15 || eqb code 16 || eqb code 18
 tested code Equal = not (eqb code 15) && not (eqb code 18) && not (eqb code 19)
 tested code Greater = not (eqb code 15) && not (eqb code 16) && not (eqb code 17)
@@ -133,7 +133,7 @@ right code =
       ]
     ]
 
-pub tested-holds : (code : ℕ) (o : Order) → tested code o ≡ holds (comparison_by code) o
+pub tested-holds : (code : ℕ) (o : Ordering) → tested code o ≡ holds (comparison_by code) o
 tested-holds code Less = (right code).0
 tested-holds code Equal = (right code).1
 tested-holds code Greater = (right code).2

@@ -14,8 +14,9 @@ use Rattle.edition.specs.Limits.{text_bytes, number_bound}
 use Rattle.edition.specs.Outcomes.{text_too_long}
 use Rattle.block_copy.specs.Rounded.{blocks}
 use Rattle.buffer.specs.Parts.{part, put}
-use Rattle.buffer.specs.First.{first_part, found_of}
-use Rattle.buffer.specs.declared.search.Found.{Found}
+use Rattle.std.specs.Prelude as code
+use Rattle.lists.specs.Answers.{option_of}
+use Rattle.buffer.specs.First.{first_part}
 use Rattle.buffer.proofs.Parts.{length_part, part-add, part-part, part-put-same, part-put-below}
 use Rattle.buffer.proofs.First.{first-part-some}
 use Rattle.buffer.proofs.Lent.{part-lent}
@@ -91,9 +92,9 @@ module _ (w : List ℕ) (a : ℕ) where
       let e : t ≡ (a + 1) * slot_bytes + head_size = omega arith in
       part-lent w t (t + n) n refl ∙ ap (λ (i : ℕ). part i n w) e
 
-  pub found_in : (n m : ℕ) (r : Found) → let s = a * slot_bytes + head_size in let t = s + slot_bytes in
-      found_of r ≡ first_part (mid_of t (t + m - t) w) (mid_of s (s + n - s) w)
-      → first_part (part ((a + 1) * slot_bytes + head_size) m w) (part (a * slot_bytes + head_size) n w) ≡ found_of r
+  pub found_in : (n m : ℕ) (r : code.Option ℕ) → let s = a * slot_bytes + head_size in let t = s + slot_bytes in
+      option_of r ≡ first_part (mid_of t (t + m - t) w) (mid_of s (s + n - s) w)
+      → first_part (part ((a + 1) * slot_bytes + head_size) m w) (part (a * slot_bytes + head_size) n w) ≡ option_of r
   found_in n m r e = sym (e ∙ ap₂ first_part (lent-right m) (lent-left n))
 
 -- ---- length and index, as distances

@@ -1,5 +1,5 @@
 -- Internal: cited by private contracts only. What the code answers for the look and the truth of a value.
-use Rattle.std.specs.Prelude.{◌≡◌, Bool, true, ℕ}
+use Rattle.std.specs.Prelude.{◌≡◌, Bool, true}
 use Rattle.values.specs.Value.{Value, stop, Result, gives, stops, number_of, numeric}
 use Rattle.run_numbers.specs.Numbers.{TakenBy}
 use Rattle.run_values.specs.declared.numbers.Judged.{Judged}

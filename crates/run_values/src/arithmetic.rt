@@ -9,11 +9,10 @@ ghost use Rattle.values.specs.Operations.{computed as value_computed, a_number, 
 ghost use Rattle.run_values.specs.Codes.{arithmetic_by};
 ghost use Rattle.run_values.specs.Left.{Left};
 
-use edition::Outcome;
-use number::Computed;
+use number::Stop;
 
 // Computes what a code says.
-fn computed(code: u64, x: u64, y: u64) -> Computed
+fn computed(code: u64, x: u64, y: u64) -> Result<u64, Stop>
     requires { (x ≤ top) × (y ≤ top) }
     ensures { Computes result (value_computed (arithmetic_by code) (unbias x) (unbias y)) }
 {
@@ -27,18 +26,16 @@ fn computed(code: u64, x: u64, y: u64) -> Computed
 }
 
 // Sets a slot to a number, or returns why there is none.
-fn put_computed(work: &mut [u8], a: usize, c: Computed) -> u64
+fn put_computed(work: &mut [u8], a: usize, c: Result<u64, Stop>) -> u64
     requires { (slots_end ≤ length work.old) × (a < slot_count) × Bounded c }
     ensures { Left work.old work.new a result (a_number (result_of (answer_of c))) }
 {
     match c {
-        Computed::Number(w) => {
+        Ok(w) => {
             run_room::set_number(work, a, w);
             0
         }
-        Computed::OutOfRange => Outcome::NUMBER_OUT_OF_RANGE,
-        Computed::NotWhole => Outcome::NUMBER_NOT_WHOLE,
-        Computed::ZeroDivisor => Outcome::DIVISOR_ZERO,
+        Err(e) => e.outcome(),
     }
 }
 

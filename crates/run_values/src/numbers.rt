@@ -9,8 +9,6 @@ ghost use Rattle.run_room.specs.Held.{Slotted};
 ghost use Rattle.run_values.specs.Answers.{JudgedBy, TruthBy};
 ghost use Rattle.run_values.specs.Left.{Left};
 
-use numeral::Value;
-
 // Whether a value is compared as a number, and then its number, unless `stop` isn't 0.
 #[derive(Drop)]
 pub struct Judged {
@@ -32,21 +30,15 @@ fn judge_field(text: &[u8]) -> Judged
 {
     let r = numeral::read_number(text);
     let numeric = r.numeric;
-    let v = r.value;
-    match v {
-        Value::Is(w) => Judged {
-            numeric: numeric,
+    match r.value {
+        Ok(w) => Judged {
+            numeric,
             stop: 0,
             word: w,
         },
-        Value::OutOfRange => Judged {
-            numeric: numeric,
-            stop: 11,
-            word: 0,
-        },
-        Value::NotWhole => Judged {
-            numeric: numeric,
-            stop: 12,
+        Err(e) => Judged {
+            numeric,
+            stop: e.outcome(),
             word: 0,
         },
     }

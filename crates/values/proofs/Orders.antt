@@ -8,9 +8,10 @@ use native.Mathlib.Omega.{arith}
 use lib.IntN.{ℤ, pos, negsuc, neg_ℤ, nat_abs, ◌+ℤ◌, ◌-ℤ◌, +ℤ_comm, +ℤ_assoc, +ℤ_idr, +ℤ_invr, neg_ℤ-neg_ℤ, neg_ℤ-+ℤ}
 use lib.IntN.{pos-ne-negsuc, -ℤ-+ℤ_cancel}
 use borrow.Author.Tests.{ne_eqb}
-use Rattle.buffer.specs.Order.{ordering, swapped, Before}
-use Rattle.buffer.specs.declared.search.Order.{Order}
-use Rattle.buffer.specs.declared.search.Order.TheVariants.{Less, Equal, Greater}
+use Rattle.std.specs.Ordering.{ordering_reverse}
+use Rattle.buffer.specs.Order.{ordering, Before}
+use Rattle.std.specs.declared.cmp.Ordering.{Ordering}
+use Rattle.std.specs.declared.cmp.Ordering.TheVariants.{Less, Equal, Greater}
 use Rattle.buffer.proofs.Ordering.{less-not-equal, more-not-equal, more-not-less, ordering-same, same-ordering}
 use Rattle.buffer.proofs.Ordering.{ordering-swap, less-before, before-less}
 use Rattle.image_format.specs.Codes.{Comparison, less, at-most, equal, different, greater, at-least}
@@ -22,12 +23,12 @@ use Rattle.values.specs.Explained.{so, not_so, OneIf, AtMost, Below, Says}
 
 module _ {A : Type 0} (Before : A → A → Type 0) (x y : A) where
   -- one of the three is so, and then neither of the others
-  pub data Ordered : Order → Type 0 where
+  pub data Ordered : Ordering → Type 0 where
     is-less : Before x y → (x ≡ y → ⊥) → (Before y x → ⊥) → Ordered Less
     is-equal : (Before x y → ⊥) → x ≡ y → (Before y x → ⊥) → Ordered Equal
     is_greater : (Before x y → ⊥) → (x ≡ y → ⊥) → Before y x → Ordered Greater
 
-  pub ordered-says : {r : Order} → Ordered r → (o : Comparison)
+  pub ordered-says : {r : Ordering} → Ordered r → (o : Comparison)
       → OneIf (Says Before o x y) (gives (truth_value (holds o r)))
   ordered-says (is-less l e g) less = so l
   ordered-says (is-less l e g) at-most = so (inl l)
@@ -51,15 +52,15 @@ module _ {A : Type 0} (Before : A → A → Type 0) (x y : A) where
 -- ---- texts
 
 order-greater : (a b : List ℕ) → ordering a b ≡ Greater → Before b a
-order-greater a b h = less-before b a (ordering-swap a b ∙ ap swapped h)
+order-greater a b h = less-before b a (ordering-swap a b ∙ ap ordering_reverse h)
 
 greater-order : (a b : List ℕ) → Before b a → ordering a b ≡ Greater
-greater-order a b h = ordering-swap b a ∙ ap swapped (before-less b a h)
+greater-order a b h = ordering-swap b a ∙ ap ordering_reverse (before-less b a h)
 
 pub texts-ordered : (a b : List ℕ) → Ordered Before a b (ordering a b)
 texts-ordered a b = by (ordering a b) refl
   where
-    by : (r : Order) → ordering a b ≡ r → Ordered Before a b r
+    by : (r : Ordering) → ordering a b ≡ r → Ordered Before a b r
     by Less h =
         is-less (less-before a b h)
         (λ e. less-not-equal (sym h ∙ same-ordering a b e))

@@ -5,8 +5,8 @@ use Rattle.edition.specs.Limits.{text_bytes, field_count}
 use Rattle.edition.specs.Outcomes.{text_too_long, bad_field_number}
 use Rattle.buffer.specs.Order.{ordering}
 use Rattle.buffer.specs.First.{first_part}
-use Rattle.buffer.specs.declared.search.Order.{Order}
-use Rattle.buffer.specs.declared.search.Order.TheVariants.{Less, Equal, Greater}
+use Rattle.std.specs.declared.cmp.Ordering.{Ordering}
+use Rattle.std.specs.declared.cmp.Ordering.TheVariants.{Less, Equal, Greater}
 use Rattle.number.specs.Range.{Answer}
 use Rattle.number.specs.Arithmetic.{is_zero, negative, sum_of, difference_of, product_of, quotient_of, remainder_of, negation_of}
 use Rattle.image_format.specs.Codes.{Arithmetic, add, subtract, multiply, divide, remainder, Comparison, less, at-most, equal, different, greater, at-least}
@@ -37,16 +37,16 @@ not_of a = bind (truth_of a) (λ b. gives (truth_value (not b)))
 
 -- ---- comparison
 
-abbrev pub order_of : ℤ → ℤ → Order
+abbrev pub order_of : ℤ → ℤ → Ordering
 order_of x y = cond (is_zero (x -ℤ y)) Equal (cond (negative (x -ℤ y)) Less Greater)
 
 -- whether it is so, where the left side compares with the right one as the order says: less, equal, greater
-abbrev pub among : Bool → Bool → Bool → Order → Bool
+abbrev pub among : Bool → Bool → Bool → Ordering → Bool
 among l e g Less = l
 among l e g Equal = e
 among l e g Greater = g
 
-abbrev pub holds : Comparison → Order → Bool
+abbrev pub holds : Comparison → Ordering → Bool
 holds less = among true false false
 holds at-most = among true true false
 holds equal = among false true false

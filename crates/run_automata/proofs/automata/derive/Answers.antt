@@ -1,23 +1,13 @@
 -- `derive` meets its contract: the slot tells for which search.
-use native.Mathlib.Omega.{arith}
+use Rattle.run_automata.proofs.Deriving.{made-one, made-both}
 use Rattle.run_automata.proofs.automata.derive.Goals as goal
 
 pub returns-then-k-lt-ERES : goal.returns-then-k-lt-ERES
 returns-then-k-lt-ERES c =
-    let e = c.derive.ensures in
-    let below = c.if-k-lt-ERES.true in
-    record {
-      size = e.size;
-      inside = e.inside;
-      suits = λ long. record { drives = λ h. e.drives long; seeks = λ far. absurd (omega arith) };
-    }
+    let a = c.args in
+    rw c.unwrap_or.ensures (made-one a.k a.t.now a.d.now _ c.if-k-lt-ERES.true c.derive.result c.derive.ensures)
 
 pub returns : goal.returns
 returns c =
-    let e = c.derive_both.ensures in
-    let far = c.if-k-lt-ERES.false in
-    record {
-      size = e.size;
-      inside = e.inside;
-      suits = λ long. record { drives = λ h. absurd (omega arith); seeks = λ h. e.seeks long };
-    }
+    let a = c.args in
+    rw c.unwrap_or-2.ensures (made-both a.k a.t.now a.d.now _ c.if-k-lt-ERES.false c.derive_both.result c.derive_both.ensures)

@@ -11,6 +11,3 @@ abbrev pub invariant-loop-k : goal.invariant-loop-k
 invariant-loop-k l =
     (l.k ≤ pool_slots) × (length l.table ≡ length l.initial.table) × (length l.pool ≡ length l.initial.pool)
     × ((xs : List (List ℕ)) → Readable l.edition.number l.image l.index xs → Filled l.edition.number xs l.pool l.k)
-
-abbrev pub decreases-loop-k : goal.decreases-loop-k
-decreases-loop-k l = pool_slots - l.k

@@ -6,6 +6,3 @@ use Rattle.run_automata.proofs.uses.note_all.Given as goal
 
 abbrev pub invariant-loop-k : goal.invariant-loop-k
 invariant-loop-k l = length l.asked ≡ length l.initial.asked
-
-abbrev pub decreases-loop-k : goal.decreases-loop-k
-decreases-loop-k l = length l.program - l.k

@@ -5,6 +5,3 @@ use Rattle.run_automata.proofs.uses.wanted.Given as goal
 
 abbrev pub invariant-loop-j : goal.invariant-loop-j
 invariant-loop-j l = l.n ≤ 2 * l.j
-
-abbrev pub decreases-loop-j : goal.decreases-loop-j
-decreases-loop-j l = length l.asked - l.j

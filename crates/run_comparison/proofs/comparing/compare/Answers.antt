@@ -6,7 +6,6 @@ use Rattle.run_room.specs.Room.{slot_at}
 use Rattle.run_values.specs.Codes.{comparison_by}
 use Rattle.run_values.proofs.Judging.{compare-left-text, compare-right-text}
 use Rattle.run_values.proofs.Steps.{left-slot}
-use borrow.Author.Rules.{rules}
 use Rattle.run_comparison.proofs.comparing.compare.Goals as goal
 
 pub returns-then-x : goal.returns-then-x

@@ -2,7 +2,6 @@
 use Rattle.run_values.specs.Codes.{comparison_by}
 use Rattle.run_values.proofs.Judging.{compare-left-stops, compare-right-stops, compare-gives}
 use Rattle.run_values.proofs.Steps.{same-room, left-stops, left-slot}
-use borrow.Author.Rules.{rules}
 use Rattle.run_comparison.proofs.comparing.compare_numbers.Goals as goal
 
 pub returns-then-x-ne0 : goal.returns-then-x-ne0

@@ -1,7 +1,6 @@
 -- `holds` meets its contract: the tests of the code, for each order.
 use mathlib.Core.Path.{sym, ap, ◌∙◌}
 use Rattle.run_values.proofs.Orders.{tested, tested-holds}
-use borrow.Author.Rules.{rules}
 use Rattle.run_comparison.proofs.comparing.holds.Goals as goal
 
 pub returns-in-Less : goal.returns-in-Less

@@ -2,7 +2,6 @@
 use mathlib.Core.Path.{ap₂, ◌∙◌}
 use Rattle.buffer.specs.Order.{ordering}
 use Rattle.run_values.proofs.Wording.{pair, lent-left, lent-right}
-use borrow.Author.Rules.{rules}
 use Rattle.run_comparison.proofs.comparing.text_order.Goals as goal
 
 pub returns : goal.returns

@@ -1,34 +1,43 @@
 -- `word_of` meets its contract: the constant at the entry's place is the one that the index tells.
+use mathlib.Core.Path.{subst}
 use native.Mathlib.Omega.{arith}
+use lib.ListN.{get_or}
 use Rattle.semantics.proofs.Tables.{nth-some}
-use Rattle.run_image.proofs.Decoding.{constant-inside, value-small, decoded-number, decoded-text}
+use Rattle.image_items.specs.Stands.{ConstantAt}
+use Rattle.run_image.proofs.Decoding.{constant-inside, constant-there, value-small, decoded-number, decoded-text}
 use Rattle.run_image.proofs.constants.word_of.Goals as goal
 
-pub constant-c-requires : goal.constant-c-requires
-constant-c-requires c =
+pub constant-requires : goal.constant-requires
+constant-requires c =
     let p = c.requires in
     let y = p.1 in
     (p.0, constant-inside y.1 c.args.k p.0 y.2)
 
-pub overflow_add-result : goal.overflow_add-result
-overflow_add-result c =
+pub unwrap-c-requires : goal.unwrap-c-requires
+unwrap-c-requires c =
     let k = c.args.k in
     let p = c.requires in
     let y = p.1 in
     let x = nth-some y.0 k y.2 in
-    let r = c.constant-c.ensures in
-    omega (arith, value-small y.1 k p.0 r x.0 x.1 c.if-c-eq0.true)
+    constant-there y.1 k p.0 x.0 x.1 _ c.constant.ensures
 
-pub returns-then-c-eq0 : goal.returns-then-c-eq0
-returns-then-c-eq0 c =
-    let k = c.args.k in
+pub overflow_add-result : goal.overflow_add-result
+overflow_add-result c =
+    let a = c.args in
     let p = c.requires in
-    let r = c.constant-c.ensures in
-    λ xs x y e. decoded-number y k p.0 r x e c.if-c-eq0.true
+    let y = p.1 in
+    let x = nth-some y.0 a.k y.2 in
+    let r = subst (ConstantAt a.image.now (get_or a.index.now a.k 0)) c.unwrap-c.ensures c.constant.ensures in
+    omega (arith, value-small y.1 a.k p.0 x.0 x.1 r _ c.in-Number.is)
 
-pub returns : goal.returns
-returns c =
-    let k = c.args.k in
-    let p = c.requires in
-    let r = c.constant-c.ensures in
-    λ xs x y e. decoded-text y k p.0 r x e c.if-c-eq0.false
+pub returns-in-Number : goal.returns-in-Number
+returns-in-Number c =
+    let a = c.args in
+    let r = subst (ConstantAt a.image.now (get_or a.index.now a.k 0)) c.unwrap-c.ensures c.constant.ensures in
+    λ xs x y e. decoded-number y a.k c.requires.0 x e r _ c.in-Number.is
+
+pub returns-in-Text : goal.returns-in-Text
+returns-in-Text c =
+    let a = c.args in
+    let r = subst (ConstantAt a.image.now (get_or a.index.now a.k 0)) c.unwrap-c.ensures c.constant.ensures in
+    λ xs x y e. decoded-text y a.k c.requires.0 x e r _ c.in-Text.is

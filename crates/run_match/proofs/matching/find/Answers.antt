@@ -1,6 +1,5 @@
 -- `find` meets its contract: each branch is a search.
 use native.Mathlib.Omega.{arith}
-use borrow.Author.Rules.{rules}
 use Rattle.run_match.proofs.matching.find.Goals as goal
 
 pub returns-then-d-eq0 : goal.returns-then-d-eq0

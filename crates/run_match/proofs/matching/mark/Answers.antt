@@ -1,6 +1,5 @@
 -- `mark` meets its contract.
 use Rattle.run_match.proofs.Marked.{marks}
-use borrow.Author.Rules.{rules}
 use Rattle.run_match.proofs.matching.mark.Goals as goal
 
 pub returns : goal.returns

@@ -1,7 +1,6 @@
 -- `matches` meets its contract: the text is shown, and it has a match where the definition finds one.
 use mathlib.Core.Path.{refl}
 use Rattle.run_match.proofs.Marked.{tested}
-use borrow.Author.Rules.{rules}
 use Rattle.run_match.proofs.matching.matches.Goals as goal
 
 pub returns : goal.returns

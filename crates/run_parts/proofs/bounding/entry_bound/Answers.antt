@@ -4,7 +4,6 @@ use mathlib.Core.List.{List}
 use Prim.Native.Nat.{ℕ}
 use Rattle.run_room.specs.Room.{word_at}
 use Rattle.run_parts.proofs.Bounded.{entry-number, entry_other}
-use borrow.Author.Rules.{rules}
 use Rattle.run_parts.proofs.bounding.entry_bound.Goals as goal
 
 pub returns-then-h-eq1 : goal.returns-then-h-eq1

@@ -1,13 +1,11 @@
 -- `surely_fits` meets its contract: each part is at most its bound.
 use native.Mathlib.Omega.{arith}
-use mathlib.Core.List.{List}
-use Prim.Native.Nat.{ℕ, ◌+◌, ◌*◌}
+use Prim.Native.Nat.{◌+◌, ◌*◌}
 use native.Mathlib.Nat.{mul-le-mul_right}
 use borrow.Author.Tests.{leb-true}
 use Rattle.edition.specs.Limits.{text_bytes}
 use Rattle.run_room.specs.Room.{line_of}
 use Rattle.run_parts.proofs.Bounded.{slot-most, fits-surely}
-use borrow.Author.Rules.{rules}
 use Rattle.run_parts.proofs.bounding.surely_fits.Goals as goal
 
 pub overflow_mul-result : goal.overflow_mul-result

@@ -6,11 +6,6 @@ use Prim.Native.Nat.{ℕ, ◌+◌}
 use Rattle.buffer.specs.Parts.{part, put}
 use Rattle.block_copy.specs.Rounded.{blocks}
 use Rattle.run_parts.proofs.Grown.{grown-part}
-use borrow.Author.Rules.{rules}
-use Rattle.run_parts.proofs.joining.grow_text.Reads as reads
-use Rattle.run_parts.proofs.joining.grow_text.Lts as lts
-use Rattle.run_room.proofs.copy_blocks.Reads as copy-blocks-reads
-use Rattle.run_room.proofs.record_start.Reads as record-start-reads
 use Rattle.run_parts.proofs.joining.grow_text.Goals as goal
 
 pub copy_blocks-requires : goal.copy_blocks-requires

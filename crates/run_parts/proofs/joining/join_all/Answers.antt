@@ -1,16 +1,11 @@
 -- `join_all` meets its contract: so many fields have been joined.
 use native.Mathlib.Omega.{arith}
-use lib.ListN.{length}
 use Rattle.buffer.specs.Parts.{part}
 use mathlib.Core.Path.{◌≡◌, refl, sym, subst}
-use mathlib.Core.List.{List}
-use Prim.Native.Nat.{ℕ, suc, ◌-◌, ◌≤◌}
+use Prim.Native.Nat.{ℕ, suc}
 use native.Mathlib.Numerals.{add-one}
 use Rattle.run_parts.specs.Join.{Turned, Joins}
 use Rattle.run_parts.proofs.Joined.{joins-none, join-bound, joins-more, joined-below, between-same}
-use Rattle.run_parts.proofs.joining.join_all.Reads as reads
-use Rattle.run_parts.proofs.joining.join_all.Lts as lts
-use Rattle.run_parts.proofs.joining.join_one.Reads as join-one-reads
 use Rattle.run_parts.proofs.joining.join_all.Goals as goal
 
 pub loop-i-init : goal.loop-i-init
@@ -29,12 +24,6 @@ join_one-at-requires c =
       p.5,
       join-bound a.work.now c.loop-i.work a.line a.k a.v b c.loop-i.i c.loop-i.at p.0 p.1 p.3 (omega (arith, c.loop-i-test.true, p.2)) c.loop-i.invariant.1 a.from a.n a.count refl (omega (arith, p.5)) c.loop-i-test.true p.6,
     )
-
-pub overflow_add-i : goal.overflow_add-i
-overflow_add-i c = omega arith
-
-pub loop-i-smaller : goal.loop-i-smaller
-loop-i-smaller c = omega (arith, c.loop-i-test.true)
 
 pub loop-i-preserved : goal.loop-i-preserved
 loop-i-preserved c =

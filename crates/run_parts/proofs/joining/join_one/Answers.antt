@@ -6,13 +6,6 @@ use mathlib.Core.Path.{ap, refl}
 use Prim.Native.Nat.{◌-◌}
 use Rattle.values.specs.Value.{Value, text_of}
 use Rattle.run_parts.proofs.Grown.{value-kept, one-joined}
-use borrow.Author.Rules.{rules}
-use Rattle.run_parts.proofs.joining.join_one.Reads as reads
-use Rattle.run_parts.proofs.joining.join_one.Lts as lts
-use Rattle.run_parts.proofs.joining.put_gap.Reads as put-gap-reads
-use Rattle.run_parts.proofs.joining.put_text.Reads as put-text-reads
-use Rattle.run_parts.proofs.parts.field_part.Reads as field-part-reads
-use Rattle.run_room.proofs.put_entry.Reads as put-entry-reads
 use Rattle.run_parts.proofs.joining.join_one.Goals as goal
 
 pub put_text-m-requires : goal.put_text-m-requires

@@ -5,10 +5,6 @@ use Rattle.buffer.specs.Parts.{part}
 use mathlib.Core.Path.{sym, ap}
 use mathlib.Core.Logic.{inl}
 use Rattle.run_parts.proofs.Grown.{gap-none, gap-some, gap-size, grown-is, grown-none}
-use borrow.Author.Rules.{rules}
-use Rattle.run_parts.proofs.joining.put_gap.Reads as reads
-use Rattle.run_parts.proofs.joining.put_gap.Lts as lts
-use Rattle.run_parts.proofs.joining.grow_text.Reads as grow-text-reads
 use Rattle.run_parts.proofs.joining.put_gap.Goals as goal
 
 pub returns-then-i-eq0 : goal.returns-then-i-eq0

@@ -9,13 +9,6 @@ use Rattle.buffer.specs.Parts.{put}
 use Rattle.number.specs.Range.{unbias}
 use Rattle.decimals.specs.Decimal.{decimal_text}
 use Rattle.run_parts.proofs.Grown.{number-text, text-low, text-words, grown-is, grown-none, grown-whole}
-use borrow.Author.Rules.{rules}
-use Rattle.run_parts.proofs.joining.put_text.Reads as reads
-use Rattle.run_parts.proofs.joining.put_text.Lts as lts
-use Rattle.decimals.proofs.write_decimal.Reads as write-decimal-reads
-use Rattle.run_parts.proofs.joining.grow_text.Reads as grow-text-reads
-use Rattle.run_parts.proofs.parts.least_word.Reads as least-word-reads
-use Rattle.run_room.proofs.record_start.Reads as record-start-reads
 use Rattle.run_parts.proofs.joining.put_text.Goals as goal
 
 pub write_decimal-requires : goal.write_decimal-requires
@@ -24,8 +17,8 @@ write_decimal-requires c =
     let a = args in
     let q = args.p in
     let p = c.requires in
-    let e = ap length (number-text q.kind q.word c.least_word-w.result (part q.from q.size a.work.now) c.if-k-eq-NUMBER.true c.least_word-w.ensures) in
-    (omega (arith, c.least_word-w.ensures), omega (arith, e, p.3, c.record_start.ensures))
+    let e = ap length (number-text q.kind q.word c.min-w.result (part q.from q.size a.work.now) c.if-k-eq-NUMBER.true c.min-w.ensures) in
+    (omega (arith, c.min-w.ensures), omega (arith, e, p.3, c.record_start.ensures))
 
 pub returns-then-k-eq-NUMBER : goal.returns-then-k-eq-NUMBER
 returns-then-k-eq-NUMBER c =
@@ -33,12 +26,12 @@ returns-then-k-eq-NUMBER c =
     let a = args in
     let q = args.p in
     let p = c.requires in
-    let e = number-text q.kind q.word c.least_word-w.result (part q.from q.size a.work.now) c.if-k-eq-NUMBER.true c.least_word-w.ensures in
+    let e = number-text q.kind q.word c.min-w.result (part q.from q.size a.work.now) c.if-k-eq-NUMBER.true c.min-w.ensures in
     let l = ap length e in (
       c.write_decimal.ensures.0 ∙ sym l,
       grown-is a.work.now _ a.side a.at _ _ (sym e)
           (grown-whole a.work.now a.side a.at _ p.0 p.1 (omega (arith, l, p.3))
-          (c.write_decimal.ensures.1 ∙ ap (λ (m : ℕ). put a.work.now (m + a.at) (decimal_text (unbias c.least_word-w.result))) c.record_start.ensures)),
+          (c.write_decimal.ensures.1 ∙ ap (λ (m : ℕ). put a.work.now (m + a.at) (decimal_text (unbias c.min-w.result))) c.record_start.ensures)),
     )
 
 pub returns-then-k-lt-TEXT : goal.returns-then-k-lt-TEXT

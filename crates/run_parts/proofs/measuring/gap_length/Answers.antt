@@ -3,8 +3,6 @@ use native.Mathlib.Omega.{arith}
 use lib.ListN.{length}
 use mathlib.Core.Path.{sym, ap, ◌∙◌}
 use Rattle.run_parts.proofs.Grown.{gap-none, gap-some}
-use Rattle.run_parts.proofs.measuring.gap_length.Reads as reads
-use Rattle.run_parts.proofs.measuring.gap_length.Lts as lts
 use Rattle.run_parts.proofs.measuring.gap_length.Goals as goal
 
 pub returns-then-i-eq0 : goal.returns-then-i-eq0

@@ -1,18 +1,10 @@
 -- `measure` meets its contract: the size of the fields so far.
 use native.Mathlib.Omega.{arith}
 use lib.ListN.{length}
-use borrow.Author.Rules.{rules}
-use mathlib.Core.Path.{refl, ap, ◌∙◌}
-use Prim.Native.Nat.{ℕ, ◌-◌, ◌≤◌}
-use Rattle.edition.specs.Limits.{text_bytes}
+use mathlib.Core.Path.{ap, ◌∙◌}
+use Prim.Native.Nat.{◌-◌}
 use Rattle.values.specs.Value.{Value, text_of}
-use Rattle.run_parts.specs.Join.{new_fields, joined_text}
-use Rattle.run_parts.proofs.Measured.{Sum, sum-none, measured-big, measured-over, measured-more, measured-end}
-use Rattle.run_parts.proofs.measuring.measure.Reads as reads
-use Rattle.run_parts.proofs.measuring.measure.Lts as lts
-use Rattle.run_parts.proofs.measuring.gap_length.Reads as gap-length-reads
-use Rattle.run_parts.proofs.measuring.text_length.Reads as text-length-reads
-use Rattle.run_parts.proofs.parts.field_part.Reads as field-part-reads
+use Rattle.run_parts.proofs.Measured.{sum-none, measured-big, measured-over, measured-more, measured-end}
 use Rattle.run_parts.proofs.measuring.measure.Goals as goal
 
 pub loop-i-init : goal.loop-i-init
@@ -54,12 +46,6 @@ returns-then-sum-gt-TEXT c =
     let f = c.field_part-p.ensures in
     let m = c.text_length-m.ensures a.work.now (omega (arith, (f.1 (1 - a.line.side) (omega (arith, p.1.side))).fits, p.0)) ∙ ap (λ (q : Value). length (text_of q)) f.0 in
     measured-over a.work.now a.line a.k a.v a.n c.loop-i.i a.count c.loop-i.sum c.text_length-m.result c.loop-i.invariant.2 m c.loop-i-test.true c.gap_length.result c.gap_length.ensures.1 c.if-sum-gt-TEXT.true
-
-pub overflow_add-i : goal.overflow_add-i
-overflow_add-i c = omega (arith, c.loop-i-test.true, c.requires.2)
-
-pub loop-i-smaller : goal.loop-i-smaller
-loop-i-smaller c = omega (arith, c.loop-i-test.true)
 
 pub loop-i-preserved : goal.loop-i-preserved
 loop-i-preserved c =

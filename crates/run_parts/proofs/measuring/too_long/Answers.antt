@@ -1,10 +1,8 @@
 -- `too_long` meets its contract: by the bound, or else by the size.
 use native.Mathlib.Omega.{arith}
-use mathlib.Core.Path.{sym}
 use mathlib.Core.Bool.{false≢true}
 use borrow.Author.Tests.{ltb-true, ltb-false}
 use Rattle.edition.specs.Limits.{text_bytes}
-use borrow.Author.Rules.{rules}
 use Rattle.run_parts.proofs.measuring.too_long.Goals as goal
 
 pub returns-then-surely_fits : goal.returns-then-surely_fits

@@ -3,14 +3,6 @@ use native.Mathlib.Omega.{arith}
 use mathlib.Core.Logic.{inl, inr}
 use native.Mathlib.Decide.{dec_lt}
 use Rattle.run_parts.proofs.Grown.{new-slot, new-past, new-entry}
-use borrow.Author.Rules.{rules}
-use Rattle.run_parts.proofs.parts.field_part.Reads as reads
-use Rattle.run_parts.proofs.parts.field_part.Lts as lts
-use Rattle.run_room.proofs.read_entry.Reads as read-entry-reads
-use Rattle.run_room.proofs.record_start.Reads as record-start-reads
-use Rattle.run_room.proofs.slot_kind.Reads as slot-kind-reads
-use Rattle.run_room.proofs.slot_number.Reads as slot-number-reads
-use Rattle.run_room.proofs.text_size.Reads as text-size-reads
 use Rattle.run_parts.proofs.parts.field_part.Goals as goal
 
 pub returns-then-i-k : goal.returns-then-i-k

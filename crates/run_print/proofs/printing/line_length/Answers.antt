@@ -1,8 +1,6 @@
 -- `line_length` meets its contract: the invariant is that the sum is the length of the texts so far.
-use Prim.Native.Nat.{◌-◌}
 use native.Mathlib.Omega.{arith}
-use Rattle.run_print.proofs.Joined.{Counted, counted-first, counted_next, counted-all}
-use borrow.Author.Rules.{rules}
+use Rattle.run_print.proofs.Joined.{counted-first, counted_next, counted-all}
 use Rattle.run_print.proofs.printing.line_length.Goals as goal
 
 pub loop-i-init : goal.loop-i-init

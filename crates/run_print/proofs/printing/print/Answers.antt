@@ -2,7 +2,6 @@
 use native.Mathlib.Omega.{arith}
 use Rattle.run_print.proofs.Prints.{ofs-in, measured, print-short}
 use Rattle.run_print.proofs.Prints.{values-fit, ors-in, ors-fits, print-whole}
-use borrow.Author.Rules.{rules}
 use Rattle.run_print.proofs.printing.print.Goals as goal
 
 pub line_length-requires : goal.line_length-requires

@@ -2,7 +2,6 @@
 use native.Mathlib.Omega.{arith}
 use Rattle.run_print.proofs.Showing.{shown-in, shown-length, kept-shown}
 use Rattle.run_print.proofs.Written.{wrote-next}
-use borrow.Author.Rules.{rules}
 use Rattle.run_print.proofs.printing.write_next.Goals as goal
 
 pub write_text-requires : goal.write_text-requires

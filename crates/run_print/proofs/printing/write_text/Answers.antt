@@ -1,7 +1,6 @@
 -- `write_text` meets its contract.
 use mathlib.Core.Path.{refl}
 use Rattle.run_print.proofs.Written.{wrote-text}
-use borrow.Author.Rules.{rules}
 use Rattle.run_print.proofs.printing.write_text.Goals as goal
 
 pub returns : goal.returns

@@ -1,10 +1,8 @@
 -- `write_values` meets its contract: the invariant is that the texts so far are the front of the output.
-use Prim.Native.Nat.{◌-◌}
 use native.Mathlib.Omega.{arith}
 use Rattle.run_print.proofs.Showing.{shown-in}
-use Rattle.run_print.proofs.Written.{Written, first_fits, written-first, written-length}
+use Rattle.run_print.proofs.Written.{first_fits, written-first}
 use Rattle.run_print.proofs.Written.{written-ofs, next_fits, written_next, written_all}
-use borrow.Author.Rules.{rules}
 use Rattle.run_print.proofs.printing.write_values.Goals as goal
 
 pub write_text-at-requires : goal.write_text-at-requires

@@ -11,21 +11,6 @@ use Rattle.run_room.proofs.blocks.copy_long.Goals as goal
 pub loop-k-init : goal.loop-k-init
 loop-k-init c = (refl, omega arith, refl, over_none _ _ _ _)
 
-pub overflow_add-from : goal.overflow_add-from
-overflow_add-from c = omega arith
-
-pub overflow_add-to : goal.overflow_add-to
-overflow_add-to c = omega arith
-
-pub move_16-requires : goal.move_16-requires
-move_16-requires c = (omega arith, omega arith)
-
-pub overflow_add-k : goal.overflow_add-k
-overflow_add-k c = omega arith
-
-pub loop-k-smaller : goal.loop-k-smaller
-loop-k-smaller c = omega arith
-
 pub loop-k-preserved : goal.loop-k-preserved
 loop-k-preserved c =
     let a = c.args in
@@ -42,3 +27,11 @@ returns c =
     let a = c.args in
     let l = c.loop-k in
     over-end a.s.now a.to a.s.now a.from a.n l.k (omega arith) l.invariant.3
+
+pub returns-2 : goal.returns-2
+returns-2 c =
+    let a = c.args in
+    let h = c.requires in
+    let l = c.loop-k in
+    over-end a.s.now a.to a.s.now a.from a.n (l.k + 16) (omega arith)
+    (block_more a.s.now a.from a.to (a.n + 15) l.k 16 (omega arith) (omega arith) (⊎_elim (λ p. inl p) (λ p. inr (omega arith)) h.2) (omega arith) l.invariant.3 c.move_16.ensures)

@@ -1,5 +1,5 @@
 -- `copy_long` meets its contract: k bytes are copied, which is a multiple of a block.
-use Prim.Native.Nat.{◌+◌, ◌-◌, ◌%◌, ◌<◌}
+use Prim.Native.Nat.{◌+◌, ◌%◌, ◌<◌}
 use mathlib.Core.Path.{◌≡◌}
 use lib.ListN.{length}
 use Rattle.buffer.specs.Parts.{part, put}
@@ -7,6 +7,3 @@ use Rattle.run_room.proofs.blocks.copy_long.Given as goal
 
 abbrev pub invariant-loop-k : goal.invariant-loop-k
 invariant-loop-k l = (l.k % 16 ≡ 0) × (l.k < l.n + 16) × (length l.s ≡ length l.initial.s) × (l.s ≡ put l.initial.s l.to (part l.from l.k l.initial.s))
-
-abbrev pub decreases-loop-k : goal.decreases-loop-k
-decreases-loop-k l = l.n - l.k

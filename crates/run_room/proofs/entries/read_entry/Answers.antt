@@ -9,7 +9,7 @@ unfolding word_at
 returns c =
     let a = c.args in
     record {
-      inside = omega (arith, c.least-start.ensures, c.least-size.ensures);
-      value = entry_read a.work.now a.line a.k c.get_word-h.result c.get_word-w.result c.least-start.result c.least-size.result c.requires.0 c.requires.1
-          c.get_word-h.ensures c.get_word-w.ensures c.least-start.ensures c.least-size.ensures;
+      inside = omega (arith, c.min-start.ensures, c.min-size.ensures);
+      value = entry_read a.work.now a.line a.k c.get_word-h.result c.get_word-w.result c.min-start.result c.min-size.result c.requires.0 c.requires.1
+          c.get_word-h.ensures c.get_word-w.ensures c.min-start.ensures c.min-size.ensures;
     }

@@ -4,7 +4,6 @@ use Rattle.run_room.specs.Room.{slot_at}
 use Rattle.run_values.proofs.Wording.{pair, right-size, index_is}
 use Rattle.run_values.proofs.Steps.{left-slot}
 use native.Mathlib.Omega.{arith}
-use borrow.Author.Rules.{rules}
 use Rattle.run_texts.proofs.texts.index.Goals as goal
 
 pub returns : goal.returns

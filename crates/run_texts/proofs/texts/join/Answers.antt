@@ -3,7 +3,6 @@ use mathlib.Core.Logic.{inl}
 use native.Mathlib.Omega.{arith}
 use Rattle.run_values.proofs.Wording.{pair, joined-long, joined}
 use Rattle.run_values.proofs.Steps.{left-stops}
-use borrow.Author.Rules.{rules}
 use Rattle.run_texts.proofs.texts.join.Goals as goal
 
 pub returns-then-n-m-gt-TEXT : goal.returns-then-n-m-gt-TEXT

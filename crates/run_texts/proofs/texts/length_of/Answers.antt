@@ -2,7 +2,6 @@
 use Rattle.run_room.specs.Room.{slot_at}
 use Rattle.run_values.proofs.Wording.{shown-size, length-is}
 use Rattle.run_values.proofs.Steps.{same-shown, left-slot}
-use borrow.Author.Rules.{rules}
 use Rattle.run_texts.proofs.texts.length_of.Goals as goal
 
 pub returns : goal.returns

@@ -10,7 +10,6 @@ use Rattle.run_room.specs.Room.{slot_at}
 use Rattle.run_values.proofs.Computing.{taken-stops, taken-gives}
 use Rattle.run_values.proofs.Wording.{shown-size, substr-gives, slotted-part}
 use Rattle.run_values.proofs.Steps.{same-room, same-shown, left-stops, left-slot}
-use borrow.Author.Rules.{rules}
 use Rattle.run_texts.proofs.texts.substr.Goals as goal
 
 pub returns-then-x-ne0 : goal.returns-then-x-ne0

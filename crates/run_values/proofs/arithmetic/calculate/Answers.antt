@@ -6,7 +6,6 @@ use Rattle.run_room.specs.Room.{slot_at}
 use Rattle.run_values.specs.Codes.{arithmetic_by}
 use Rattle.run_values.proofs.Computing.{taken-stops, taken-gives, arithmetic-is}
 use Rattle.run_values.proofs.Steps.{same-room, left_is, left-stops}
-use borrow.Author.Rules.{rules}
 use Rattle.run_values.proofs.arithmetic.calculate.Goals as goal
 
 pub returns-then-left-ne0 : goal.returns-then-left-ne0

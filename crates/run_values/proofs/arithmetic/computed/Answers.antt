@@ -6,7 +6,6 @@ use Rattle.number.specs.Answers.{Computes}
 use Rattle.values.specs.Operations.{computed}
 use Rattle.run_values.specs.Codes.{arithmetic_by}
 use Rattle.run_values.proofs.Computing.{last-arithmetic}
-use borrow.Author.Rules.{rules}
 use Rattle.run_values.proofs.arithmetic.computed.Goals as goal
 
 pub returns-in-7 : goal.returns-in-7

@@ -4,7 +4,6 @@ use Rattle.values.proofs.Numbers.{negate-stops}
 use Rattle.run_room.specs.Room.{slot_at}
 use Rattle.run_values.proofs.Computing.{taken-stops, taken-gives, negate-is}
 use Rattle.run_values.proofs.Steps.{same-room, left_is, left-stops}
-use borrow.Author.Rules.{rules}
 use Rattle.run_values.proofs.arithmetic.negate.Goals as goal
 
 pub returns-then-x-ne0 : goal.returns-then-x-ne0

@@ -4,7 +4,6 @@ use Rattle.values.proofs.Numbers.{to-number-is, to-number-stops}
 use Rattle.run_room.specs.Room.{slot_at}
 use Rattle.run_values.proofs.Computing.{taken-stops, taken-gives}
 use Rattle.run_values.proofs.Steps.{same-room, left-stops, left-slot}
-use borrow.Author.Rules.{rules}
 use Rattle.run_values.proofs.arithmetic.to_number.Goals as goal
 
 pub returns-then-x-ne0 : goal.returns-then-x-ne0

@@ -6,7 +6,6 @@ use Rattle.run_room.specs.Layout.{head_size, slot_bytes}
 use Rattle.run_room.specs.Room.{slot_at}
 use Rattle.run_values.proofs.Judging.{no-look, truth-number, truth-text}
 use Rattle.run_values.proofs.Wording.{part-size}
-use borrow.Author.Rules.{rules}
 use Rattle.run_values.proofs.numbers.is_true.Goals as goal
 
 pub returns-then-j : goal.returns-then-j

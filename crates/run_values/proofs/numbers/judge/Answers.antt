@@ -4,7 +4,6 @@ use native.Mathlib.Omega.{arith}
 use Rattle.run_numbers.proofs.Numbered.{kind-text, taken-number, taken-unset}
 use Rattle.run_room.specs.Room.{slot_at}
 use Rattle.run_values.proofs.Judging.{judged-number, judged-text, judged-field}
-use borrow.Author.Rules.{rules}
 use Rattle.run_values.proofs.numbers.judge.Goals as goal
 
 pub returns-then-k-eq-NUMBER : goal.returns-then-k-eq-NUMBER

@@ -2,7 +2,6 @@
 use Rattle.run_room.specs.Room.{slot_at}
 use Rattle.run_values.proofs.Judging.{not-stops, not_gives}
 use Rattle.run_values.proofs.Steps.{same-room, left-stops, left-slot}
-use borrow.Author.Rules.{rules}
 use Rattle.run_values.proofs.numbers.negation.Goals as goal
 
 pub returns-then-t-ne0 : goal.returns-then-t-ne0

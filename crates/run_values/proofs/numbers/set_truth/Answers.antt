@@ -8,7 +8,6 @@ use native.Mathlib.Omega.{arith}
 use Rattle.edition.specs.Limits.{number_bound}
 use Rattle.run_room.proofs.Slotwise.{slotted-is}
 use Rattle.run_values.proofs.Judging.{truth-word}
-use borrow.Author.Rules.{rules}
 use Rattle.run_values.proofs.numbers.set_truth.Goals as goal
 
 pub set_number-requires : goal.set_number-requires
