@@ -8,3 +8,4 @@ pub mod Walking
 pub mod Holding
 pub mod Turns
 pub mod Users
+pub mod Named

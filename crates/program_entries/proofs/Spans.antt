@@ -17,7 +17,7 @@ use Rattle.program_tokens.specs.Kinds.{ERE, text_end, among, rank}
 use Rattle.program_tokens.specs.Tokens.{Token, token, is_one_of, ere_length, ere_read, ere_token, as_operand, ere_in}
 use Rattle.program_lexer.specs.Coded.{coded, decoded, kind_count}
 use Rattle.program_scanner.specs.Closings.{ere_close}
-use Rattle.program_scanner.specs.declared.closings.Close.TheVariants.{At, Nothing}
+use Rattle.std.specs.Prelude.{Some, None}
 use Rattle.program_lexer.specs.declared.tokens.Token.{Token as Coded}
 use Rattle.program_lexer.proofs.Coding.{made, kind-test, rank-of}
 use Rattle.program_parser.specs.Meaning.{token_from, ere_at}
@@ -83,13 +83,13 @@ module _ (s : List ℕ) where
           go false true h = refl
           go false false h = absurd (clash h)
 
-      open_by : t.kind < kind_count → (o : Option ℕ) → ere_close (t.start + 1) o ≡ Nothing
+      open_by : t.kind < kind_count → (o : Option ℕ) → ere_close (t.start + 1) o ≡ None
           → t ≡ coded (spanned_by (decoded t) o)
       unfolding ere_close spanned_by
       open_by h none q = back h
       open_by h (some n) q = let z : ◌≡◌ {A = ℕ} 0 1 = cc in absurd (omega arith)
 
-      closed-by : (o : Option ℕ) (end : ℕ) → ere_close (t.start + 1) o ≡ At end
+      closed-by : (o : Option ℕ) (end : ℕ) → ere_close (t.start + 1) o ≡ Some end
           → made t.start 6 (end + 1) ≡ coded (spanned_by (decoded t) o)
       unfolding ere_close spanned_by rank
       closed-by none end q = let z : ◌≡◌ {A = ℕ} 0 1 = cc in absurd (omega arith)
@@ -99,11 +99,11 @@ module _ (s : List ℕ) where
           ap (made t.start 6) stop
 
       pub span-open : t.kind < kind_count
-          → ere_close (t.start + 1) (ere_length false (drop (t.start + 1) s)) ≡ Nothing
+          → ere_close (t.start + 1) (ere_length false (drop (t.start + 1) s)) ≡ None
           → t ≡ coded (spanned s (decoded t))
       span-open h q = open_by h (Length (decoded t)) (rw (← add-one t.start) q) ∙ ap coded (sym opened)
 
-      pub span-closed : (end : ℕ) → ere_close (t.start + 1) (ere_length false (drop (t.start + 1) s)) ≡ At end
+      pub span-closed : (end : ℕ) → ere_close (t.start + 1) (ere_length false (drop (t.start + 1) s)) ≡ Some end
           → made t.start 6 (end + 1) ≡ coded (spanned s (decoded t))
       span-closed end q = closed-by (Length (decoded t)) end (rw (← add-one t.start) q) ∙ ap coded (sym opened)
 

@@ -15,7 +15,7 @@ use Rattle.ere_grammar.specs.Bytes.{lookup, string_escapes}
 use Rattle.image_format.specs.Image.{text}
 use Rattle.program_tokens.specs.Tokens.{read_string, with_byte, with_escape, value_of as value_read}
 use Rattle.program_scanner.specs.Closings.{string_close}
-use Rattle.program_scanner.specs.declared.closings.Close.TheVariants.{At, Nothing}
+use Rattle.std.specs.Prelude.{Some, None}
 use Rattle.program_tables.specs.Texts.{byte_or, unescape, between, value_of, value_in}
 use Rattle.program_tables.specs.Tables.{meant}
 use Rattle.program_tables.proofs.Values.{value-end}
@@ -112,7 +112,7 @@ module _ (s : List ℕ) (at : ℕ) where
   abbrev Closed : ℕ → List ℕ → Type 0
   Closed end v = (at < end) × ((end ≤ length s) × (value_in s true at (end - 1) ≡ v))
 
-  closed-by : (o : Option (Parsed (List ℕ))) (end : ℕ) → Reads false (drop at s) o → string_close s o ≡ At end
+  closed-by : (o : Option (Parsed (List ℕ))) (end : ℕ) → Reads false (drop at s) o → string_close s o ≡ Some end
       → Closed end (value_read o)
   unfolding string_close value_read value_of
   closed-by none end h e = let z : ◌≡◌ {A = ℕ} 0 1 = cc in absurd (omega arith)
@@ -127,17 +127,17 @@ module _ (s : List ℕ) (at : ℕ) where
         ),
       )
 
-  none-by : (o : Option (Parsed (List ℕ))) → string_close s o ≡ Nothing → value_read o ≡ []
+  none-by : (o : Option (Parsed (List ℕ))) → string_close s o ≡ None → value_read o ≡ []
   unfolding string_close value_read
   none-by none e = refl
   none-by (some g) e = let z : ◌≡◌ {A = ℕ} 0 1 = cc in absurd (omega arith)
 
-  pub string-closed : (end : ℕ) → string_close s (read_string false (drop at s)) ≡ At end → Closed end (string_from s at)
+  pub string-closed : (end : ℕ) → string_close s (read_string false (drop at s)) ≡ Some end → Closed end (string_from s at)
   unfolding string_from
   string-closed end e = closed-by (read_string false (drop at s)) end (reads false (drop at s)) e
 
   module _ (some-place : 0 < at) (small : at ≤ filter_text) where
-    pub string-stands : (end : ℕ) → string_close s (read_string false (drop at s)) ≡ At end
+    pub string-stands : (end : ℕ) → string_close s (read_string false (drop at s)) ≡ Some end
         → Stands s true (text (string_from s at)) (record { value = at; stop = end - 1 })
     unfolding meant
     string-stands end e =
@@ -148,7 +148,7 @@ module _ (s : List ℕ) (at : ℕ) where
           bounded = omega arith;
         }
 
-    pub string-open : string_close s (read_string false (drop at s)) ≡ Nothing
+    pub string-open : string_close s (read_string false (drop at s)) ≡ None
         → Stands s true (text (string_from s at)) (record { value = at; stop = at })
     unfolding meant string_from
     string-open e =

@@ -7,6 +7,7 @@ ghost use Rattle.program_tokens.specs.Tokens.{spelling};
 ghost use Rattle.program_parser.specs.Meaning.{constant_at, name_at, ere_at};
 ghost use Rattle.program_names.specs.Walk.{spanned};
 ghost use Rattle.program_entries.specs.Named.{
+  table_number,
   is_named,
   named,
   operand_bound,
@@ -21,27 +22,35 @@ ghost use Rattle.program_entries.specs.Named.{
 use edition::Edition;
 use program_lexer::Token;
 use program_parser::kinds;
-use program_scanner::Close;
 use program_tables::Entry;
 
 // What the entries of a table are.
-pub const CONSTANTS: u64 = 0;
-
-pub const VARIABLES: u64 = 1;
-
-pub const ERES: u64 = 2;
+#[derive(Clone, Copy)]
+pub enum Entries {
+    Constants,
+    Variables,
+    Eres,
+}
 
 // Tells whether an instruction with this code names an entry of a table.
-pub fn is_named(what: u64, op: u64) -> bool
-    ensures { result ≡ is_named what op }
+pub fn is_named(what: Entries, op: u64) -> bool
+    ensures { result ≡ is_named (table_number what) op }
 {
-    match op {
-        program_words::CONSTANT => what == CONSTANTS,
-        program_words::GET => what == VARIABLES,
-        program_words::SET => what == VARIABLES,
-        program_words::MATCHES => what == ERES,
-        program_words::MATCH => what == ERES,
-        _ => false,
+    match what {
+        Entries::Constants => op == program_words::CONSTANT,
+        Entries::Variables => (op == program_words::GET) | (op == program_words::SET),
+        Entries::Eres => (op == program_words::MATCHES) | (op == program_words::MATCH),
+    }
+}
+
+// Tells whether the texts of a table are STRINGs, which have escapes.
+pub fn has_escapes(what: Entries) -> bool
+    ensures { result ≡ eqb (table_number what) 0 }
+{
+    match what {
+        Entries::Constants => true,
+        Entries::Variables => false,
+        Entries::Eres => false,
     }
 }
 
@@ -50,7 +59,7 @@ fn string_entry(s: &[u8], at: usize) -> Entry
     requires { (0 < at) × (at ≤ filter_text) }
     ensures { Stands s.now true (text (string_from s.now at)) result }
 {
-    let Close::At(end) = program_scanner::string_close(s, at) else {
+    let Some(end) = program_scanner::string_close(s, at) else {
         return Entry {
             value: at,
             stop: at,
@@ -142,18 +151,15 @@ fn variable_at(s: &[u8], x: usize, edition: Edition) -> Entry
     name_entry(s, program_lexer::token_of(s, x, edition))
 }
 
-// `/=`, which starts an ERE as `/` does.
-const DIV_ASSIGN: u64 = 70;
-
 // Returns a token where a `/` starts an ERE: a `/` or `/=` up to the slash that closes it. The ERE was judged before.
 pub fn as_ere(s: &[u8], t: Token) -> Token
     requires { (t.kind < kind_count) × (t.start < operand_bound) }
     ensures { result ≡ coded (spanned s.now (decoded t)) }
 {
-    if (t.kind != kinds::SLASH) & (t.kind != DIV_ASSIGN) {
+    if (t.kind != kinds::SLASH) & (t.kind != program_scanner::DIV_ASSIGN) {
         return t;
     }
-    let Close::At(end) = program_scanner::ere_close(s, t.start + 1) else {
+    let Some(end) = program_scanner::ere_close(s, t.start + 1) else {
         return t;
     };
     Token {
@@ -182,15 +188,13 @@ fn ere_at(s: &[u8], x: usize, edition: Edition) -> Entry
 }
 
 // Returns the entry that an operand names.
-pub fn entry_at(s: &[u8], x: usize, what: u64, edition: Edition) -> Entry
+pub fn entry_at(s: &[u8], x: usize, what: Entries, edition: Edition) -> Entry
     requires { (length s.now ≤ filter_text) × (x < operand_bound) × (first_edition ≤ edition.number) }
-    ensures { Stands s.now (eqb what 0) (named edition.number s.now what x) result }
+    ensures { Stands s.now (eqb (table_number what) 0) (named edition.number s.now (table_number what) x) result }
 {
-    if what == CONSTANTS {
-        return constant_at(s, x, edition);
+    match what {
+        Entries::Constants => constant_at(s, x, edition),
+        Entries::Variables => variable_at(s, x, edition),
+        Entries::Eres => ere_at(s, x, edition),
     }
-    if what == VARIABLES {
-        return variable_at(s, x, edition);
-    }
-    ere_at(s, x, edition)
 }

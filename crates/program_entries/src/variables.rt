@@ -77,11 +77,9 @@ fn enter_specials(table: &mut [u64])
     requires { 14 ≤ length table.old }
     ensures { table.new ≡ specials_in table.old }
 {
-    let mut k: usize = 0;
-    while k < SPECIALS {
+    for k in 0..SPECIALS {
         table[2 * k] = k as u64;
         table[2 * k + 1] = 0;
-        k += 1;
     }
 }
 

@@ -9,6 +9,7 @@ use lib.ListN.{length-append}
 use lib.Seq.{sets}
 use lib.Dec.{eqb, ltb, leb}
 use borrow.Author.Tests.{eq-eqb, ne_eqb, lt-ltb, not-true, ltb-true}
+use Rattle.std.specs.Prelude.{Some, None}
 use Rattle.lists.proofs.Tests.{clash, and-true}
 use Rattle.edition.specs.Outcomes.{bad_token, misplaced_token, bad_ere}
 use Rattle.image_format.specs.Codes.{action}
@@ -34,7 +35,7 @@ use Rattle.program_parser.specs.Meaning.{Denotes}
 use Rattle.program_parser.specs.Reading.{success, answered, refusal, refused_by, closed_of, form_of, Good, Ready, Reading}
 use Rattle.program_parser.proofs.Tokens.{choose, good-after}
 use Rattle.program_parser.proofs.Codes.{decoded-back}
-use Rattle.program_parser.proofs.Others.{coded-function, no-function}
+use Rattle.program_parser.proofs.Others.{no-function}
 use Rattle.program_parser.proofs.Spelling.{wrote_after}
 use Rattle.program_parser.proofs.Places.{ere-placed}
 use Rattle.program_operations.specs.Parts.{suffixed, Suffixed, pending, Completes, Calls, arguments_left}
@@ -102,18 +103,30 @@ function-has edition k P z (f ∷ l) h =
     (λ e. function-has edition k P z l h.1)
 
 abbrev Fit : Option Function → Type 0
-Fit o = ((described o).op < 256) × ((described o).shapes < 64)
+Fit o = (f : Coding) → described o ≡ Some f → (f.op < 256) × (f.shapes < 64)
+
+-- the numbers of a function that is known
+coded-fits : (f g : Coding) → Some f ≡ Some g → (f.op < 256) × (f.shapes < 64) → (g.op < 256) × (g.shapes < 64)
+coded-fits f g e h =
+    let same : f ≡ g = cc in
+    subst (λ (y : Coding). (y.op < 256) × (y.shapes < 64)) same h
 
 pub function-fits : (edition : ℕ) (k : Kind) → Fit (function_of edition k)
 unfolding shapes_code shape_code function_action action_code rank
 function-fits edition k =
-    function-has edition k Fit (omega arith, omega arith) functions (
-      (omega arith, omega arith),
+    function-has edition k Fit none-fits functions (
+      (λ g e. coded-fits _ g e (omega arith, omega arith)),
       (
-        (omega arith, omega arith),
-        ((omega arith, omega arith), ((omega arith, omega arith), tt)),
+        (λ g e. coded-fits _ g e (omega arith, omega arith)),
+        (
+          (λ g e. coded-fits _ g e (omega arith, omega arith)),
+          ((λ g e. coded-fits _ g e (omega arith, omega arith)), tt),
+        ),
       ),
     )
+  where
+    none-fits : Fit none
+    none-fits g e = let z : ◌≡◌ {A = ℕ} 0 1 = cc in absurd (omega arith)
 
 -- the code of a call is that of its arguments, and then one instruction
 abbrev Complete : ℕ → Option Function → Type 0
@@ -165,12 +178,13 @@ function-completes edition k =
     )
 
 -- a word that calls a function is not the text's end
-pub function-begun : (edition n : ℕ) → n < kind_count → ((described (function_of edition (kind_of n))).op ≡ 0 → ⊥) → n ≡ 0
+pub function-begun : (edition n : ℕ) (f : Coding) → n < kind_count → described (function_of edition (kind_of n)) ≡ Some f → n ≡ 0
     → ⊥
-function-begun edition n h z e =
-    z (sym (ap (λ (y : Coding). y.op)
-    (no-function n h edition (λ f. omega (arith, e, f)) (λ f. omega (arith, e, f)) (λ f. omega (arith, e, f))
-    (λ f. omega (arith, e, f)))))
+function-begun edition n f h z e =
+    let none : None ≡ Some f =
+    no-function n h edition (λ f. omega (arith, e, f)) (λ f. omega (arith, e, f)) (λ f. omega (arith, e, f))
+    (λ f. omega (arith, e, f)) ∙ z in
+    let q : ◌≡◌ {A = ℕ} 0 1 = cc in omega arith
 
 -- ---- a call, from the word of its function on
 
@@ -179,12 +193,11 @@ module _ (edition : ℕ) (s : List ℕ) (levels : ℕ) (t : Coded) (n d : ℕ) (
   abbrev Called : Option Function → Result Expression
   Called o = calling edition s (inside edition s levels) (decoded t) o
 
-  pub call_none : (o : Option Function) → (described o).op ≡ 0 → r ≡ refusal (refused_by (decoded t)) t.start
+  pub call_none : (o : Option Function) → described o ≡ None → r ≡ refusal (refused_by (decoded t)) t.start
       → Reading edition s (decoded t) n d xs (Called o) r ys
   unfolding calling
   call_none none e a = refused-token edition s (decoded t) n d xs (refuse (decoded t)) r ys (decoded t) refl a
-  call_none (some f) e a =
-      absurd (clash (sym (coded-function (some f)) ∙ ap (λ (i : ℕ). not (eqb i 0)) e))
+  call_none (some f) e a = let z : ◌≡◌ {A = ℕ} 0 1 = cc in absurd (omega arith)
 
   module _ (u : Coded) (ue : u ≡ coded (token_after edition s (decoded t))) where
     back : decoded u ≡ token_after edition s (decoded t)
@@ -193,29 +206,31 @@ module _ (edition : ℕ) (s : List ℕ) (levels : ℕ) (t : Coded) (n d : ℕ) (
     found : (k : Kind) → is k (token_after edition s (decoded t)) ≡ eqb u.kind (rank k)
     found k = ap (λ (i : ℕ). eqb i (rank k)) (sym (ap (λ (y : Coded). y.kind) ue))
 
-    pub call-refused : (o : Option Function) → ((described o).op ≡ 0 → ⊥) → (u.kind ≡ 38 → ⊥)
+    pub call-refused : (o : Option Function) (g : Coding) → described o ≡ Some g → (u.kind ≡ 38 → ⊥)
         → r ≡ refusal (refused_by (decoded u)) u.start → Reading edition s (decoded t) n d xs (Called o) r ys
     unfolding calling call rank
-    call-refused none z k a = absurd (z refl)
-    call-refused (some f) z k a =
+    call-refused none g e k a = let z : ◌≡◌ {A = ℕ} 0 1 = cc in absurd (omega arith)
+    call-refused (some f) g e k a =
         let v = token_after edition s (decoded t) in
         refused-token edition s (decoded t) n d xs (Called (some f)) r ys v
         (rw (found open_paren, ne_eqb u.kind 38 k))
         (a ∙ ap (λ (y : Token). refusal (refused_by y) y.start) back)
 
-    pub call-read : (o : Option Function) → Complete edition o → ((described o).op ≡ 0 → ⊥) → t.start < t.stop
+    pub call-read : (o : Option Function) → Complete edition o → (y : Coding) → described o ≡ Some y → t.start < t.stop
         → u.kind ≡ 38
-        → Calls edition s levels (pending (described o).op (described o).shapes 0 u) true u n d xs r ys
+        → Calls edition s levels (pending y.op y.shapes 0 u) true u n d xs r ys
         → Reading edition s (decoded t) n d xs (Called o) r ys
     unfolding calling call rank Calls Denotes
-    call-read none w z l k c = absurd (z refl)
-    call-read (some f) w z l k c =
+    call-read none w y z l k c = let q : ◌≡◌ {A = ℕ} 0 1 = cc in absurd (omega arith)
+    call-read (some f) w y z l k c =
+        let same : y ≡ record { op = action_code (function_action f.kind); shapes = shapes_code f.shapes } = cc in
+        let c' = subst (λ (x : Coding). Calls edition s levels (pending x.op x.shapes 0 u) true u n d xs r ys) same c in
         let v = token_after edition s (decoded t) in
         let g = good-after edition s 0 (decoded t) h.good in
         let a : u.start ≡ v.start = ap (λ (y : Coded). y.start) ue in
         let b : u.stop ≡ v.stop = ap (λ (y : Coded). y.stop) ue in
         rw (found open_paren, eq-eqb u.kind 38 k, ← back)
-        (c (decoded t) n d xs f.shapes f.tree
+        (c' (decoded t) n d xs f.shapes f.tree
         (record {
           act = function_action f.kind;
           read = [];

@@ -146,10 +146,9 @@ fn call(
         (calling edition.number s.now (inside_of edition.number s.now levels) (decoded t)
         (function_of edition.number (kind_of t.kind))) result section.new }
 {
-    let f = calls::function_of(t.kind, edition);
-    if f.op == 0 {
+    let Some(f) = calls::function_of(t.kind, edition) else {
         return read::refuse(t);
-    }
+    };
     let opener = program_lexer::token_after(s, t, edition);
     if opener.kind != kinds::OPEN_PAREN {
         return read::refuse(opener);

@@ -13,12 +13,10 @@ pub fn depths_fit(section: &[u64], count: usize) -> bool
     requires { count ≤ length section.now }
     ensures { result ≡ depths_fit (instructions_of section.now count) }
 {
-    let mut i: usize = 0;
-    while i < count {
+    for i in 0..count {
         if (Edition::DEPTH as u64) < program_words::depth_in(section[i]) {
             return false;
         }
-        i += 1;
     }
     true
 }
@@ -40,12 +38,10 @@ pub fn constants_fit(s: &[u8], table: &[u64], n: usize) -> bool
     requires { (2 * n ≤ length table.now) × AllInside s.now table.now n }
     ensures { result ≡ all small_constant (entries_from s.now true table.now 0 n) }
 {
-    let mut k: usize = 0;
-    while k < n {
+    for k in 0..n {
         if !constant_fits(s, table, k) {
             return false;
         }
-        k += 1;
     }
     true
 }

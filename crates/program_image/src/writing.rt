@@ -11,9 +11,6 @@ ghost use Rattle.program_image.specs.Written.{has_operand, instruction_of, secti
 
 use program_tables::Entry;
 
-// The code of `match`.
-const MATCH: u64 = 23;
-
 // The kinds of constants.
 const NUMBER: u64 = 0;
 
@@ -63,10 +60,8 @@ pub fn put_entries(
         result room.new }
 {
     let mut at = varint::put_number(room, k, n as u64);
-    let mut i: usize = 0;
-    while i < n {
+    for i in 0..n {
         at = put_entry(s, program_tables::entry_in(table, i), constants, room, at);
-        i += 1;
     }
     at
 }
@@ -80,7 +75,7 @@ fn has_operand(op: u64) -> bool
         program_words::GET => true,
         program_words::SET => true,
         program_words::MATCHES => true,
-        MATCH => true,
+        program_words::MATCH => true,
         program_words::JUMP => true,
         program_words::JUMP_IF_FALSE => true,
         program_words::PRINT => true,
@@ -108,10 +103,8 @@ pub fn put_section(section: &[u64], n: usize, room: &mut [u8], k: usize) -> usiz
     ensures { Writes room.old k (section_bytes section.now n) result room.new }
 {
     let mut at = varint::put_number(room, k, n as u64);
-    let mut i: usize = 0;
-    while i < n {
+    for i in 0..n {
         at = put_instruction(section[i], room, at);
-        i += 1;
     }
     at
 }

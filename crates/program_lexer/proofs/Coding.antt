@@ -3,18 +3,18 @@ use mathlib.Core.Path.{◌≡◌, refl, sym, ap, ◌∙◌}
 use mathlib.Core.Bool.{Bool, true, false, not, cond, ◌&&◌, ◌||◌}
 use mathlib.Core.List.{List, [], ◌∷◌}
 use mathlib.Core.Option.{Option, some, none}
-use mathlib.Core.Logic.{◌⊎◌, inl, inr, ⊎_elim}
 use Prim.Native.Nat.{ℕ, suc, ◌+◌, ◌-◌, ◌≤◌, ◌<◌, min}
 use native.Mathlib.Numerals.{add-one}
 use native.Mathlib.Omega.{arith}
 use lib.Dec.{eqb, leb, ltb}
 use lib.ListN.{length, get_or, take, drop, drop_of_length-le, length-drop, get_or-eq_default}
-use lib.Seq.{drop-cons, drop-drop}
-use borrow.Author.Tests.{eqb-true, eqb-false, eq-eqb, ne_eqb, ltb-true, ltb-false, lt-ltb, le-ltb, not-true}
+use lib.Seq.{drop-cons, drop-drop, take_all}
+use borrow.Author.Tests.{leb-true, leb-false, eqb-true, eq-eqb, ne_eqb, ltb-true, ltb-false, lt-ltb, le-ltb, not-true}
 use borrow.Rule.Slice.PartMut.{mid_of}
-use Rattle.lists.specs.Elements.{all, all_below, leading}
+use Rattle.std.specs.Prelude.{Some, None}
+use Rattle.lists.specs.Elements.{all_below, leading}
 use Rattle.lists.specs.Parsing.{Parsed, parsed}
-use Rattle.lists.proofs.Tests.{and-true, and-false, clash}
+use Rattle.lists.proofs.Tests.{and-true, clash}
 use Rattle.lists.proofs.Elements.{below_at}
 use Rattle.lists.proofs.Leading.{leading_le}
 use Rattle.edition.specs.Limits.{number_bound}
@@ -27,14 +27,11 @@ use Rattle.numeral.specs.Judgement.{digits_value}
 use Rattle.numeral.specs.Capped.{capped, ReadsDigits}
 use Rattle.numeral.specs.declared.digits.Digits.{Digits}
 use Rattle.program_tokens.specs.Kinds.{Kind, kinds, newline, bad, NUMBER, slash, div_assign, user_name, rank, among}
-use Rattle.program_tokens.specs.Words.{Word, operators, same_bytes, kind_in, word_kind, operator_kind}
+use Rattle.program_tokens.specs.Words.{word_kind, operator_kind}
 use Rattle.program_tokens.specs.Tokens.{token, is, is_one_of, is_letter, is_word_byte, begins_with, skipped, number_token, word_token, read_string, with_byte, with_escape, string_token, operator_token, token_of, token_at, token_after, ere_length, one_more, ere_read, ere_token, as_operand}
 use Rattle.program_lexer.specs.Coded.{kind_count, coded, kind_of, decoded}
-use Rattle.program_scanner.specs.Spellings.{two_bytes}
 use Rattle.program_scanner.specs.Closings.{string_close, ere_close}
 use Rattle.program_lexer.specs.declared.tokens.Token.{Token as Coded}
-use Rattle.program_scanner.specs.declared.closings.Close.TheVariants.{At, Nothing}
-use Rattle.program_scanner.proofs.Packing.{spelled_byte, spelled, well_spelled}
 
 -- a token of the code
 abbrev pub made : ℕ → ℕ → ℕ → Coded
@@ -54,9 +51,12 @@ begins-at kind s k h = go (ltb k (length s)) refl
 -- ---- words
 
 pub word-coded : (edition a n k : ℕ) (s : List ℕ) → n ≡ leading is_word_byte (drop a s)
-    → k ≡ rank (word_kind edition (take n (drop a s))) → made a k (a + n) ≡ coded (word_token edition a (drop a s))
+    → k ≡ rank (word_kind edition (mid_of a (a + n - a) s)) → made a k (a + n) ≡ coded (word_token edition a (drop a s))
 unfolding word_token
-word-coded edition a n k s e f = rw (f, e)
+word-coded edition a n k s e f =
+    let count : a + n - a ≡ n = omega arith in
+    let same : k ≡ rank (word_kind edition (take n (drop a s))) = f ∙ ap (λ (m : ℕ). rank (word_kind edition (take m (drop a s)))) count in
+    rw (same, e)
 
 -- ---- numbers
 
@@ -131,13 +131,13 @@ string-rest false (b ∷ l) = go (eqb b 34) (eqb b 10) (eqb b 92) (string-rest f
     go false false false f g = omega (arith, byte-rest b (read_string false l))
 
 module _ (s : List ℕ) (a : ℕ) (inside : a < length s) where
-  string-none : (r : Option (Parsed (List ℕ))) → string_close s r ≡ Nothing
+  string-none : (r : Option (Parsed (List ℕ))) → string_close s r ≡ None
       → made a 2 (a + 1) ≡ coded (string_token a (drop (suc a) s) r)
   unfolding string_close string_token rank
   string-none none e = refl
   string-none (some g) e = let z : ◌≡◌ {A = ℕ} 0 1 = cc in absurd (omega arith)
 
-  string-some : (r : Option (Parsed (List ℕ))) (stop : ℕ) → string_close s r ≡ At stop → rest_length r ≤ length (drop (suc a) s)
+  string-some : (r : Option (Parsed (List ℕ))) (stop : ℕ) → string_close s r ≡ Some stop → rest_length r ≤ length (drop (suc a) s)
       → made a 5 stop ≡ coded (string_token a (drop (suc a) s) r)
   unfolding string_close string_token rest_length rank
   string-some none stop e h = let z : ◌≡◌ {A = ℕ} 0 1 = cc in absurd (omega arith)
@@ -146,11 +146,11 @@ module _ (s : List ℕ) (a : ℕ) (inside : a < length s) where
       let same : stop ≡ a + suc (length (drop (suc a) s) - length g.rest) = omega (arith, at, h, inside, length-drop (suc a) s) in
       ap (made a 5) same
 
-  pub string-bad : string_close s (read_string false (drop (a + 1) s)) ≡ Nothing
+  pub string-bad : string_close s (read_string false (drop (a + 1) s)) ≡ None
       → made a 2 (a + 1) ≡ coded (string_token a (drop (suc a) s) (read_string false (drop (suc a) s)))
   string-bad e = string-none (read_string false (drop (suc a) s)) (rw (← add-one a) e)
 
-  pub string-good : (stop : ℕ) → string_close s (read_string false (drop (a + 1) s)) ≡ At stop
+  pub string-good : (stop : ℕ) → string_close s (read_string false (drop (a + 1) s)) ≡ Some stop
       → made a 5 stop ≡ coded (string_token a (drop (suc a) s) (read_string false (drop (suc a) s)))
   string-good stop e =
       string-some (read_string false (drop (suc a) s)) stop (rw (← add-one a) e) (string-rest false (drop (suc a) s))
@@ -180,13 +180,13 @@ ere-below escaped (b ∷ l) =
     go false false h = h
 
 module _ (edition : ℕ) (s : List ℕ) (a : ℕ) where
-  ere-none : (o : Option ℕ) → ere_close (a + 1) o ≡ Nothing → made a 2 (a + 1) ≡ coded (ere_token edition a (drop (suc a) s) o)
+  ere-none : (o : Option ℕ) → ere_close (a + 1) o ≡ None → made a 2 (a + 1) ≡ coded (ere_token edition a (drop (suc a) s) o)
   unfolding ere_close ere_token rank
   ere-none none e = refl
   ere-none (some n) e = let z : ◌≡◌ {A = ℕ} 0 1 = cc in absurd (omega arith)
 
   -- where the slash is, by what is read between the slashes
-  ere-some : (o : Option ℕ) (end : ℕ) (m : Option (Ere Class)) → ere_close (a + 1) o ≡ At end
+  ere-some : (o : Option ℕ) (end : ℕ) (m : Option (Ere Class)) → ere_close (a + 1) o ≡ Some end
       → read_ere edition (mid_of (a + 1) (end - (a + 1)) s) ≡ m → coded (ere_read a (end + 1 - a) m) ≡ coded (ere_token edition a (drop (suc a) s) o)
   unfolding ere_close ere_token
   ere-some none end m e h = let z : ◌≡◌ {A = ℕ} 0 1 = cc in absurd (omega arith)
@@ -197,7 +197,7 @@ module _ (edition : ℕ) (s : List ℕ) (a : ℕ) where
       let part : read_ere edition (take n (drop (suc a) s)) ≡ m = rw (← count, ← add-one a) h in
       rw (size, part)
 
-  at-inside : (o : Option ℕ) (end : ℕ) → ere_close (a + 1) o ≡ At end → Below o (length (drop (suc a) s)) → (a + 1 ≤ end) × (end < length s)
+  at-inside : (o : Option ℕ) (end : ℕ) → ere_close (a + 1) o ≡ Some end → Below o (length (drop (suc a) s)) → (a + 1 ≤ end) × (end < length s)
   unfolding ere_close
   at-inside none end e h = let z : ◌≡◌ {A = ℕ} 0 1 = cc in absurd (omega arith)
   at-inside (some n) end e h =
@@ -207,14 +207,14 @@ module _ (edition : ℕ) (s : List ℕ) (a : ℕ) where
   abbrev Length : Option ℕ
   Length = ere_length false (drop (suc a) s)
 
-  pub ere-inside : (end : ℕ) → ere_close (a + 1) (ere_length false (drop (a + 1) s)) ≡ At end → (a + 1 ≤ end) × (end < length s)
+  pub ere-inside : (end : ℕ) → ere_close (a + 1) (ere_length false (drop (a + 1) s)) ≡ Some end → (a + 1 ≤ end) × (end < length s)
   ere-inside end e = at-inside Length end (rw (← add-one a) e) (ere-below false (drop (suc a) s))
 
-  pub ere-bad : ere_close (a + 1) (ere_length false (drop (a + 1) s)) ≡ Nothing
+  pub ere-bad : ere_close (a + 1) (ere_length false (drop (a + 1) s)) ≡ None
       → made a 2 (a + 1) ≡ coded (ere_token edition a (drop (suc a) s) (ere_length false (drop (suc a) s)))
   ere-bad e = ere-none Length (rw (← add-one a) e)
 
-  module _ (end : ℕ) (closed : ere_close (a + 1) (ere_length false (drop (a + 1) s)) ≡ At end) where
+  module _ (end : ℕ) (closed : ere_close (a + 1) (ere_length false (drop (a + 1) s)) ≡ Some end) where
     size : a + (end + 1 - a) ≡ end + 1
     size = omega (arith, (ere-inside end closed).0)
 
@@ -230,130 +230,46 @@ module _ (edition : ℕ) (s : List ℕ) (a : ℕ) where
 
 -- ---- operators
 
--- no operator has a byte 0
-nul-spelled : (a : ℕ) (m : List ℕ) → spelled m ≡ true → same_bytes (a ∷ 0 ∷ []) m ≡ false
-unfolding same_bytes spelled spelled_byte
-nul-spelled a [] h = refl
-nul-spelled a (c ∷ []) h = and-false (eqb a c)
-nul-spelled a (c ∷ d ∷ m) h =
-    let each = (and-true (ltb 0 (suc (suc (length m)))) (all spelled_byte (c ∷ d ∷ m)) h).1 in
-    let later = (and-true (spelled_byte c) (all spelled_byte (d ∷ m)) each).1 in
-    let byte = (and-true (ltb 0 d) (ltb d 256) (and-true (spelled_byte d) (all spelled_byte m) later).0).0 in
-    let above = ltb-true 0 d byte in
-    rw (ne_eqb 0 d (λ e. omega (arith, above, e))) (and-false (eqb a c))
-
-nul-kind : (edition a : ℕ) (l : List Word) → all well_spelled l ≡ true → kind_in edition bad (a ∷ 0 ∷ []) l ≡ bad
-unfolding kind_in
-nul-kind edition a [] h = refl
-nul-kind edition a (x ∷ l) h =
-    let both = and-true (well_spelled x) (all well_spelled l) h in
-    rw (nul-spelled a x.spelling both.0, and-false (leb x.since edition)) (nul-kind edition a l both.1)
-
-operator-nul : (edition a : ℕ) → operator_kind edition (a ∷ 0 ∷ []) ≡ bad
-unfolding spelled spelled_byte
-operator-nul edition a = nul-kind edition a operators refl
-
-module _ (edition : ℕ) (s : List ℕ) (a : ℕ) (inside : a < length s) where
-  abbrev First : ℕ
-  First = get_or s a 0
-
-  abbrev Second : ℕ
-  Second = get_or s (a + 1) 0
-
-  first_taken : take 1 (drop a s) ≡ First ∷ []
-  first_taken = rw (drop-cons s a 0 inside)
-
-  both-taken : a + 1 < length s → take 2 (drop a s) ≡ First ∷ Second ∷ []
-  both-taken h =
-      let second : drop (suc a) s ≡ Second ∷ drop (suc (suc a)) s =
-      drop-cons s (suc a) 0 (omega arith) ∙ ap (λ (k : ℕ). get_or s k 0 ∷ drop (suc (suc a)) s) (sym (add-one a)) in
-      ap (take 2) (drop-cons s a 0 inside) ∙ ap (λ (l : List ℕ). First ∷ take 1 l) second
-
-  one-taken : length s ≤ a + 1 → take 2 (drop a s) ≡ First ∷ []
-  one-taken h =
-      ap (take 2) (drop-cons s a 0 inside)
-      ∙ ap (λ (l : List ℕ). First ∷ take 1 l) (drop_of_length-le s {i = suc a} (omega arith))
-
-  -- a second byte that isn't 0 is there
-  second-inside : (Second ≡ 0 → ⊥) → a + 1 < length s
-  second-inside n = go (ltb (a + 1) (length s)) refl
+module _ (s : List ℕ) (a : ℕ) where
+  -- `&s[a..s.len().min(a + 2)]`
+  pub pair-lent : mid_of a (min (length s) (a + 2) - a) s ≡ take 2 (drop a s)
+  pair-lent = go (leb (a + 2) (length s)) refl
     where
-      go : (b : Bool) → ltb (a + 1) (length s) ≡ b → a + 1 < length s
-      go true e = ltb-true (a + 1) (length s) e
-      go false e = absurd (n (get_or-eq_default s 0 (ltb-false (a + 1) (length s) e)))
-
-  two_bytes_lem : (Second ≡ 0 → ⊥) → two_bytes First Second ≡ take 2 (drop a s)
-  two_bytes_lem n = rw (ne_eqb Second 0 n) (sym (both-taken (second-inside n)))
-
-  operator-two : (two : ℕ) → two ≡ rank (operator_kind edition (two_bytes First Second)) → (Second ≡ 0 → ⊥) → (two ≡ 2 → ⊥)
-      → made a two (a + 2) ≡ coded (operator_token edition a (drop a s))
-  unfolding operator_token rank
-  operator-two two e n m =
-      let same : two ≡ rank (operator_kind edition (take 2 (drop a s))) =
-      e ∙ ap (λ (w : List ℕ). rank (operator_kind edition w)) (two_bytes_lem n) in
-      let long : length (take 2 (drop a s)) ≡ 2 = ap length (both-taken (second-inside n)) in
-      rw (ne_eqb (rank (operator_kind edition (take 2 (drop a s)))) 2 (λ q. m (same ∙ q)), long) (ap (λ (k : ℕ). made a k (a + 2)) same)
-
-  -- where two bytes are no operator, the first byte decides
-  chosen : rank (operator_kind edition (take 2 (drop a s))) ≡ 2
-      → made a (rank (operator_kind edition (First ∷ []))) (a + 1) ≡ coded (operator_token edition a (drop a s))
-  unfolding operator_token rank
-  chosen e = rw (eq-eqb (rank (operator_kind edition (take 2 (drop a s)))) 2 e, first_taken)
-
-  -- and where there is one byte only
-  alone : length s ≤ a + 1 → made a (rank (operator_kind edition (First ∷ []))) (a + 1) ≡ coded (operator_token edition a (drop a s))
-  unfolding operator_token rank
-  alone h = rw (one-taken h, first_taken) (go (eqb (rank (operator_kind edition (First ∷ []))) 2))
-    where
-      go : (x : Bool) → made a (rank (operator_kind edition (First ∷ []))) (a + 1)
-          ≡ coded (cond x (token a (operator_kind edition (First ∷ [])) 1) (token a (operator_kind edition (First ∷ [])) 1))
-      go true = refl
-      go false = refl
-
-  zero-second : Second ≡ 0 → made a (rank (operator_kind edition (First ∷ []))) (a + 1) ≡ coded (operator_token edition a (drop a s))
-  unfolding rank
-  zero-second z = go (ltb (a + 1) (length s)) refl
-    where
-      go : (b : Bool) → ltb (a + 1) (length s) ≡ b
-          → made a (rank (operator_kind edition (First ∷ []))) (a + 1) ≡ coded (operator_token edition a (drop a s))
+      go : (b : Bool) → leb (a + 2) (length s) ≡ b → mid_of a (min (length s) (a + 2) - a) s ≡ take 2 (drop a s)
       go true e =
-          let pair : take 2 (drop a s) ≡ First ∷ 0 ∷ [] =
-          both-taken (ltb-true (a + 1) (length s) e) ∙ ap (λ (b : ℕ). First ∷ b ∷ []) z in
-          chosen (ap (λ (w : List ℕ). rank (operator_kind edition w)) pair ∙ ap rank (operator-nul edition First))
-      go false e = alone (ltb-false (a + 1) (length s) e)
+          let long = leb-true (a + 2) (length s) e in
+          let n : min (length s) (a + 2) - a ≡ 2 = omega arith in
+          ap (λ (m : ℕ). take m (drop a s)) n
+      go false e =
+          let short = leb-false (a + 2) (length s) e in
+          let n : min (length s) (a + 2) - a ≡ length s - a = omega arith in
+          ap (λ (m : ℕ). take m (drop a s)) n
+          ∙ take_all (length s - a) (drop a s) (rw length-drop (omega arith))
+          ∙ sym (take_all 2 (drop a s) (rw length-drop (omega arith)))
 
-  operator-one : (two : ℕ) → two ≡ rank (operator_kind edition (two_bytes First Second)) → (Second ≡ 0) ⊎ (two ≡ 2)
-      → (one : ℕ) → one ≡ rank (operator_kind edition (two_bytes First 0))
+  -- `&s[a..a + 1]`
+  pub first-lent : mid_of a (a + 1 - a) s ≡ take 1 (drop a s)
+  first-lent =
+      let n : a + 1 - a ≡ 1 = omega arith in
+      ap (λ (m : ℕ). take m (drop a s)) n
+
+module _ (edition : ℕ) (s : List ℕ) (a two : ℕ) (e : two ≡ rank (operator_kind edition (mid_of a (min (length s) (a + 2) - a) s))) where
+  kind-two : rank (operator_kind edition (take 2 (drop a s))) ≡ two
+  kind-two = sym (e ∙ ap (λ (w : List ℕ). rank (operator_kind edition w)) (pair-lent s a))
+
+  pub operator-longer : (two ≡ 2 → ⊥)
+      → made a two (a + length (mid_of a (min (length s) (a + 2) - a) s)) ≡ coded (operator_token edition a (drop a s))
+  unfolding operator_token rank
+  operator-longer n =
+      rw (ne_eqb (rank (operator_kind edition (take 2 (drop a s)))) 2 (λ q. n (sym kind-two ∙ q)), pair-lent s a)
+      (ap (λ (k : ℕ). made a k (a + length (take 2 (drop a s)))) (sym kind-two))
+
+  pub operator-shorter : two ≡ 2 → (one : ℕ) → one ≡ rank (operator_kind edition (mid_of a (a + 1 - a) s))
       → made a one (a + 1) ≡ coded (operator_token edition a (drop a s))
-  operator-one two e h one f = ap (λ (k : ℕ). made a k (a + 1)) f ∙ ⊎_elim zero-second bad-two h
-    where
-      bad-two : two ≡ 2 → made a (rank (operator_kind edition (First ∷ []))) (a + 1) ≡ coded (operator_token edition a (drop a s))
-      bad-two q = go (eqb Second 0) refl
-        where
-          go : (b : Bool) → eqb Second 0 ≡ b → made a (rank (operator_kind edition (First ∷ []))) (a + 1) ≡ coded (operator_token edition a (drop a s))
-          go true z = zero-second (eqb-true Second 0 z)
-          go false z = chosen (sym (e ∙ ap (λ (w : List ℕ). rank (operator_kind edition w)) (two_bytes_lem (eqb-false Second 0 z))) ∙ q)
-
-  -- the code's test: the second byte is there, and the two are an operator
-  module _ (second two : ℕ) (p : second ≡ Second) (e : two ≡ rank (operator_kind edition (two_bytes First second))) where
-    kind-two : two ≡ rank (operator_kind edition (two_bytes First Second))
-    kind-two = e ∙ ap (λ (b : ℕ). rank (operator_kind edition (two_bytes First b))) p
-
-    pub operator-longer : (not (eqb second 0) && not (eqb two 2)) ≡ true
-        → made a two (a + 2) ≡ coded (operator_token edition a (drop a s))
-    operator-longer h =
-        let both = and-true (not (eqb second 0)) (not (eqb two 2)) h in
-        operator-two two kind-two (λ z. eqb-false second 0 (not-true (eqb second 0) both.0) (p ∙ z))
-        (eqb-false two 2 (not-true (eqb two 2) both.1))
-
-    pub operator-shorter : (not (eqb second 0) && not (eqb two 2)) ≡ false → (one : ℕ)
-        → one ≡ rank (operator_kind edition (two_bytes First 0)) → made a one (a + 1) ≡ coded (operator_token edition a (drop a s))
-    operator-shorter h one f = operator-one two kind-two (go (eqb second 0) refl (eqb two 2) refl h) one f
-      where
-        go : (x : Bool) → eqb second 0 ≡ x → (y : Bool) → eqb two 2 ≡ y → (not x && not y) ≡ false → (Second ≡ 0) ⊎ (two ≡ 2)
-        go true q y k h = inl (sym p ∙ eqb-true second 0 q)
-        go false q true k h = inr (eqb-true two 2 k)
-        go false q false k h = absurd (clash h)
+  unfolding operator_token rank
+  operator-shorter n one f =
+      rw (eq-eqb (rank (operator_kind edition (take 2 (drop a s)))) 2 (kind-two ∙ n))
+      (ap (λ (k : ℕ). made a k (a + 1)) (f ∙ ap (λ (w : List ℕ). rank (operator_kind edition w)) (first-lent s a)))
 
 -- ---- any token
 

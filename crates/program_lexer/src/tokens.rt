@@ -16,7 +16,6 @@ ghost use Rattle.program_tokens.specs.Tokens.{
 ghost use Rattle.program_lexer.specs.Coded.{coded, decoded, kind_count};
 
 use edition::Edition;
-use program_scanner::Close;
 
 // A token: where it starts, the number of its kind, and the place after it.
 #[derive(Clone, Copy)]
@@ -56,7 +55,7 @@ fn word(s: &[u8], a: usize, edition: Edition) -> Token
     let n = program_scanner::word_length(s, a);
     Token {
         start: a,
-        kind: program_scanner::word_kind(s, a, n, edition),
+        kind: program_scanner::word_kind(&s[a..a + n], edition),
         stop: a + n,
     }
 }
@@ -67,7 +66,7 @@ fn string(s: &[u8], a: usize) -> Token
     ensures { result ≡ coded
         (string_token a (drop (suc a) s.now) (read_string false (drop (suc a) s.now))) }
 {
-    let Close::At(stop) = program_scanner::string_close(s, a + 1) else {
+    let Some(stop) = program_scanner::string_close(s, a + 1) else {
         return Token {
             start: a,
             kind: program_scanner::BAD,
@@ -86,19 +85,18 @@ fn operator(s: &[u8], a: usize, edition: Edition) -> Token
     requires { a < length s.now }
     ensures { result ≡ coded (operator_token edition.number a (drop a s.now)) }
 {
-    let first = s[a];
-    let second = program_scanner::byte_at(s, a + 1);
-    let two = program_scanner::operator_kind(first, second, edition);
-    if (second != 0) & (two != program_scanner::BAD) {
+    let pair = &s[a..s.len().min(a + 2)];
+    let two = program_scanner::operator_kind(pair, edition);
+    if two != program_scanner::BAD {
         return Token {
             start: a,
             kind: two,
-            stop: a + 2,
+            stop: a + pair.len(),
         };
     }
     Token {
         start: a,
-        kind: program_scanner::operator_kind(first, 0, edition),
+        kind: program_scanner::operator_kind(&s[a..a + 1], edition),
         stop: a + 1,
     }
 }
@@ -163,7 +161,7 @@ fn ere_at(s: &[u8], a: usize, edition: Edition) -> Token
         (ere_token edition.number a (drop (suc a) s.now)
         (ere_length false (drop (suc a) s.now))) }
 {
-    let Close::At(end) = program_scanner::ere_close(s, a + 1) else {
+    let Some(end) = program_scanner::ere_close(s, a + 1) else {
         return Token {
             start: a,
             kind: program_scanner::BAD,

@@ -26,6 +26,13 @@ use Rattle.program_numberer.proofs.Entering.{full-holds, number_is, number-withi
 
 -- ---- one word
 
+-- the number that was found, where the table tells whether texts have escapes
+pub which-number : (s table : List ℕ) (n : ℕ) (e : Entry) (k : ℕ) (b escapes : Bool) → b ≡ escapes
+    → k ≡ number_of same_constant (entries_from s b table 0 n) (meant s b e)
+    → k ≡ number_of same_constant (entries_from s escapes table 0 n) (meant s escapes e)
+which-number s table n e k b escapes h f =
+    subst (λ (x : Bool). k ≡ number_of same_constant (entries_from s x table 0 n) (meant s x e)) h f
+
 module _ (edition : ℕ) (s : List ℕ) (what : ℕ) where
   -- a word that names nothing of the table
   other-things : (w : ℕ) → is_named what (op_in w) ≡ false → things edition s what (w ∷ []) ≡ []

@@ -1,6 +1,7 @@
 // Operands by number: each word's place in the text becomes the number of what it names.
 ghost use Rattle.std.specs.Prelude.{◌≤◌, ◌<◌, length, take, eqb};
 ghost use Rattle.edition.specs.Limits.{filter_text, first_edition};
+ghost use Rattle.program_entries.specs.Named.{table_number};
 ghost use Rattle.program_numberer.specs.Numbered.{
   HoldsSome,
   WordNumbered,
@@ -9,6 +10,7 @@ ghost use Rattle.program_numberer.specs.Numbered.{
 };
 
 use edition::Edition;
+use program_entries::Entries;
 use program_image::Sections;
 
 // Numbers the operand of instruction i, if it names an entry of this table, which has n; returns how many it has then,
@@ -17,14 +19,14 @@ fn number_word(
     s: &[u8],
     section: &mut [u64],
     i: usize,
-    what: u64,
+    what: Entries,
     table: &mut [u64],
     n: usize,
     edition: Edition,
 ) -> usize
     requires { (length s.now ≤ filter_text) × (i < length section.old) × (length table.old ≤ filter_text)
-        × HoldsSome s.now (eqb what 0) table.old n × (first_edition ≤ edition.number) }
-    ensures { WordNumbered edition.number s.now what section.old i
+        × HoldsSome s.now (eqb (table_number what) 0) table.old n × (first_edition ≤ edition.number) }
+    ensures { WordNumbered edition.number s.now (table_number what) section.old i
         table.old n section.new table.new result }
 {
     let w = section[i];
@@ -33,7 +35,7 @@ fn number_word(
         return n;
     }
     let e = program_entries::entry_at(s, program_words::first_in(w) as usize, what, edition);
-    let k = program_tables::enter(s, table, n, e, what == program_entries::CONSTANTS);
+    let k = program_tables::enter(s, table, n, e, program_entries::has_escapes(what));
     section[i] = program_words::instruction(op, program_words::depth_in(w), k as u64, 0);
     if k < n {
         return n;
@@ -47,21 +49,19 @@ fn number_section(
     s: &[u8],
     section: &mut [u64],
     count: usize,
-    what: u64,
+    what: Entries,
     table: &mut [u64],
     n: usize,
     edition: Edition,
 ) -> usize
     requires { (length s.now ≤ filter_text) × (count ≤ length section.old) × (length table.old ≤ filter_text)
-        × HoldsSome s.now (eqb what 0) table.old n × (first_edition ≤ edition.number) }
-    ensures { SectionNumbered edition.number s.now what section.old count
+        × HoldsSome s.now (eqb (table_number what) 0) table.old n × (first_edition ≤ edition.number) }
+    ensures { SectionNumbered edition.number s.now (table_number what) section.old count
         table.old n section.new table.new result }
 {
     let mut m = n;
-    let mut i: usize = 0;
-    while i < count {
+    for i in 0..count {
         m = number_word(s, section, i, what, table, m, edition);
-        i += 1;
     }
     m
 }
@@ -74,16 +74,16 @@ pub fn number(
     main: &mut [u64],
     end: &mut [u64],
     sections: Sections,
-    what: u64,
+    what: Entries,
     table: &mut [u64],
     n: usize,
     edition: Edition,
 ) -> usize
     requires { (length s.now ≤ filter_text) × (sections.begin ≤ length begin.old)
         × (sections.main ≤ length main.old) × (sections.end ≤ length end.old)
-        × (length table.old ≤ filter_text) × HoldsSome s.now (eqb what 0) table.old n
+        × (length table.old ≤ filter_text) × HoldsSome s.now (eqb (table_number what) 0) table.old n
         × (first_edition ≤ edition.number) }
-    ensures { ProgramNumbers edition.number s.now what
+    ensures { ProgramNumbers edition.number s.now (table_number what)
         (take sections.begin begin.old) (take sections.main main.old)
         (take sections.end end.old) (take sections.begin begin.new)
         (take sections.main main.new) (take sections.end end.new) table.old n

@@ -1,14 +1,14 @@
 -- The tables of operators and functions, by the numbers of the kinds.
 use mathlib.Core.Path.{◌≡◌, refl}
-use mathlib.Core.Bool.{Bool, true, false, not, cond, ◌&&◌}
-use mathlib.Core.Option.{Option, some, none}
+use mathlib.Core.Bool.{Bool, true, false, ◌&&◌}
+use mathlib.Core.Option.{Option as Maybe, some, none}
+use Rattle.std.specs.Prelude.{None, is_some}
 use Prim.Native.Nat.{ℕ, ◌<◌}
 use lib.Dec.{eqb, leb}
 use borrow.Author.Tests.{ne_eqb}
 use Rattle.lists.proofs.Tests.{and-false}
-use Rattle.program_tokens.specs.Kinds.{rank, same, LENGTH, INDEX, SUBSTR, MATCH}
+use Rattle.program_tokens.specs.Kinds.{rank, LENGTH, INDEX, SUBSTR, MATCH}
 use Rattle.program_tree.specs.Functions.{Function, function_in, function_of}
-use Rattle.image_format.specs.Codes.{length-of, index, substr, match}
 use Rattle.program_grammar.specs.Sets.{is_function}
 use Rattle.program_reader.specs.Operators.{tier_of, operator_in, prefix_of}
 use Rattle.program_code.specs.Emitted.{action_code}
@@ -64,7 +64,7 @@ module _ (n : ℕ) (h : n < kind_count) where
   other-prefix a b = simp (rank-of n h, ne_eqb n 51 a, ne_eqb n 45 b)
 
   pub no-function : (edition : ℕ) → (n ≡ 29 → ⊥) → (n ≡ 30 → ⊥) → (n ≡ 31 → ⊥) → (n ≡ 32 → ⊥)
-      → record { op = 0; shapes = 0 } ≡ described (function_of edition (kind_of n))
+      → None ≡ described (function_of edition (kind_of n))
   unfolding function_in rank
   no-function edition a b c d = simp (rank-of n h, ne_eqb n 29 a, ne_eqb n 30 b, ne_eqb n 31 c, ne_eqb n 32 d, and-false (leb 1 edition))
 
@@ -112,14 +112,7 @@ match-function edition = go (leb 1 edition) refl
     go true e = rw e
     go false e = rw e
 
--- a function's code is not 0
-pub coded-function : (f : Option Function) → not (eqb (described f).op 0) ≡ is_function f
-unfolding function_action action_code
-coded-function none = refl
-coded-function (some f) = go (same f.kind LENGTH) (same f.kind INDEX) (same f.kind SUBSTR)
-  where
-    go : (a b c : Bool) → not (eqb (action_code (cond a length-of (cond b index (cond c substr match)))) 0) ≡ true
-    go true b c = refl
-    go false true c = refl
-    go false false true = refl
-    go false false false = refl
+-- a word that calls a function
+pub some-function : (f : Maybe Function) → is_some (described f) ≡ is_function f
+some-function none = refl
+some-function (some f) = refl

@@ -1,7 +1,7 @@
 -- Internal: cited by private contracts only. The tables of the reader: operators, prefix operators, functions, by kinds
 -- of tokens.
-use Rattle.std.specs.Prelude.{cond, ◌||◌, List, [], ◌∷◌, ℕ, ◌+◌, ◌*◌, eqb, leb}
-use Rattle.std.proofs.Math.Option.{Option, some, none}
+use Rattle.std.specs.Prelude.{cond, ◌||◌, List, [], ◌∷◌, ℕ, ◌+◌, ◌*◌, eqb, leb, Option, Some, None}
+use Rattle.std.proofs.Math.Option as maybe
 use Rattle.image_format.specs.Codes.{Action, arithmetic, compare, join, add, subtract, multiply, divide, remainder, less as less_than, at-most as at_most, equal as equal_to, different as different_from, greater as greater_than, at-least as at_least, length-of, index, substr, match}
 use Rattle.program_tokens.specs.Kinds.{Kind, IF, WHILE, PRINT, EXIT, open_brace, semicolon, LENGTH, INDEX, SUBSTR, plus, minus, star, slash, percent, greater, less, equal, at-most, at-least, different, same}
 use Rattle.program_tree.specs.Functions.{Shape, an_expression, an_ere, Function}
@@ -65,11 +65,10 @@ shapes_code [] = 0
 shapes_code (x ∷ l) = shape_code x + 4 * shapes_code l
 
 -- a function's numbers, in the editions that have it
-abbrev pub with_since : ℕ → ℕ → ℕ → ℕ → Coded
-with_since op shapes since edition = cond (leb since edition) (record { op = op; shapes = shapes })
-    (record { op = 0; shapes = 0 })
+abbrev pub with_since : ℕ → ℕ → ℕ → ℕ → Option Coded
+with_since op shapes since edition = cond (leb since edition) (Some (record { op = op; shapes = shapes })) None
 
--- what the code says of a function; without one its code is 0
-abbrev pub described : Option Function → Coded
-described none = record { op = 0; shapes = 0 }
-described (some f) = record { op = action_code (function_action f.kind); shapes = shapes_code f.shapes }
+-- what the code says of a function
+abbrev pub described : maybe.Option Function → Option Coded
+described maybe.none = None
+described (maybe.some f) = Some (record { op = action_code (function_action f.kind); shapes = shapes_code f.shapes })

@@ -7,7 +7,7 @@ ghost use Rattle.program_parser.specs.Tables.{described, with_since};
 use crate::kinds;
 use edition::Edition;
 
-// A function: its code, and the shapes of its arguments, two bits each, the first lowest; both are 0 if there is none.
+// A function: its code, and the shapes of its arguments, two bits each, the first lowest.
 #[derive(Drop)]
 pub struct Function {
     pub op: u64,
@@ -29,17 +29,17 @@ const THREE: u64 = AN_EXPRESSION + 4 * TWO;
 const ONE_AND_ERE: u64 = AN_EXPRESSION + 4 * AN_ERE;
 
 // Returns a function to the editions that have it.
-fn with_since(op: u64, shapes: u64, since: u64, edition: Edition) -> Function
+fn with_since(op: u64, shapes: u64, since: u64, edition: Edition) -> Option<Function>
     ensures { result ≡ with_since op shapes since edition.number }
 {
     if since <= edition.number {
-        return Function { op, shapes };
+        return Some(Function { op, shapes });
     }
-    Function { op: 0, shapes: 0 }
+    None
 }
 
-// Returns the function that a word calls in an edition.
-pub fn function_of(kind: u64, edition: Edition) -> Function
+// Returns the function that a word calls in an edition, if there is one.
+pub fn function_of(kind: u64, edition: Edition) -> Option<Function>
     requires { kind < kind_count }
     ensures { result ≡ described (function_of edition.number (kind_of kind)) }
 {
@@ -48,6 +48,6 @@ pub fn function_of(kind: u64, edition: Edition) -> Function
         kinds::INDEX => with_since(program_words::INDEX, TWO, Edition::FIRST, edition),
         kinds::SUBSTR => with_since(program_words::SUBSTR, THREE, Edition::FIRST, edition),
         kinds::MATCH => with_since(program_words::MATCH, ONE_AND_ERE, Edition::FIRST, edition),
-        _ => Function { op: 0, shapes: 0 },
+        _ => None,
     }
 }

@@ -1,4 +1,4 @@
-// The numbers of the kinds of tokens that the grammar names, and its sets of kinds.
+// The kinds of tokens that the grammar names, and its sets of kinds.
 ghost use Rattle.std.specs.Prelude.{◌≡◌, [], ◌∷◌, ◌<◌};
 ghost use Rattle.program_tokens.specs.Kinds.{NUMBER as NUMBER-kind, STRING as STRING-kind, open_paren, dollar, among};
 ghost use Rattle.program_grammar.specs.Sets.{names, prefixes, enders, starts_joined, starts_expression, starts_statement};
@@ -7,98 +7,13 @@ ghost use Rattle.program_lexer.specs.Coded.{kind_of, kind_count};
 
 use crate::calls;
 use edition::Edition;
-
-pub const TEXT_END: u64 = 0;
-
-pub const NEWLINE: u64 = 1;
-
-pub const BAD: u64 = 2;
-
-pub const BAD_ERE: u64 = 3;
-
-pub const NUMBER: u64 = 4;
-
-pub const STRING: u64 = 5;
-
-pub const ERE: u64 = 6;
-
-pub const USER_NAME: u64 = 7;
-
-pub const VARIABLE: u64 = 8;
-
-pub const FIXED_VARIABLE: u64 = 9;
-
-pub const BEGIN: u64 = 11;
-
-pub const END: u64 = 12;
-
-pub const IF: u64 = 13;
-
-pub const ELSE: u64 = 14;
-
-pub const WHILE: u64 = 15;
-
-pub const PRINT: u64 = 16;
-
-pub const NEXT: u64 = 17;
-
-pub const EXIT: u64 = 18;
-
-pub const LENGTH: u64 = 29;
-
-pub const INDEX: u64 = 30;
-
-pub const SUBSTR: u64 = 31;
-
-pub const MATCH: u64 = 32;
-
-pub const OPEN_BRACE: u64 = 36;
-
-pub const CLOSE_BRACE: u64 = 37;
-
-pub const OPEN_PAREN: u64 = 38;
-
-pub const CLOSE_PAREN: u64 = 39;
-
-pub const COMMA: u64 = 42;
-
-pub const SEMICOLON: u64 = 43;
-
-pub const PLUS: u64 = 45;
-
-pub const MINUS: u64 = 46;
-
-pub const STAR: u64 = 47;
-
-pub const SLASH: u64 = 48;
-
-pub const PERCENT: u64 = 49;
-
-pub const BANG: u64 = 51;
-
-pub const GREATER: u64 = 52;
-
-pub const LESS: u64 = 53;
-
-pub const TILDE: u64 = 57;
-
-pub const DOLLAR: u64 = 58;
-
-pub const ASSIGN: u64 = 59;
-
-pub const OR_OR: u64 = 60;
-
-pub const AND_AND: u64 = 61;
-
-pub const NO_MATCH: u64 = 62;
-
-pub const EQUAL: u64 = 63;
-
-pub const AT_MOST: u64 = 64;
-
-pub const AT_LEAST: u64 = 65;
-
-pub const DIFFERENT: u64 = 66;
+pub use program_scanner::kinds::{
+    AND_AND, ASSIGN, AT_LEAST, AT_MOST, BAD, BAD_ERE, BANG, BEGIN, CLOSE_BRACE, CLOSE_PAREN, COMMA,
+    DIFFERENT, DOLLAR, ELSE, END, EQUAL, ERE, EXIT, FIXED_VARIABLE, GREATER, IF, INDEX, LENGTH,
+    LESS, MATCH, MINUS, NEWLINE, NEXT, NO_MATCH, NUMBER, OPEN_BRACE, OPEN_PAREN, OR_OR, PERCENT,
+    PLUS, PRINT, SEMICOLON, SLASH, STAR, STRING, SUBSTR, TEXT_END, TILDE, USER_NAME, VARIABLE,
+    WHILE,
+};
 
 // Tells whether a kind is newline or `;`, which end a statement.
 pub fn is_ender(kind: u64) -> bool
@@ -138,8 +53,7 @@ pub fn starts_joined(kind: u64, edition: Edition) -> bool
     requires { kind < kind_count }
     ensures { result ≡ starts_joined edition.number (kind_of kind) }
 {
-    let f = calls::function_of(kind, edition);
-    starts_operand(kind) | (f.op != 0)
+    starts_operand(kind) | calls::function_of(kind, edition).is_some()
 }
 
 // Tells whether a kind begins an expression.

@@ -1,27 +1,19 @@
--- Internal: cited by private contracts only. Spellings as numbers, and the table of words and operators as rows of
--- numbers.
-use Rattle.std.specs.Prelude.{cond, ◌&&◌, List, [], ◌∷◌, ℕ, ◌+◌, ◌*◌, ◌/◌, ◌%◌, eqb, leb}
+-- Internal: cited by private contracts only. The table of words and operators as the code has it.
+use Rattle.std.specs.Prelude.{cond, ◌&&◌, List, [], ◌∷◌, ℕ, leb}
 use Rattle.program_tokens.specs.Kinds.{rank}
-use Rattle.program_tokens.specs.Words.{Word}
+use Rattle.program_tokens.specs.Words.{Word, same_bytes}
 
--- the bytes of a spelling as one number, the first byte lowest
-unfoldable pub pack : List ℕ → ℕ
-pack [] = 0
-pack (b ∷ l) = pack l * 256 + b
+-- a row: a spelling, the number of its kind, and the first edition that has it
+abbrev pub Row : Type 0
+Row = List ℕ × ℕ × ℕ
 
--- the rows of a table, two numbers each: the packed spelling; the kind's number and 256 times the first edition
-unfoldable pub rows_of : List Word → List ℕ
+unfoldable pub rows_of : List Word → List Row
 rows_of [] = []
-rows_of (x ∷ l) = pack x.spelling ∷ (x.since * 256 + rank x.kind) ∷ rows_of l
+rows_of (x ∷ l) = (x.spelling, rank x.kind, x.since) ∷ rows_of l
 
--- the number that the rows give a packed spelling in an edition, or another where they have none
-unfoldable pub rank_in : ℕ → ℕ → ℕ → List ℕ → ℕ
+-- the number that the rows give a spelling in an edition, or another where they have none
+unfoldable pub rank_in : ℕ → ℕ → List ℕ → List Row → ℕ
 rank_in edition other w [] = other
-rank_in edition other w (a ∷ []) = other
-rank_in edition other w (a ∷ b ∷ l) =
+rank_in edition other w (r ∷ l) =
     let rest = rank_in edition other w l in
-    cond (leb (b / 256) edition && eqb w a) (b % 256) rest
-
--- one byte, or two where the second isn't 0
-abbrev pub two_bytes : ℕ → ℕ → List ℕ
-two_bytes a b = cond (eqb b 0) (a ∷ []) (a ∷ b ∷ [])
+    cond (leb r.2 edition && same_bytes w r.0) r.1 rest

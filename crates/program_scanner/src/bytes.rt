@@ -31,9 +31,8 @@ pub fn is_word_byte(b: u8) -> bool
 pub fn skip(s: &[u8], at: usize) -> usize
     ensures { result ≡ at + skipped false (drop at s.now) }
 {
-    let mut i = at;
     let mut comment = false;
-    while i < s.len() {
+    for i in at..s.len() {
         let b = s[i];
         if b == b'\n' {
             return i;
@@ -42,21 +41,18 @@ pub fn skip(s: &[u8], at: usize) -> usize
         if !(comment | numeral::is_blank(b)) {
             return i;
         }
-        i += 1;
     }
-    i
+    at.max(s.len())
 }
 
 // Returns how many bytes the word at a place has.
 pub fn word_length(s: &[u8], at: usize) -> usize
     ensures { result ≡ leading is_word_byte (drop at s.now) }
 {
-    let mut i = at;
-    while i < s.len() {
+    for i in at..s.len() {
         if !is_word_byte(s[i]) {
             return i - at;
         }
-        i += 1;
     }
-    i - at
+    s.len().saturating_sub(at)
 }

@@ -3,11 +3,11 @@
 
 mod bytes;
 mod closings;
-mod kinds;
+pub mod kinds;
 mod spellings;
 
 pub use bytes::{byte_at, is_letter, skip, word_length};
-pub use closings::{Close, ere_close, string_close};
+pub use closings::{ere_close, string_close};
 pub use kinds::{
     BAD, BAD_ERE, CALL_PAREN, DIV_ASSIGN, ERE, NEWLINE, NUMBER, SLASH, STRING, TEXT_END, USER_NAME,
 };

@@ -8,6 +8,7 @@ use native.Mathlib.Omega.{arith}
 use lib.Dec.{eqb}
 use lib.ListN.{length}
 use borrow.Author.Tests.{eqb-true, eq-eqb, ne_eqb, not-true}
+use Rattle.std.specs.Prelude.{Some, None}
 use Rattle.lists.proofs.Tests.{clash, and-true, or-none}
 use Rattle.lists.proofs.Options.{some_one, none-some}
 use Rattle.program_tokens.specs.Kinds.{text_end, newline, close_paren, ELSE, semicolon, rank}
@@ -26,7 +27,6 @@ use Rattle.program_parser.specs.Reading.{success, refusal, refused_by, closed_of
 use Rattle.program_parser.proofs.Codes.{kind-below, decoded-coded, decoded-back, closed-no}
 use Rattle.program_parser.proofs.Tokens.{choose, good-after}
 use Rattle.program_simple.specs.Statements.{else_of, ReadingCondition}
-use Rattle.program_simple.specs.declared.conditions.Else.TheVariants.{At, Nothing}
 use Rattle.program_simple.proofs.Answers.{
   refuse-fails,
   some-refused,
@@ -189,16 +189,16 @@ module _ (edition : ℕ) (s : List ℕ) (t : Coded) (free : Bool) where
   module _ (u : Coded) (ended semicolons : Bool) (p : ElseTurn edition s t free u ended semicolons) where
     pub else-none : (eqb u.kind 14 && ended) ≡ false
         → (not (eqb u.kind 1) && (not (eqb u.kind 43) || semicolons)) ≡ true
-        → Nothing ≡ else_of (else_after edition s (length s) free false (decoded t))
+        → None ≡ else_of (else_after edition s (length s) free false (decoded t))
     else-none e h = ap else_of (sym (step-none edition s u p.known ended semicolons p.left e h) ∙ p.same)
 
     module _ (v : Coded) (f : v ≡ coded (token_after edition s (decoded u))) where
       pub else-found : (eqb u.kind 14 && ended) ≡ true
-          → At v ≡ else_of (else_after edition s (length s) free false (decoded t))
+          → Some v ≡ else_of (else_after edition s (length s) free false (decoded t))
       else-found e =
           let k : u.kind ≡ 14 = eqb-true u.kind 14 (and-true (eqb u.kind 14) ended e).0 in
           let longer = p.good.longer (begun u p.known (λ z. omega arith)) in
-          ap At f
+          ap Some f
           ∙ ap else_of
           (sym (step-found edition s u p.known ended semicolons p.left
           (omega (arith, longer, p.enough, p.good.within)) e)

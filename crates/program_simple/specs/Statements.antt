@@ -1,6 +1,6 @@
 -- Internal: cited by private contracts only. What the readers of statements answer, beside `ReadingStatement`.
-use Rattle.std.specs.Prelude.{◌≡◌, Bool, cond, List, ℕ, zero, suc, ◌+◌, ◌*◌, ◌≤◌, eqb}
-use Rattle.std.proofs.Math.Option.{Option, some, none}
+use Rattle.std.specs.Prelude.{◌≡◌, Bool, cond, List, ℕ, zero, suc, ◌+◌, ◌*◌, ◌≤◌, eqb, Option, Some, None}
+use Rattle.std.proofs.Math.Option as maybe
 use Rattle.program_tokens.specs.Kinds.{close_brace}
 use Rattle.program_tokens.specs.Tokens.{Token, is, is_one_of, token_after}
 use Rattle.program_tree.specs.Tree.{Expression, Statement}
@@ -9,20 +9,19 @@ use Rattle.program_reader.specs.Read.{Read as Result, ok, no, too_deep}
 use Rattle.program_reader.specs.Statements.{no_body, statement_at, block_of}
 use Rattle.program_code.specs.Expressions.{size, compile}
 use Rattle.program_lexer.specs.Coded.{coded, decoded}
+use Rattle.program_lexer.specs.declared.tokens.Token.{Token as Coded}
 use Rattle.program_parser.specs.declared.read.Read.{Read}
 use Rattle.program_parser.specs.Meaning.{Wrote}
 use Rattle.program_parser.specs.Reading.{success, refusal, refused_by, Good}
-use Rattle.program_simple.specs.declared.conditions.Else.{Else}
-use Rattle.program_simple.specs.declared.conditions.Else.TheVariants.{At, Nothing}
 
 -- the place of a token, as a token of no bytes
 abbrev pub place_of : Token → Token
 place_of t = record { start = t.start; kind = t.kind; stop = t.start }
 
 -- the token after an `else`, if there is one
-abbrev pub else_of : Option Token → Else
-else_of none = Nothing
-else_of (some u) = At (coded u)
+abbrev pub else_of : maybe.Option Token → Option Coded
+else_of maybe.none = None
+else_of (maybe.some u) = Some (coded u)
 
 module _ (edition : ℕ) (s : List ℕ) where
   -- a body, and a block, one level further in, by the levels that are left

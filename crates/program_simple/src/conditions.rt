@@ -43,16 +43,9 @@ pub fn condition(
     read::closed(s, r, edition)
 }
 
-// The token after an `else`, or that there is none.
-#[derive(Drop)]
-pub enum Else {
-    At(Token),
-    Nothing,
-}
-
-// Returns the token after the `else` that follows a then-part; t is the first token after that. Where the then-part
-// still needs an end (`free` is false), a newline or a `;` must be before the `else`.
-pub fn else_after(s: &[u8], edition: Edition, t: Token, free: bool) -> Else
+// Returns the token after the `else` that follows a then-part, if there is one; t is the first token after that part.
+// Where the then-part still needs an end (`free` is false), a newline or a `;` must be before the `else`.
+pub fn else_after(s: &[u8], edition: Edition, t: Token, free: bool) -> Option<Token>
     requires { Good edition.number s.now 0 (decoded t) × (t.kind < kind_count) }
     ensures { result ≡ else_of (else_after edition.number s.now (length s.now) free false
         (decoded t)) }
@@ -64,10 +57,10 @@ pub fn else_after(s: &[u8], edition: Edition, t: Token, free: bool) -> Else
         let kind = u.kind;
         let after = program_lexer::token_after(s, u, edition);
         if (kind == kinds::ELSE) & ended {
-            return Else::At(after);
+            return Some(after);
         }
         if (kind != kinds::NEWLINE) & ((kind != kinds::SEMICOLON) | semicolons) {
-            return Else::Nothing;
+            return None;
         }
         semicolons = semicolons | (kind == kinds::SEMICOLON);
         ended = true;

@@ -37,8 +37,7 @@ use Rattle.program_parser.specs.Meaning.{Wrote}
 use Rattle.program_parser.specs.Reading.{answered, success, refusal, refused_by, end_of, Good, Ready, ReadingStatement}
 use Rattle.program_parser.proofs.Codes.{decoded-back}
 use Rattle.program_simple.specs.Statements.{place_of, else_of, body_of, ReadingCondition}
-use Rattle.program_simple.specs.declared.conditions.Else.{Else}
-use Rattle.program_simple.specs.declared.conditions.Else.TheVariants.{At, Nothing}
+use Rattle.std.specs.Prelude.{Option as Answer, Some, None}
 use Rattle.program_simple.proofs.Answers.{
   answers,
   end_is,
@@ -289,7 +288,7 @@ module _ (edition : ℕ) (s : List ℕ) (body : Token → Result Statement) (lev
 
         -- ---- `else`
 
-        module _ (x : Else) (xe : x ≡ else_of
+        module _ (x : Answer Coded) (xe : x ≡ else_of
             (else_after edition s (length s) (eqb a.form 3) false (decoded a.token))) where
           abbrev Found : Option Token
           Found = else_after edition s (length s) (ended done.tree) false done.next
@@ -311,7 +310,7 @@ module _ (edition : ℕ) (s : List ℕ) (body : Token → Result Statement) (lev
               done.result
               ∙ ap (else_at edition s body met.tree done.tree done.next) e)
 
-          pub if-done : (vs : List ℕ) → x ≡ Nothing → vs ≡ sets zs c.count (word 28 1 a.count ∷ [])
+          pub if-done : (vs : List ℕ) → x ≡ None → vs ≡ sets zs c.count (word 28 1 a.count ∷ [])
               → ReadingStatement edition s (decoded u) n xs If a vs
           unfolding size_of ended
           if-done vs e h =
@@ -329,19 +328,19 @@ module _ (edition : ℕ) (s : List ℕ) (body : Token → Result Statement) (lev
                     (branch zs vs a.count i done-count (omega (arith, done-small)) h);
               })
             where
-              none_is : (o : Option Token) → else_of o ≡ Nothing → o ≡ none
+              none_is : (o : Option Token) → else_of o ≡ None → o ≡ none
               none_is none q = refl
               none_is (some t) q = let y : ◌≡◌ {A = ℕ} 0 1 = cc in absurd (omega arith)
 
               count-is : c.count + 1 + size_of done.tree ≡ n + (size met.tree + 1 + size_of done.tree)
               count-is = omega (arith, met-count)
 
-          module _ (wt : Coded) (e : x ≡ At wt) where
+          module _ (wt : Coded) (e : x ≡ Some wt) where
             -- the token after `else`
             after-else : (t : Token) × (Found ≡ some t) × (wt ≡ coded t)
             after-else = go Found (sym found ∙ e)
               where
-                go : (o : Option Token) → else_of o ≡ At wt → (t : Token) × (o ≡ some t) × (wt ≡ coded t)
+                go : (o : Option Token) → else_of o ≡ Some wt → (t : Token) × (o ≡ some t) × (wt ≡ coded t)
                 go none q = let y : ◌≡◌ {A = ℕ} 0 1 = cc in absurd (omega arith)
                 go (some t) q = (t, refl, cc)
 

@@ -14,7 +14,6 @@ use edition::Edition;
 use program_lexer::Token;
 use program_newlines::newlines;
 use program_parser::{Read, kinds, read};
-use program_simple::conditions::Else;
 use program_simple::{conditions, simple};
 
 // Reads the body of an `if`, an `else` or a `while`, from the token after the `)` or the `else` on.
@@ -71,7 +70,7 @@ fn if_else(
         return a;
     }
     let i = a.count;
-    let Else::At(w) = conditions::else_after(s, edition, a.token, a.form == read::ENDED) else {
+    let Some(w) = conditions::else_after(s, edition, a.token, a.form == read::ENDED) else {
         program_emitter::emit(section, j, program_words::JUMP_IF_FALSE, 1, i as u64);
         return a;
     };

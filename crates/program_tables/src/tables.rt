@@ -44,14 +44,12 @@ fn find(s: &[u8], table: &[u64], n: usize, e: Entry, escapes: bool) -> usize
     ensures { result ≡ number_of same_constant (entries_from s.now escapes table.now 0 n)
         (meant s.now escapes e) }
 {
-    let mut k: usize = 0;
-    while k < n {
+    for k in 0..n {
         if same_entry(s, e, entry_in(table, k), escapes) {
             return k;
         }
-        k += 1;
     }
-    k
+    n
 }
 
 // Stores entry n, if there is room.

@@ -6,8 +6,6 @@ ghost use Rattle.varint.specs.Room.{with_all};
 ghost use Rattle.program_tokens.specs.Words.{same_bytes};
 ghost use Rattle.program_tables.specs.Texts.{byte_or, Inside, value_in, ValueAt};
 
-use ere_grammar::Escaped;
-
 // A byte of a value, and the place after its spelling.
 #[derive(Drop)]
 pub struct ValueByte {
@@ -19,10 +17,7 @@ pub struct ValueByte {
 fn unescaped(b: u8) -> u8
     ensures { result ≡ byte_or b (lookup string_escapes b) }
 {
-    let Escaped::Byte(v) = ere_grammar::string_escape_of(b) else {
-        return b;
-    };
-    v
+    ere_grammar::string_escape_of(b).unwrap_or(b)
 }
 
 // Returns the byte of a value that is spelled at place i; the value ends before place `stop`.
@@ -48,6 +43,7 @@ pub fn value_length(s: &[u8], start: usize, stop: usize, escapes: bool) -> usize
 {
     let mut i = start;
     let mut n: usize = 0;
+    // Not a `for`: a byte of the value is spelled by one byte or by two.
     while i < stop {
         let v = value_at(s, i, stop, escapes);
         i = v.next;
@@ -64,6 +60,7 @@ pub fn same_value(s: &[u8], a: usize, p: usize, b: usize, q: usize, escapes: boo
 {
     let mut i = a;
     let mut j = b;
+    // Not a `for`: each place goes on by one byte or by two.
     while (i < p) & (j < q) {
         let x = value_at(s, i, p, escapes);
         let y = value_at(s, j, q, escapes);
@@ -91,6 +88,7 @@ pub fn put_value(
 {
     let mut i = start;
     let mut n = k;
+    // Not a `for`, as in `value_length`.
     while i < stop {
         let v = value_at(s, i, stop, escapes);
         varint::put_byte(room, n, v.byte);

@@ -4,6 +4,7 @@ ghost use Rattle.edition.specs.Limits.{first_edition, filter_text};
 ghost use Rattle.translator.specs.Tabulated.{variable_words, constant_words, ere_words, Tabulated};
 
 use edition::Edition;
+use program_entries::Entries;
 use program_image::{Counts, Sections};
 
 // Numbers the words of a program that was read, in three passes; returns how many variables, constants and EREs there
@@ -36,7 +37,7 @@ pub fn number_words(
         main,
         end,
         sections,
-        program_entries::CONSTANTS,
+        Entries::Constants,
         constants,
         0,
         edition,
@@ -47,7 +48,7 @@ pub fn number_words(
         main,
         end,
         sections,
-        program_entries::ERES,
+        Entries::Eres,
         eres,
         0,
         edition,
@@ -58,7 +59,7 @@ pub fn number_words(
         main,
         end,
         sections,
-        program_entries::VARIABLES,
+        Entries::Variables,
         variables,
         v,
         edition,

@@ -21,7 +21,7 @@ pub overflow_add-result : goal.overflow_add-result
 overflow_add-result c =
     let ere-close = c.ere_close in
     let a = c.args in
-    let at = ere-inside 0 a.s.now a.t.start c.in-At.end (sym ere-close.ensures ∙ c.in-At.is) in
+    let at = ere-inside 0 a.s.now a.t.start c.in-Some.end (sym ere-close.ensures ∙ c.in-Some.is) in
     omega (arith, at.1)
 
 pub returns : goal.returns
@@ -29,4 +29,4 @@ returns c =
     let if1 = c.if-t in
     let ere-close = c.ere_close in
     let a = c.args in
-    span-closed a.s.now a.t if1.false c.in-At.end (sym ere-close.ensures ∙ c.in-At.is)
+    span-closed a.s.now a.t if1.false c.in-Some.end (sym ere-close.ensures ∙ c.in-Some.is)

@@ -1,17 +1,15 @@
 -- `entry_at`: by the table.
-use borrow.Author.Tests.{eq-eqb, ne_eqb}
 use Rattle.program_entries.specs.Named.{named}
 use Rattle.program_entries.proofs.entries.entry_at.Goals as goal
 
-pub returns-then-what-eq-CONSTANTS : goal.returns-then-what-eq-CONSTANTS
+pub returns-in-Constants : goal.returns-in-Constants
 unfolding named
-returns-then-what-eq-CONSTANTS c = rw (eq-eqb _ 0 c.if-what-eq-CONSTANTS.true) c.constant_at.ensures
+returns-in-Constants c = rw c.in-Constants.is c.constant_at.ensures
 
-pub returns-then-what-eq-VARIABLES : goal.returns-then-what-eq-VARIABLES
+pub returns-in-Variables : goal.returns-in-Variables
 unfolding named
-returns-then-what-eq-VARIABLES c =
-    rw (ne_eqb _ 0 c.if-what-eq-CONSTANTS.false, eq-eqb _ 1 c.if-what-eq-VARIABLES.true) c.variable_at.ensures
+returns-in-Variables c = rw c.in-Variables.is c.variable_at.ensures
 
-pub returns : goal.returns
+pub returns-in-Eres : goal.returns-in-Eres
 unfolding named
-returns c = rw (ne_eqb _ 0 c.if-what-eq-CONSTANTS.false, ne_eqb _ 1 c.if-what-eq-VARIABLES.false) c.ere_at.ensures
+returns-in-Eres c = rw c.in-Eres.is c.ere_at.ensures

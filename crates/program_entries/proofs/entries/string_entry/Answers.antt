@@ -14,11 +14,11 @@ pub overflow_sub-result : goal.overflow_sub-result
 overflow_sub-result c =
     let string-close = c.string_close in
     let a = c.args in
-    let q = string-closed a.s.now a.at c.in-At.end (sym string-close.ensures ∙ c.in-At.is) in
+    let q = string-closed a.s.now a.at c.in-Some.end (sym string-close.ensures ∙ c.in-Some.is) in
     omega (arith, q.0)
 
 pub returns : goal.returns
 returns c =
     let a = c.args in
-    string-stands a.s.now a.at c.requires.0 c.requires.1 c.in-At.end
-    (sym c.string_close.ensures ∙ c.in-At.is)
+    string-stands a.s.now a.at c.requires.0 c.requires.1 c.in-Some.end
+    (sym c.string_close.ensures ∙ c.in-Some.is)

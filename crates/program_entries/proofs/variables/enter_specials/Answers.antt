@@ -17,9 +17,6 @@ bounds-table-k-in-loop-k c =
     let l = c.loop-k in
     omega (arith, length-set l.table (2 * l.k) l.k, l.invariant.1.1, c.loop-k-test.true, c.requires)
 
-pub loop-k-smaller : goal.loop-k-smaller
-loop-k-smaller c = omega (arith, c.loop-k-test.true)
-
 pub loop-k-preserved : goal.loop-k-preserved
 loop-k-preserved c =
     let t = c.args.table.now in

@@ -7,6 +7,3 @@ use Rattle.program_entries.proofs.variables.enter_specials.Given as goal
 
 abbrev pub invariant-loop-k : goal.invariant-loop-k
 invariant-loop-k l = (l.k ≤ special_count) × ((l.table ≡ numbers_in l.k l.initial.table) × (length l.table ≡ length l.initial.table))
-
-abbrev pub decreases-loop-k : goal.decreases-loop-k
-decreases-loop-k l = special_count - l.k

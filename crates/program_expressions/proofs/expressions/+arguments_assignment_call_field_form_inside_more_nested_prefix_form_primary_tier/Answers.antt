@@ -1,5 +1,4 @@
 use mathlib.Core.Path.{refl, sym, ap, subst, ◌∙◌}
-use mathlib.Core.Bool.{true}
 use mathlib.Core.List.{[]}
 use Prim.Native.Nat.{ℕ, ◌+◌, ◌-◌, ◌<◌}
 use native.Mathlib.Omega.{arith}
@@ -8,10 +7,9 @@ use Rattle.program_tree.specs.Functions.{function_of}
 use Rattle.program_reader.specs.Expressions.{inside as inside_of}
 use Rattle.program_lexer.specs.Coded.{decoded, kind_of, kind_count}
 use Rattle.program_parser.specs.declared.read.Read.{Read}
-use Rattle.program_parser.specs.declared.calls.Function.{Function}
 use Rattle.program_parser.specs.Reading.{closed_of}
 use Rattle.program_operations.specs.declared.parts.PendingCall.{PendingCall}
-use Rattle.program_operations.specs.Parts.{Suffixed, pending, Calls, arguments_left}
+use Rattle.program_operations.specs.Parts.{Suffixed, arguments_left}
 use Rattle.program_operations.proofs.Readings.{ready-next, ready-operand, ready-fewer, refused-level, reading-fits, reading-ready}
 use Rattle.program_operations.proofs.Written.{reading-some}
 use Rattle.program_operations.proofs.Primaries.{fits, begun, prefix-small, primary-constant, primary-ere, primary-name, primary-called, primary-paren, field-read, field-other, prefix-read, prefix-other}
@@ -301,21 +299,18 @@ assignment-returns t c =
     assign-to-field _ _ _ _ _ _ args.r _ if1.false _ operand-after.ensures (omega (arith, pre.3))
     pre.2 _ _ _ _ if2.false nested2.ensures suffix2.ensures
 
-pub call-function_of-f-requires : goal.call-function_of-f-requires
-call-function_of-f-requires t c = c.requires.0.known
+pub call-function_of-requires : goal.call-function_of-requires
+call-function_of-requires t c = c.requires.0.known
 
 pub call-refuse-requires : goal.call-refuse-requires
 call-refuse-requires t c = c.requires.0.known
 
-pub call-returns-then-f-eq0 : goal.call-returns-then-f-eq0
-call-returns-then-f-eq0 t c =
-    let refuse = c.refuse in
-    let if1 = c.if-f-eq0 in
-    let Function-of = c.function_of-f in
+pub call-returns-in_default : goal.call-returns-in_default
+call-returns-in_default t c =
     let args = c.args in
     let pre = c.requires in
     call_none _ _ _ args.t _ _ _ pre.0 _ _ (function_of args.edition.number (kind_of args.t.kind))
-    (sym (ap (λ (y : Function). y.op) Function-of.ensures) ∙ if1.true) refuse.ensures
+    (sym c.function_of.ensures ∙ c.in_default.is) c.refuse.ensures
 
 pub call-refuse-requires-then-opener-ne-OPEN_PAREN : goal.call-refuse-requires-then-opener-ne-OPEN_PAREN
 call-refuse-requires-then-opener-ne-OPEN_PAREN t c =
@@ -329,33 +324,27 @@ call-returns-then-opener-ne-OPEN_PAREN t c =
     let refuse2 = c.refuse-then-opener-ne-OPEN_PAREN in
     let if2 = c.if-opener-ne-OPEN_PAREN in
     let token-after = c.token_after-opener in
-    let if1 = c.if-f-eq0 in
-    let Function-of = c.function_of-f in
     let args = c.args in
     let pre = c.requires in
     call-refused _ _ _ args.t _ _ _ pre.0 _ _ _ token-after.ensures
-    (function_of args.edition.number (kind_of args.t.kind))
-    (λ z. if1.false (ap (λ (y : Function). y.op) Function-of.ensures ∙ z))
+    (function_of args.edition.number (kind_of args.t.kind)) c.in-Some.f
+    (sym c.in-Some.ensures)
     if2.true refuse2.ensures
 
 pub call-arguments-requires : goal.call-arguments-requires
 call-arguments-requires t c =
     let token-after = c.token_after-opener in
-    let Function-of = c.function_of-f in
     let args = c.args in
     let pre = c.requires in
     let u = ready-next _ _ args.t args.n pre.0 _ token-after.ensures in
-    let f = function-fits args.edition.number (kind_of args.t.kind) in
-    let op = ap (λ (y : Function). y.op) Function-of.ensures in
-    let shapes = ap (λ (y : Function). y.shapes) Function-of.ensures in
-    let few = left-few Function-of.result.shapes in (
+    let f = function-fits args.edition.number (kind_of args.t.kind) c.in-Some.f (sym c.in-Some.ensures) in
+    let few = left-few c.in-Some.f.shapes in (
       omega (arith, c.decreases, few),
       (
         u,
         omega (arith, pre.1, few),
-        omega (arith, shapes, f.1),
-        omega
-            (arith, op, f.0),
+        f.1,
+        f.0,
         omega arith,
       ),
     )
@@ -365,23 +354,17 @@ call-returns t c =
     let arguments = c.arguments in
     let if2 = c.if-opener-ne-OPEN_PAREN in
     let token-after = c.token_after-opener in
-    let if1 = c.if-f-eq0 in
-    let Function-of = c.function_of-f in
     let args = c.args in
     let pre = c.requires in
+    let known = sym c.in-Some.ensures in
     call-read _ _ _ args.t _ _ _ pre.0 _ _ _ token-after.ensures
     (function_of args.edition.number (kind_of args.t.kind))
     (function-completes args.edition.number (kind_of args.t.kind))
-    (λ z. if1.false (ap (λ (y : Function). y.op) Function-of.ensures ∙ z))
+    c.in-Some.f known
     (begun _ _ (inside_of args.edition.number args.s.now args.levels) args.t args.n args.depth []
     pre.0
-    (function-begun args.edition.number args.t.kind pre.0.known
-    (λ z. if1.false (ap (λ (y : Function). y.op) Function-of.ensures ∙ z))))
-    if2.false
-    (subst (λ (y : Function). Calls args.edition.number args.s.now args.levels
-    (pending y.op y.shapes 0 token-after.result) true
-    token-after.result args.n args.depth args.section.now arguments.result arguments.new.section)
-    Function-of.ensures arguments.ensures)
+    (function-begun args.edition.number args.t.kind c.in-Some.f pre.0.known known))
+    if2.false arguments.ensures
 
 pub field_form-primary-requires : goal.field_form-primary-requires
 field_form-primary-requires t c =

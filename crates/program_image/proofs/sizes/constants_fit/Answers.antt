@@ -26,9 +26,6 @@ returns-then-not-constant_fits c =
     let long = sym f.ensures ∙ not-true f.result (ap not c.if-not-constant_fits.true) in
     sym (l.invariant.1 ∙ small-over a.s.now a.table.now l.k a.n c.loop-k-test.true long)
 
-pub loop-k-smaller : goal.loop-k-smaller
-loop-k-smaller c = omega (arith, c.loop-k-test.true)
-
 pub loop-k-preserved : goal.loop-k-preserved
 loop-k-preserved c =
     let a = c.args in

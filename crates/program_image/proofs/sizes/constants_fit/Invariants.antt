@@ -6,6 +6,3 @@ use Rattle.program_image.proofs.sizes.constants_fit.Given as goal
 
 abbrev pub invariant-loop-k : goal.invariant-loop-k
 invariant-loop-k l = (l.k ≤ l.n) × (constants_fit l.s l.table 0 l.n ≡ constants_fit l.s l.table l.k (l.n - l.k))
-
-abbrev pub decreases-loop-k : goal.decreases-loop-k
-decreases-loop-k l = l.n - l.k

@@ -19,9 +19,6 @@ returns-then-depth_in c =
     let over = depth-over a.section.now l.i a.count below p in
     sym (l.invariant.1 ∙ over (omega (arith, c.if-depth_in.true, c.depth_in.ensures)))
 
-pub loop-i-smaller : goal.loop-i-smaller
-loop-i-smaller c = omega (arith, c.loop-i-test.true)
-
 pub loop-i-preserved : goal.loop-i-preserved
 loop-i-preserved c =
     let a = c.args in

@@ -46,9 +46,6 @@ put_entry-at-requires c =
       λ constant. subst SmallNumber same (p.5 constant l.i below),
     )
 
-pub loop-i-smaller : goal.loop-i-smaller
-loop-i-smaller c = omega (arith, c.loop-i-test.true)
-
 pub loop-i-preserved : goal.loop-i-preserved
 loop-i-preserved c =
     let a = c.args in

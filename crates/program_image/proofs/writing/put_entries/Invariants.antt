@@ -12,6 +12,3 @@ invariant-loop-i l =
     (l.i ≤ l.n) × ((l.at ≤ l.initial.at + entry_most * l.i)
     × (Left l.initial.room l.initial.at (entries_left l.s l.constants l.table 0 l.n) l.room l.at (entries_left l.s l.constants l.table l.i (l.n - l.i))
     × (length l.room ≡ length l.initial.room)))
-
-abbrev pub decreases-loop-i : goal.decreases-loop-i
-decreases-loop-i l = l.n - l.i

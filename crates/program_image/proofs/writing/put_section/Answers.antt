@@ -38,9 +38,6 @@ put_instruction-at-requires c =
     let digits = coded-short a.n in
     omega (arith, i.0, i.1.0, p.1, p.2, n.0, digits)
 
-pub loop-i-smaller : goal.loop-i-smaller
-loop-i-smaller c = omega (arith, c.loop-i-test.true)
-
 pub loop-i-preserved : goal.loop-i-preserved
 loop-i-preserved c =
     let a = c.args in

@@ -1,6 +1,6 @@
 -- `put_section`: what is left to write comes to the whole.
 use mathlib.Core.Path.{◌≡◌}
-use Prim.Native.Nat.{◌+◌, ◌-◌, ◌*◌, ◌≤◌}
+use Prim.Native.Nat.{◌+◌, ◌*◌, ◌≤◌}
 use lib.ListN.{length}
 use Rattle.program_image.proofs.Remaining.{Left}
 use Rattle.program_image.proofs.Parts.{instruction_most, code_left}
@@ -10,6 +10,3 @@ abbrev pub invariant-loop-i : goal.invariant-loop-i
 invariant-loop-i l =
     (l.i ≤ l.n) × ((l.at ≤ l.initial.at + instruction_most * l.i)
     × (Left l.initial.room l.initial.at (code_left l.section 0 l.n) l.room l.at (code_left l.section l.i l.n) × (length l.room ≡ length l.initial.room)))
-
-abbrev pub decreases-loop-i : goal.decreases-loop-i
-decreases-loop-i l = l.n - l.i

@@ -14,28 +14,28 @@ pub slice_bounds-compile-count : goal.slice_bounds-compile-count
 slice_bounds-compile-count c =
     let a = c.args in
     let ere-close = c.ere_close in
-    let at = ere-inside a.edition.number a.s.now a.a c.in-At.end (sym ere-close.ensures ∙ c.in-At.is) in
+    let at = ere-inside a.edition.number a.s.now a.a c.in-Some.end (sym ere-close.ensures ∙ c.in-Some.is) in
     omega (arith, at.0)
 
 pub slice_bounds-compile-start : goal.slice_bounds-compile-start
 slice_bounds-compile-start c =
     let a = c.args in
     let ere-close = c.ere_close in
-    let at = ere-inside a.edition.number a.s.now a.a c.in-At.end (sym ere-close.ensures ∙ c.in-At.is) in
+    let at = ere-inside a.edition.number a.s.now a.a c.in-Some.end (sym ere-close.ensures ∙ c.in-Some.is) in
     omega (arith, at.0)
 
 pub slice_bounds-compile-end : goal.slice_bounds-compile-end
 slice_bounds-compile-end c =
     let a = c.args in
     let ere-close = c.ere_close in
-    let at = ere-inside a.edition.number a.s.now a.a c.in-At.end (sym ere-close.ensures ∙ c.in-At.is) in
+    let at = ere-inside a.edition.number a.s.now a.a c.in-Some.end (sym ere-close.ensures ∙ c.in-Some.is) in
     omega (arith, at.1)
 
 pub overflow_add-result-then-compile : goal.overflow_add-result-then-compile
 overflow_add-result-then-compile c =
     let a = c.args in
     let ere-close = c.ere_close in
-    let at = ere-inside a.edition.number a.s.now a.a c.in-At.end (sym ere-close.ensures ∙ c.in-At.is) in
+    let at = ere-inside a.edition.number a.s.now a.a c.in-Some.end (sym ere-close.ensures ∙ c.in-Some.is) in
     omega (arith, at.1)
 
 pub returns-then-compile : goal.returns-then-compile
@@ -44,13 +44,13 @@ returns-then-compile c =
     let a = c.args in
     let ere-close = c.ere_close in
     let e = compile.ensures.read c.if-compile.true in
-    ere-good a.edition.number a.s.now a.a c.in-At.end (sym ere-close.ensures ∙ c.in-At.is) e.0 e.1
+    ere-good a.edition.number a.s.now a.a c.in-Some.end (sym ere-close.ensures ∙ c.in-Some.is) e.0 e.1
 
 pub overflow_add-result-2 : goal.overflow_add-result-2
 overflow_add-result-2 c =
     let a = c.args in
     let ere-close = c.ere_close in
-    let at = ere-inside a.edition.number a.s.now a.a c.in-At.end (sym ere-close.ensures ∙ c.in-At.is) in
+    let at = ere-inside a.edition.number a.s.now a.a c.in-Some.end (sym ere-close.ensures ∙ c.in-Some.is) in
     omega (arith, at.1)
 
 pub returns : goal.returns
@@ -58,5 +58,5 @@ returns c =
     let a = c.args in
     let ere-close = c.ere_close in
     let compile = c.compile in
-    ere-unread a.edition.number a.s.now a.a c.in-At.end (sym ere-close.ensures ∙ c.in-At.is)
+    ere-unread a.edition.number a.s.now a.a c.in-Some.end (sym ere-close.ensures ∙ c.in-Some.is)
     (compile.ensures.refused c.if-compile.false)

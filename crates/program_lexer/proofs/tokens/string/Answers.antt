@@ -15,4 +15,4 @@ returns c =
     let a = c.args in
     let p = c.requires in
     let string-close = c.string_close in
-    string-good a.s.now a.a (p) c.in-At.stop (sym string-close.ensures ∙ c.in-At.is)
+    string-good a.s.now a.a (p) c.in-Some.stop (sym c.in-Some.ensures)

@@ -6,17 +6,19 @@ use Rattle.program_tokens.specs.Tokens.{is_word_byte}
 use Rattle.program_lexer.proofs.Coding.{word-coded}
 use Rattle.program_lexer.proofs.tokens.word.Goals as goal
 
-pub overflow_add-result : goal.overflow_add-result
-overflow_add-result c =
+pub overflow_add-a : goal.overflow_add-a
+overflow_add-a c =
     let a = c.args in
-    let p = c.requires in
-    let word-length = c.word_length-n in
     let few = leading_le is_word_byte (drop a.a a.s.now) in
-    record { fits = omega (arith, few, length-drop a.a a.s.now, p, word-length.ensures) }
+    record { fits = omega (arith, few, length-drop a.a a.s.now, c.word_length-n.ensures) }
+
+pub slice_bounds-word_kind-end : goal.slice_bounds-word_kind-end
+slice_bounds-word_kind-end c =
+    let a = c.args in
+    let few = leading_le is_word_byte (drop a.a a.s.now) in
+    omega (arith, few, length-drop a.a a.s.now, c.word_length-n.ensures)
 
 pub returns : goal.returns
 returns c =
     let a = c.args in
-    let word-length = c.word_length-n in
-    let word-kind = c.word_kind in
-    word-coded a.edition.number a.a word-length.result word-kind.result a.s.now word-length.ensures word-kind.ensures
+    word-coded a.edition.number a.a c.word_length-n.result c.word_kind.result a.s.now c.word_length-n.ensures c.word_kind.ensures

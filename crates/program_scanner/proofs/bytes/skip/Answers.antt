@@ -1,10 +1,13 @@
 -- `skip`: what is left to skip is what was.
 use mathlib.Core.Path.{refl}
+use mathlib.Core.Logic.{⊎_elim}
+use lib.ListN.{length}
+use Rattle.std.proofs.lemmas.Bool.Decides.{leb_tells}
 use native.Mathlib.Omega.{arith}
 use Rattle.program_scanner.proofs.Runs.{skipped-newline, skipped-stop, skipped-more, skipped-end}
 use Rattle.program_scanner.proofs.bytes.skip.Goals as goal
 use mathlib.Core.Path.{ap}
-use mathlib.Core.Bool.{not}
+use mathlib.Core.Bool.{false, not}
 
 pub loop-i-init : goal.loop-i-init
 loop-i-init c = refl
@@ -36,5 +39,10 @@ loop-i-preserved c =
 
 pub returns : goal.returns
 returns c =
+    let a = c.args in
     let l = c.loop-i in
-    omega (arith, l.invariant, skipped-end c.args.s.now l.i l.comment (omega arith))
+    let none = skipped-end a.s.now l.i l.comment (omega arith) in
+    ⊎_elim
+    (λ h. omega (arith, l.invariant, none, h.1))
+    (λ h. omega (arith, l.invariant, none, h.1, skipped-end a.s.now a.at false (omega (arith, h.1))))
+    (leb_tells a.at (length a.s.now))

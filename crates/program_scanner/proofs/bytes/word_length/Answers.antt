@@ -1,8 +1,9 @@
 -- `word_length`: the run is what was passed and what is left of it.
 use mathlib.Core.Path.{sym, ◌∙◌}
+use lib.ListN.{drop, length-drop}
 use native.Mathlib.Omega.{arith}
 use borrow.Author.Tests.{not-true, not-false}
-use Rattle.lists.proofs.Leading.{leading-more, leading-stop, leading_end}
+use Rattle.lists.proofs.Leading.{leading-more, leading-stop, leading_end, leading_le}
 use Rattle.program_tokens.specs.Tokens.{is_word_byte}
 use Rattle.program_scanner.proofs.bytes.word_length.Goals as goal
 use mathlib.Core.Path.{ap}
@@ -32,5 +33,7 @@ loop-i-preserved c =
 
 pub returns : goal.returns
 returns c =
+    let a = c.args in
     let l = c.loop-i in
-    omega (arith, l.invariant.1, leading_end is_word_byte c.args.s.now l.i (omega arith))
+    let few = leading_le is_word_byte (drop a.at a.s.now) in
+    omega (arith, l.invariant, few, length-drop a.at a.s.now, leading_end is_word_byte a.s.now l.i (omega arith))

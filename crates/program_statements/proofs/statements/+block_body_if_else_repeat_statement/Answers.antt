@@ -252,7 +252,7 @@ if_else-body-b-requires t c =
         else-ready a.edition.number a.s.now (body_of a.edition.number a.s.now a.in_main a.levels)
             a.levels a.u a.n a.section.now
             c.requires.0 _ _ c.condition-c.ensures c.if-c-ne0.false _ _ c.body-a.ensures
-            c.if-a-ne0.false _ c.else_after.ensures _ c.in-At.is,
+            c.if-a-ne0.false _ c.else_after.ensures _ c.in-Some.is,
         c.requires.1,
       ),
     )
@@ -263,7 +263,7 @@ if_else-returns-then-b-ne0 t c =
     else-failed a.edition.number a.s.now (body_of a.edition.number a.s.now a.in_main a.levels)
     a.levels a.u a.n a.section.now
     c.requires.0 _ _ c.condition-c.ensures c.if-c-ne0.false _ _ c.body-a.ensures
-    c.if-a-ne0.false _ c.else_after.ensures _ c.in-At.is _ _
+    c.if-a-ne0.false _ c.else_after.ensures _ c.in-Some.is _ _
     c.body-b.ensures c.if-b-ne0.true
 
 pub if_else-emit-requires-2 : goal.if_else-emit-requires-2
@@ -276,7 +276,7 @@ if_else-emit-requires-2 t c =
     let b0 = other-small a.edition.number a.s.now
     (body_of a.edition.number a.s.now a.in_main a.levels) a.levels a.u a.n
     a.section.now c.requires.0 _ _ c.condition-c.ensures c.if-c-ne0.false _ _
-    c.body-a.ensures c.if-a-ne0.false _ c.else_after.ensures _ c.in-At.is _ _
+    c.body-a.ensures c.if-a-ne0.false _ c.else_after.ensures _ c.in-Some.is _ _
     c.body-b.ensures c.if-b-ne0.false in
     omega (arith, a0, b0)
 
@@ -309,7 +309,7 @@ if_else-returns t c =
     else-done a.edition.number a.s.now (body_of a.edition.number a.s.now a.in_main a.levels)
     a.levels a.u a.n a.section.now
     c.requires.0 _ _ c.condition-c.ensures c.if-c-ne0.false _ _ c.body-a.ensures
-    c.if-a-ne0.false _ c.else_after.ensures _ c.in-At.is _ _
+    c.if-a-ne0.false _ c.else_after.ensures _ c.in-Some.is _ _
     c.body-b.ensures c.if-b-ne0.false _ _ c.emit-2.ensures.1 c.emit-3.ensures.1
 
 pub repeat-condition-c-requires : goal.repeat-condition-c-requires

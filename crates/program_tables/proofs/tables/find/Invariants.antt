@@ -9,6 +9,3 @@ abbrev pub invariant-loop-k : goal.invariant-loop-k
 invariant-loop-k l =
     (l.k ≤ l.n)
     × (Number l.s l.escapes l.table (meant l.s l.escapes l.e) 0 l.n ≡ l.k + Number l.s l.escapes l.table (meant l.s l.escapes l.e) l.k (l.n - l.k))
-
-abbrev pub decreases-loop-k : goal.decreases-loop-k
-decreases-loop-k l = l.n - l.k

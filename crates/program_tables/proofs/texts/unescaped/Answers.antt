@@ -1,19 +1,18 @@
 -- `unescaped`: the byte that is spelled, or the byte itself.
-use mathlib.Core.Path.{◌≡◌, sym, ap, ◌∙◌}
-use mathlib.Core.Option.{Option}
+use mathlib.Core.Path.{◌≡◌, refl, ap, ◌∙◌}
 use Prim.Native.Nat.{ℕ}
-use Rattle.ere_grammar.specs.Escapes.{escaped_of}
-use Rattle.ere_grammar.specs.declared.Escaped.{Escaped}
+use Rattle.std.specs.Prelude.{Option, Some, None}
+use Rattle.std.specs.Option.{unwrap_or}
+use Rattle.lists.specs.Answers.{option_of}
 use Rattle.program_tables.specs.Texts.{byte_or}
 use Rattle.program_tables.proofs.texts.unescaped.Goals as goal
 
-told : (b : ℕ) {o : Option ℕ} {e f : Escaped} → escaped_of e ≡ o → e ≡ f → byte_or b (escaped_of f) ≡ byte_or b o
-told b h g = ap (λ (x : Escaped). byte_or b (escaped_of x)) (sym g) ∙ ap (byte_or b) h
-
-pub returns-in_default : goal.returns-in_default
+told : (b : ℕ) (o : Option ℕ) → unwrap_or o b ≡ byte_or b (option_of o)
 unfolding byte_or
-returns-in_default c = told _ c.string_escape_of.ensures c.in_default.is
+told b None = refl
+told b (Some v) = refl
 
 pub returns : goal.returns
-unfolding byte_or
-returns c = told _ c.string_escape_of.ensures c.in-Byte.is
+returns c =
+    let b = c.args.b in
+    c.unwrap_or.ensures ∙ told b c.string_escape_of.result ∙ ap (byte_or b) c.string_escape_of.ensures
