@@ -16,8 +16,6 @@ use Rattle.ere_meaning.specs.Search.{best_of}
 use Rattle.ere_meaning.proofs.Answers.{best}
 use Rattle.ere_grammar.specs.Read.{read_ere}
 use Rattle.ere.specs.Answer.{without, matching_of, best_matching, judged, search_of}
-use Rattle.ere.specs.declared.matching.Matched.{Matched}
-use Rattle.ere.specs.declared.matching.Matched.TheVariants.{At}
 use Rattle.capi_numbers.specs.Match.{Within}
 
 without-within : (o : ℕ) → Within (without o)
@@ -39,6 +37,3 @@ judged-within text (some e) = short-within text e (leb (length text) text_bytes)
 
 pub search-within : (edition : ℕ) (ere text : List ℕ) → Within (search_of edition ere text)
 search-within edition ere text = judged-within text (read_ere edition ere)
-
-pub within-at : {m : Matched} {s n : ℕ} → m ≡ At s n → Within (matching_of m) → Within (matching_of (At s n))
-within-at h w = subst (λ (m : Matched). Within (matching_of m)) h w

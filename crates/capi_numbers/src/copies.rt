@@ -3,26 +3,25 @@ ghost use Rattle.std.specs.Prelude.{◌≡◌, []};
 ghost use Rattle.image.specs.Copy.{copying_of};
 
 use edition::Outcome;
-use image::Copied;
+use image::CopyError;
 
 // Returns the number of an answer's outcome.
-pub fn copied_outcome(c: Copied) -> u64
+pub fn copied_outcome(c: Result<usize, CopyError>) -> u64
     ensures { result ≡ (copying_of c []).outcome }
 {
     match c {
-        Copied::Written(n) => Outcome::DONE,
-        Copied::Malformed => Outcome::IMAGE_MALFORMED,
-        Copied::NoRoom => Outcome::ROOM_TOO_SMALL,
+        Ok(_) => Outcome::DONE,
+        Err(CopyError::Malformed) => Outcome::IMAGE_MALFORMED,
+        Err(CopyError::NoRoom) => Outcome::ROOM_TOO_SMALL,
     }
 }
 
 // Returns the length written, 0 on a refusal.
-pub fn copied_length(c: Copied) -> u64
+pub fn copied_length(c: Result<usize, CopyError>) -> u64
     ensures { result ≡ (copying_of c []).length }
 {
     match c {
-        Copied::Written(n) => n as u64,
-        Copied::Malformed => 0,
-        Copied::NoRoom => 0,
+        Ok(n) => n as u64,
+        Err(_) => 0,
     }
 }

@@ -5,9 +5,9 @@ ghost use Rattle.ere.specs.Answer.{without as withoutMatch};
 ghost use Rattle.capi_numbers.specs.Match.{Within};
 
 use edition::Outcome;
-use ere::Matched;
+use ere::Refusal;
 
-// An outcome, and the two numbers that are stored.
+// An outcome, and the two numbers that are stored. The C interface stores all three, whatever the outcome is.
 #[derive(Drop)]
 pub struct MatchAnswer {
     pub outcome: u64,
@@ -27,12 +27,12 @@ fn without(outcome: u64) -> MatchAnswer
 }
 
 // Returns the numbers of a search's answer.
-pub fn match_numbers(m: Matched) -> MatchAnswer
+pub fn match_numbers(m: Result<Option<(usize, usize)>, Refusal>) -> MatchAnswer
     requires { Within (matching_of m) }
     ensures { matching result.outcome result.rstart result.rlength ≡ matching_of m }
 {
     match m {
-        Matched::At(start, length) => {
+        Ok(Some((start, length))) => {
             let rstart = start as u64 + 1;
             let rlength = length as i64;
             MatchAnswer {
@@ -41,8 +41,8 @@ pub fn match_numbers(m: Matched) -> MatchAnswer
                 rlength,
             }
         }
-        Matched::Nothing => without(Outcome::DONE),
-        Matched::BadEre => without(Outcome::BAD_ERE),
-        Matched::LongText => without(Outcome::TEXT_TOO_LONG),
+        Ok(None) => without(Outcome::DONE),
+        Err(Refusal::BadEre) => without(Outcome::BAD_ERE),
+        Err(Refusal::LongText) => without(Outcome::TEXT_TOO_LONG),
     }
 }

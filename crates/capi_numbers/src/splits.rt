@@ -3,28 +3,26 @@ ghost use Rattle.std.specs.Prelude.{◌≡◌};
 ghost use Rattle.fields.specs.Answer.{counting_of};
 
 use edition::Outcome;
-use fields::Splitting;
+use fields::SplitError;
 
 // Returns the number of a split's outcome.
-pub fn split_outcome(s: Splitting) -> u64
+pub fn split_outcome(s: Result<usize, SplitError>) -> u64
     ensures { result ≡ (counting_of s).outcome }
 {
     match s {
-        Splitting::Fields(n) => Outcome::DONE,
-        Splitting::LongRecord => Outcome::RECORD_TOO_LONG,
-        Splitting::BadSeparator => Outcome::BAD_SEPARATOR,
-        Splitting::ManyFields => Outcome::BAD_FIELD_NUMBER,
+        Ok(_) => Outcome::DONE,
+        Err(SplitError::LongRecord) => Outcome::RECORD_TOO_LONG,
+        Err(SplitError::BadSeparator) => Outcome::BAD_SEPARATOR,
+        Err(SplitError::ManyFields) => Outcome::BAD_FIELD_NUMBER,
     }
 }
 
 // Returns how many fields there are, 0 of a refused record.
-pub fn split_count(s: Splitting) -> u64
+pub fn split_count(s: Result<usize, SplitError>) -> u64
     ensures { result ≡ (counting_of s).count }
 {
     match s {
-        Splitting::Fields(n) => n as u64,
-        Splitting::LongRecord => 0,
-        Splitting::BadSeparator => 0,
-        Splitting::ManyFields => 0,
+        Ok(n) => n as u64,
+        Err(_) => 0,
     }
 }

@@ -20,9 +20,16 @@ pub fn find_field(record: &[u8], fs: &[u8], k: u64, start: &mut u64, length: &mu
         × (span start.new length.new
         ≡ field_of first_edition fs.now «record».now k) }
 {
-    let f = fields::locate(record, fs, k as usize);
-    let s = f.splitting;
-    *start = f.start as u64;
-    *length = f.size as u64;
-    capi_numbers::split_outcome(s)
+    match fields::locate(record, fs, k as usize) {
+        Ok(f) => {
+            *start = f.start as u64;
+            *length = f.size as u64;
+            capi_numbers::split_outcome(Ok(f.count))
+        }
+        Err(e) => {
+            *start = record.len() as u64;
+            *length = 0;
+            capi_numbers::split_outcome(Err(e))
+        }
+    }
 }
