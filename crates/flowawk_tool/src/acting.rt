@@ -1,12 +1,11 @@
 // What the words of the command line ask for.
 use front_actions::{Action, actions};
-use front_files::Filled;
-use front_options::{Budget, Options, options};
-use front_runs::Made;
-use std::io::{Result, Write};
+use front_options::{Options, Stage};
+use std::io;
+use std::io::Write;
 
 // Writes how the program is called.
-fn put_usage<W: Write>(file: &mut W) -> Result<()> {
+fn put_usage<W: Write>(file: &mut W) -> io::Result<()> {
     front_files::write_whole(
         file,
         b"usage: flowawk [-b N] [-s] 'FILTER' [FILE..]\n       flowawk [-b N] [-s] -f FILTERFILE [FILE..]\n\
@@ -24,19 +23,18 @@ fn refuse_usage(rt: &HostRuntime, word: &[u8], reason: &[u8]) -> u64 {
 
 // Refuses words that ask for nothing that there is, and returns the status.
 fn refuse_words(rt: &HostRuntime, block: &[u8], o: Options) -> u64 {
-    let stage = o.stage;
-    if stage < options::READY {
-        return refuse_usage(rt, b"the last word", b" lacks its argument\n");
-    }
-    if stage == options::REFUSED {
-        return refuse_usage(
+    match o.stage {
+        Stage::Argument(_) => refuse_usage(rt, b"the last word", b" lacks its argument\n"),
+        Stage::Refused => refuse_usage(
             rt,
             front_choices::word(block, o.operand),
             b": no such option, or given twice\n",
-        );
+        ),
+        Stage::Ready | Stage::Operands => {
+            let _ = put_usage(&mut rt.stderr());
+            front_choices::USAGE
+        }
     }
-    let _ = put_usage(&mut rt.stderr());
-    front_choices::USAGE
 }
 
 // Prints how the program is called, and returns the status.
@@ -66,7 +64,7 @@ pub fn make(
     o: Options,
     text: &mut [u8],
     image: &mut [u8],
-) -> Made {
+) -> Result<usize, u64> {
     let given = o.given;
     let filter = given[actions::FILTER];
     match a {
@@ -91,10 +89,9 @@ pub fn make(
 // Checks an image file, and returns the status.
 fn check(rt: &HostRuntime, block: &[u8], o: Options, image: &mut [u8]) -> u64 {
     let given = o.given;
-    let m = front_runs::load_checked(rt, front_choices::word(block, given[actions::CHECK]), image);
-    match m {
-        Made::Image(_) => 0,
-        Made::Status(s) => s,
+    match front_runs::load_checked(rt, front_choices::word(block, given[actions::CHECK]), image) {
+        Ok(_) => 0,
+        Err(status) => status,
     }
 }
 
@@ -120,10 +117,9 @@ fn translate(
     text: &mut [u8],
     image: &mut [u8],
 ) -> u64 {
-    let m = make(rt, a, block, o, text, image);
-    match m {
-        Made::Image(n) => write(rt, block, o, image, n),
-        Made::Status(s) => s,
+    match make(rt, a, block, o, text, image) {
+        Ok(n) => write(rt, block, o, image, n),
+        Err(status) => status,
     }
 }
 
@@ -162,17 +158,15 @@ fn run_image(
 pub fn budget(rt: &HostRuntime, block: &[u8], o: Options) -> Option<u64> {
     let given = o.given;
     let k = given[actions::BUDGET];
-    match front_choices::budget_for(block, k) {
-        Budget::Steps(budget) => Some(budget),
-        Budget::Bad => {
-            refuse_usage(
-                rt,
-                front_choices::word(block, k),
-                b": no number of steps from 0 to 18446744073709551615\n",
-            );
-            None
-        }
+    let budget = front_choices::budget_for(block, k);
+    if budget.is_none() {
+        refuse_usage(
+            rt,
+            front_choices::word(block, k),
+            b": no number of steps from 0 to 18446744073709551615\n",
+        );
     }
+    budget
 }
 
 // Runs a filter or an image over the files that the words name, and returns the status.
@@ -190,10 +184,9 @@ fn run(
     let Some(budget) = budget(rt, block, o) else {
         return front_choices::USAGE;
     };
-    let m = make(rt, a, block, o, text, image);
-    match m {
-        Made::Image(n) => run_image(rt, a, block, o, image, n, lines, output, work, budget),
-        Made::Status(s) => s,
+    match make(rt, a, block, o, text, image) {
+        Ok(n) => run_image(rt, a, block, o, image, n, lines, output, work, budget),
+        Err(status) => status,
     }
 }
 
@@ -248,8 +241,7 @@ pub fn tool(
     output: &mut [u8],
     work: &mut [u8],
 ) -> u64 {
-    let f = front_files::read_words(rt, words);
-    let Filled::To(n) = f else {
+    let Some(n) = front_files::read_words(rt, words) else {
         front_io::say(rt, b"flowawk: the command line is too long\n");
         return front_choices::USAGE;
     };

@@ -1,9 +1,8 @@
 // The program over rooms that get more bytes where they are too small.
 use crate::acting;
 use front_actions::{Action, actions};
-use front_files::{Filled, Growing};
+use front_files::Growing;
 use front_options::Options;
-use front_runs::Made;
 
 // The words of the content of an image at most.
 const CONTENT: usize = 1048576;
@@ -13,27 +12,23 @@ const CONTENT_LINES: usize = 22020096;
 
 // Reads the words of the command line. Returns how many bytes they are, if they fit.
 fn read_words(rt: &HostRuntime, words: &mut Growing) -> Option<usize> {
-    let mut turns = u64::MAX;
-    while turns > 0 {
-        if let Filled::To(n) = front_files::read_words(rt, words.bytes.as_mut_slice()) {
+    for _ in 0..u64::MAX {
+        if let Some(n) = front_files::read_words(rt, words.bytes.as_mut_slice()) {
             return Some(n);
         }
         if !words.grow() {
             return None;
         }
-        turns -= 1;
     }
     None
 }
 
 // Gives a room more bytes until it has so many, or can get no more.
 fn grow_to(room: &mut Growing, size: usize) {
-    let mut turns = u64::MAX;
-    while turns > 0 {
+    for _ in 0..u64::MAX {
         if size <= room.bytes.len() || !room.grow() {
             return;
         }
-        turns -= 1;
     }
 }
 
@@ -53,8 +48,8 @@ fn run(
         return front_choices::USAGE;
     };
     let n = match acting::make(rt, a, block, o, text, image) {
-        Made::Image(n) => n,
-        Made::Status(s) => return s,
+        Ok(n) => n,
+        Err(status) => return status,
     };
     if image.len() < n {
         return front_choices::IO_FAILED;

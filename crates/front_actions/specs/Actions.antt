@@ -1,10 +1,11 @@
 -- Internal: cited by private contracts only. What options ask for.      flowawk [-b N] [-s] 'FILTER' [FILE..]
 -- flowawk [-b N] [-s] -f FILTERFILE [FILE..]     flowawk [-b N] [-s] -i IMAGE [FILE..]          flowawk -o IMAGE
 -- 'FILTER' | -o IMAGE -f FILTERFILE     flowawk --check IMAGE | --content IMAGE        flowawk -h | -V
-use Rattle.std.specs.Prelude.{cond, ℕ, eqb, ltb, get_or}
+use Rattle.std.specs.Prelude.{cond, ℕ, eqb, get_or}
 use Rattle.front_options.specs.Given.{given_count}
-use Rattle.front_options.specs.Reading.{READY, REFUSED}
 use Rattle.front_options.specs.declared.options.Options.{Options}
+use Rattle.front_options.specs.declared.options.Stage.{Stage}
+use Rattle.front_options.specs.declared.options.Stage.TheVariants.{Ready, Argument, Operands, Refused}
 use Rattle.front_actions.specs.declared.actions.Action.{Action}
 use Rattle.front_actions.specs.declared.actions.Action.TheVariants.{Usage, Help, Version, Check, Content, TranslateText, TranslateFile, RunText, RunFile, RunImage}
 
@@ -25,12 +26,10 @@ run_action operand filter image =
     cond (eqb image 0) (cond (eqb filter 0) (cond (eqb operand 0) Usage RunText) RunFile)
     (cond (eqb filter 0) RunImage Usage)
 
--- those of so many words; an argument that is missing and a word that is refused ask for nothing
-unfoldable pub action_of : Options → ℕ → Action
-action_of o words =
-    cond (ltb o.stage READY) Usage
-    (cond (eqb o.stage REFUSED) Usage
-    (cond (eqb (get_or o.given 2 0) 0)
+-- those of so many words
+unfoldable pub given_action : Options → ℕ → Action
+given_action o words =
+    cond (eqb (get_or o.given 2 0) 0)
     (cond (eqb (get_or o.given 3 0) 0)
     (cond (eqb (get_or o.given 8 0) 0)
     (cond (eqb (get_or o.given 9 0) 0)
@@ -39,4 +38,14 @@ action_of o words =
     (image_action (given_count o.given) o.operand Content))
     (image_action (given_count o.given) o.operand Check))
     Version)
-    Help))
+    Help
+
+-- an argument that is missing and a word that is refused ask for nothing
+unfoldable pub action_at : Stage → Action → Action
+action_at (Argument option) asked = Usage
+action_at Refused asked = Usage
+action_at Ready asked = asked
+action_at Operands asked = asked
+
+abbrev pub action_of : Options → ℕ → Action
+action_of o words = action_at o.stage (given_action o words)

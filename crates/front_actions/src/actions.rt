@@ -1,13 +1,12 @@
 // What the options ask for.
-ghost use Rattle.std.specs.Prelude.{◌≡◌, ◌≤◌, length};
-ghost use Rattle.front_options.specs.Given.{given_count, one};
-ghost use Rattle.front_actions.specs.Actions.{image_action, write_action, run_action, action_of};
+ghost use Rattle.std.specs.Prelude.{◌≡◌};
+ghost use Rattle.front_options.specs.Given.{given_count};
+ghost use Rattle.front_actions.specs.Actions.{image_action, write_action, run_action, given_action, action_of};
 
-use front_options::options;
-use options::Options;
+use front_options::{Options, Stage};
 
 // What is to be done; what `Usage` means is that the words ask for nothing that there is.
-#[derive(Clone, Copy)]
+#[derive(Clone, Copy, PartialEq, Eq)]
 pub enum Action {
     Usage,
     Help,
@@ -21,7 +20,7 @@ pub enum Action {
     RunImage,
 }
 
-// The options by number, as their words are in the table of `kind_of`.
+// The options by number: the rows of the table of words in `kind_of`, and the indices of `given`, so no enum.
 pub const COUNTS: usize = 1;
 
 pub const HELP: usize = 2;
@@ -40,24 +39,11 @@ pub const CHECK: usize = 8;
 
 pub const CONTENT: usize = 9;
 
-// Returns 1 for an option that is given, and 0 for one that is not.
-fn is_given(n: usize) -> usize
-    ensures { (result ≡ one n) × (result ≤ 1) }
-{
-    if n == 0 { 0 } else { 1 }
-}
-
 // Counts the options that are given.
 fn given_count(given: &[usize]) -> usize
     ensures { result ≡ given_count given.now }
 {
-    let mut n: usize = 0;
-    let mut i: usize = 0;
-    while i < given.len() {
-        n += is_given(given[i]);
-        i += 1;
-    }
-    n
+    given.iter().filter(|k| **k != 0).count()
 }
 
 // Returns what an option for images asks: nothing else may be given.
@@ -117,19 +103,12 @@ fn run_action(operand: usize, filter: usize, image: usize) -> Action
     Action::RunText
 }
 
-// Returns what options ask for that were read from this number of words.
-pub fn asked_action(o: Options, words: usize) -> Action
-    ensures { result ≡ action_of o words }
+// Returns what options ask for that are complete.
+fn given_action(o: Options, words: usize) -> Action
+    ensures { result ≡ given_action o words }
 {
-    let stage = o.stage;
     let operand = o.operand;
     let given = o.given;
-    if stage < options::READY {
-        return Action::Usage;
-    }
-    if stage == options::REFUSED {
-        return Action::Usage;
-    }
     if given[HELP] != 0 {
         return Action::Help;
     }
@@ -147,4 +126,14 @@ pub fn asked_action(o: Options, words: usize) -> Action
         return write_action(count, operand, words, given[FILTER]);
     }
     run_action(operand, given[FILTER], given[IMAGE])
+}
+
+// Returns what options ask for that were read from this number of words.
+pub fn asked_action(o: Options, words: usize) -> Action
+    ensures { result ≡ action_of o words }
+{
+    match o.stage {
+        Stage::Argument(_) | Stage::Refused => Action::Usage,
+        Stage::Ready | Stage::Operands => given_action(o, words),
+    }
 }

@@ -4,8 +4,7 @@ use Rattle.front_words.specs.Words.{word_in}
 use Rattle.front_options.specs.Budgets.{MOST, budget_of}
 use Rattle.front_actions.specs.declared.actions.Action.{Action}
 use Rattle.front_actions.specs.declared.actions.Action.TheVariants.{Usage, Help, Version, Check, Content, TranslateText, TranslateFile, RunText, RunFile, RunImage}
-use Rattle.front_options.specs.declared.budgets.Budget.{Budget}
-use Rattle.front_options.specs.declared.budgets.Budget.TheVariants.{Steps}
+use Rattle.std.proofs.Math.Option.{Option, some}
 
 -- word k, counted from 1; 0 numbers none
 unfoldable pub word_number : List (List ℕ) → ℕ → List ℕ
@@ -13,8 +12,8 @@ word_number words zero = []
 word_number words (suc k) = word_in words k
 
 -- "Budget: 10^9 steps unless `-b`": the number that word k spells
-unfoldable pub budget_for : List (List ℕ) → ℕ → Budget
-budget_for words k = cond (eqb k 0) (Steps 1000000000) (budget_of (word_number words k))
+unfoldable pub budget_for : List (List ℕ) → ℕ → Option ℕ
+budget_for words k = cond (eqb k 0) (some 1000000000) (budget_of (word_number words k))
 
 -- the number after k, where it is a word of 64 bits
 abbrev pub after : ℕ → ℕ

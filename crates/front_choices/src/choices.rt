@@ -1,10 +1,10 @@
 // Words by number, the budget, and the first file.
+ghost use Rattle.lists.specs.Answers.{option_of};
 ghost use Rattle.std.specs.Prelude.{◌≡◌};
 ghost use Rattle.front_words.specs.Words.{words_of};
 ghost use Rattle.front_choices.specs.Choices.{word_number, budget_for, first_file, after as choices_after};
 
 use front_actions::Action;
-use front_options::Budget;
 
 // The steps of a run where -b is not given.
 const STEPS: u64 = 1000000000;
@@ -22,12 +22,12 @@ pub fn word(block: &[u8], k: usize) -> &[u8]
     &block[start..end]
 }
 
-// Returns the budget that word k spells, and 10^9 steps if no word does.
-pub fn budget_for(block: &[u8], k: usize) -> Budget
-    ensures { result ≡ budget_for (words_of block.now) k }
+// Returns the budget that word k spells, 10^9 steps for 0, and `None` where the word spells none.
+pub fn budget_for(block: &[u8], k: usize) -> Option<u64>
+    ensures { option_of result ≡ budget_for (words_of block.now) k }
 {
     if k == 0 {
-        return Budget::Steps(STEPS);
+        return Some(STEPS);
     }
     front_options::read_budget(word(block, k))
 }
@@ -36,7 +36,7 @@ pub fn budget_for(block: &[u8], k: usize) -> Budget
 fn after(k: usize) -> usize
     ensures { result ≡ choices_after k }
 {
-    if k < usize::MAX { k + 1 } else { 0 }
+    k.checked_add(1).unwrap_or(0)
 }
 
 // Returns the number of the word that names the first file: the one after the filter if the first operand is a filter,

@@ -1,11 +1,10 @@
 // Rooms that get more bytes where they are too small.
-ghost use Rattle.std.specs.Prelude.{◌≡◌, ◌≤◌, ◌<◌, IsTrue, length, take, vec_len};
+ghost use Rattle.std.specs.Prelude.{◌≡◌, ◌≤◌, ◌<◌, IsTrue, IfOk, length, take, vec_len};
 ghost use Rattle.front_files.specs.Filling.{FilledTo};
 
-use crate::reading::Filled;
 use crate::{joining, reading};
 use std::alloc::Global;
-use std::io::{Error, ErrorKind, Read};
+use std::io::{Error, ErrorKind, Read, Result};
 
 // Bytes that a room gets first.
 const FIRST: usize = 65536;
@@ -61,40 +60,33 @@ impl Growing {
 }
 
 // Reads until the file ends, after the first `from` bytes of a room, which gets more bytes where the file has more than
-// fits.
-pub fn fill_growing<R: Read>(file: &mut R, room: &mut Growing, from: usize) -> Filled
-    ensures filled { FilledTo from (length room.new.bytes.items) result }
+// fits. Returns how many bytes of the room are filled then, or `None` where it can get no more.
+pub fn fill_growing<R: Read>(file: &mut R, room: &mut Growing, from: usize) -> Result<Option<usize>>
+    ensures filled { IfOk result (FilledTo from (length room.new.bytes.items)) }
     ensures kept { from ≤ length room.old.bytes.items
         → take from room.new.bytes.items ≡ take from room.old.bytes.items }
 {
     let mut at = from;
-    let mut turns = u64::MAX;
-    while turns > 0 {
+    for _ in 0..u64::MAX {
         let size = room.bytes.len();
-        match reading::fill(file, room.bytes.as_mut_slice(), at) {
-            Filled::To(n) => return Filled::To(n),
-            Filled::Failed(error) => return Filled::Failed(error),
-            Filled::Full => {
-                if !room.grow() {
-                    return Filled::Full;
-                }
-                if at < size {
-                    at = size;
-                }
-            }
+        if let Some(n) = reading::fill(file, room.bytes.as_mut_slice(), at)? {
+            return Ok(Some(n));
         }
-        turns -= 1;
+        if !room.grow() {
+            return Ok(None);
+        }
+        at = at.max(size);
     }
-    Filled::Failed(Error::from(ErrorKind::TimedOut))
+    Err(Error::from(ErrorKind::TimedOut))
 }
 
 // Ends the first `at` bytes of a room with a newline, as `separate` does. The room gets more bytes where it has none for
-// the newline.
-pub fn separate_growing(room: &mut Growing, at: usize) -> Filled
+// the newline; `None` where it can get no more.
+pub fn separate_growing(room: &mut Growing, at: usize) -> Option<usize>
     requires { at ≤ length room.old.bytes.items }
 {
     if room.bytes.len() <= at && !room.grow() {
-        return Filled::Full;
+        return None;
     }
     joining::separate(room.bytes.as_mut_slice(), at)
 }

@@ -12,6 +12,6 @@ mod writing;
 
 pub use growing::{Growing, fill_growing, separate_growing};
 pub use joining::separate;
-pub use reading::{Filled, fill};
+pub use reading::fill;
 pub use words::{read_words, word_count};
 pub use writing::write_whole;

@@ -1,64 +1,44 @@
 // A file's bytes, to its end, after those that a room already has.
-ghost use Rattle.std.specs.Prelude.{◌≡◌, ◌+◌, ◌≤◌, length, take};
-ghost use Rattle.front_files.specs.Filling.{FilledTo, ReadFrom};
+ghost use Rattle.std.specs.Prelude.{◌≡◌, ◌+◌, ◌≤◌, length, take, IfOk, IfSome};
+ghost use Rattle.front_files.specs.Filling.{FilledTo};
 
-use std::io::{Error, ErrorKind, Read};
+use std::io::{Error, ErrorKind, Read, Result};
 
-// How far the room is filled: by this many bytes; or the file has more than fits; or a call failed, and why.
-#[derive(Drop)]
-pub enum Filled {
-    To(usize),
-    Full,
-    Failed(Error),
-}
-
-// What one read did: it gave this many bytes, or the file has ended, or the call failed.
-#[derive(Drop)]
-enum ReadStep {
-    More(usize),
-    End,
-    Stop(Error),
-}
-
-// Reads once, after the first `at` bytes. A call that a signal interrupts is made again.
-fn read_once<R: Read>(file: &mut R, room: &mut [u8], at: usize) -> ReadStep
+// Reads once, after the first `at` bytes. Returns how many bytes the read gave, or `None` where the file has ended. A
+// call that a signal interrupts gives no bytes, and is made again.
+fn read_once<R: Read>(file: &mut R, room: &mut [u8], at: usize) -> Result<Option<usize>>
     requires { at ≤ length room.old }
-    ensures { ReadFrom at (length room.old) result
-        × (take at room.new ≡ take at room.old) }
+    ensures inside { IfOk result (λ o. IfSome o (λ n. at + n ≤ length room.old)) }
+    ensures kept { take at room.new ≡ take at room.old }
 {
     match file.read(&mut room[at..]) {
-        Ok(0) => ReadStep::End,
-        Ok(n) => ReadStep::More(n),
+        Ok(0) => Ok(None),
+        Ok(n) => Ok(Some(n)),
         Err(e) => {
             if e.kind() == ErrorKind::Interrupted {
-                return ReadStep::More(0);
+                return Ok(Some(0));
             }
-            ReadStep::Stop(e)
+            Err(e)
         }
     }
 }
 
-// Reads until the file ends. A room that is full is not enough: one byte more than the file has is asked for, so that
-// the end is seen.
-pub fn fill<R: Read>(file: &mut R, room: &mut [u8], from: usize) -> Filled
-    ensures { FilledTo from (length room.old) result
+// Reads until the file ends. Returns how many bytes of the room are filled then, or `None` where the file has more than
+// fits. A room that is full is not enough: one byte more than the file has is asked for, so that the end is seen.
+pub fn fill<R: Read>(file: &mut R, room: &mut [u8], from: usize) -> Result<Option<usize>>
+    ensures { IfOk result (FilledTo from (length room.old))
         × (take from room.new ≡ take from room.old) }
 {
     let size = room.len();
     let mut at = from;
-    let mut turns = u64::MAX;
-    while turns > 0 {
+    for _ in 0..u64::MAX {
         if size <= at {
-            return Filled::Full;
+            return Ok(None);
         }
-        match read_once(file, room, at) {
-            ReadStep::More(n) => {
-                at += n;
-            }
-            ReadStep::End => return Filled::To(at),
-            ReadStep::Stop(e) => return Filled::Failed(e),
-        }
-        turns -= 1;
+        let Some(n) = read_once(file, room, at)? else {
+            return Ok(Some(at));
+        };
+        at += n;
     }
-    Filled::Failed(Error::from(ErrorKind::TimedOut))
+    Err(Error::from(ErrorKind::TimedOut))
 }

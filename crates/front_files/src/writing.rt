@@ -1,17 +1,9 @@
 // Bytes written whole.
-ghost use Rattle.std.specs.Prelude.{◌≤◌, length, OnOk};
-ghost use Rattle.std.specs.Io.KnownBytes.{Appends};
-ghost use Rattle.front_files.specs.Filling.{WrittenFrom, TakenFrom};
+ghost use Rattle.std.specs.Prelude.{◌+◌, ◌≤◌, length, drop, IfOk, OnOk};
+ghost use Rattle.std.specs.Io.KnownBytes.{Appends, WriteAppends};
 
 use std::hint;
 use std::io::{Error, ErrorKind, Result, Write};
-
-// What one write did: it took this many bytes, or the call failed.
-#[derive(Drop)]
-enum WriteStep {
-    More(usize),
-    Stop(Error),
-}
 
 // Tells whether a call that failed is to be made again: a signal interrupted it, or a descriptor that does not block
 // takes nothing yet. There is no call that waits.
@@ -27,20 +19,20 @@ fn again(error: &Error) -> bool {
     false
 }
 
-// Writes once, from byte `at` on.
-fn write_once<W: Write>(file: &mut W, bytes: &[u8], at: usize) -> WriteStep
+// Writes once, from byte `at` on. Returns how many bytes the write took, 0 where it is to be made again.
+fn write_once<W: Write>(file: &mut W, bytes: &[u8], at: usize) -> Result<usize>
     requires { at ≤ length bytes.now }
-    ensures inside { WrittenFrom at (length bytes.now) result }
-    ensures taken { TakenFrom (W.contents file.old) (W.contents file.new) at bytes.now result }
+    ensures inside { IfOk result (λ n. at + n ≤ length bytes.now) }
+    ensures taken { WriteAppends (W.contents file.old) (W.contents file.new) result (drop at bytes.now) }
 {
     match file.write(&bytes[at..]) {
-        Ok(0) => WriteStep::Stop(Error::from(ErrorKind::WriteZero)),
-        Ok(n) => WriteStep::More(n),
+        Ok(0) => Err(Error::from(ErrorKind::WriteZero)),
+        Ok(n) => Ok(n),
         Err(e) => {
             if again(&e) {
-                return WriteStep::More(0);
+                return Ok(0);
             }
-            WriteStep::Stop(e)
+            Err(e)
         }
     }
 }
@@ -50,18 +42,11 @@ pub fn write_whole<W: Write>(file: &mut W, bytes: &[u8]) -> Result<()>
     ensures { OnOk result (Appends (W.contents file.old) (W.contents file.new) bytes.now) }
 {
     let mut at: usize = 0;
-    let mut turns = u64::MAX;
-    while turns > 0 {
+    for _ in 0..u64::MAX {
         if bytes.len() <= at {
             return Ok(());
         }
-        match write_once(file, bytes, at) {
-            WriteStep::More(n) => {
-                at += n;
-            }
-            WriteStep::Stop(e) => return Err(e),
-        }
-        turns -= 1;
+        at += write_once(file, bytes, at)?;
     }
     Err(Error::from(ErrorKind::TimedOut))
 }

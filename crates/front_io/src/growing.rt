@@ -2,9 +2,8 @@
 ghost use Rattle.std.specs.Prelude.{length};
 ghost use Rattle.front_io.specs.Loading.{Loads};
 
-use crate::loading::Loaded;
 use crate::{loading, saying};
-use front_files::{Filled, Growing};
+use front_files::Growing;
 use std::io::Read;
 
 // Reads a file to its end, after the first `from` bytes of a room. What fails is said.
@@ -14,22 +13,25 @@ fn read<R: Read>(
     name: &[u8],
     room: &mut Growing,
     from: usize,
-) -> Loaded
+) -> Result<Option<usize>, u64>
     ensures { Loads (length room.new.bytes.items) result }
 {
-    let f = front_files::fill_growing(file, room, from);
-    match f {
-        Filled::To(n) => Loaded::To(n),
-        Filled::Full => Loaded::Full,
-        Filled::Failed(error) => {
+    match front_files::fill_growing(file, room, from) {
+        Ok(filled) => Ok(filled),
+        Err(error) => {
             saying::fail(rt, name, &error);
-            Loaded::Status(front_choices::IO_FAILED)
+            Err(front_choices::IO_FAILED)
         }
     }
 }
 
 // Reads a file to its end, after the first `from` bytes of a room. What fails is said.
-fn load(rt: &HostRuntime, name: &[u8], room: &mut Growing, from: usize) -> Loaded
+fn load(
+    rt: &HostRuntime,
+    name: &[u8],
+    room: &mut Growing,
+    from: usize,
+) -> Result<Option<usize>, u64>
     ensures { Loads (length room.new.bytes.items) result }
 {
     if buffer::equal(name, b"-") {
@@ -39,21 +41,20 @@ fn load(rt: &HostRuntime, name: &[u8], room: &mut Growing, from: usize) -> Loade
         Ok(mut file) => read(rt, &mut file, name, room, from),
         Err(error) => {
             saying::fail(rt, name, &error);
-            Loaded::Status(front_choices::NO_INPUT)
+            Err(front_choices::NO_INPUT)
         }
     }
 }
 
 // Reads one more file after the first `at` bytes of a room, from a new line on.
-fn join(rt: &HostRuntime, name: &[u8], room: &mut Growing, at: usize) -> Loaded
+fn join(rt: &HostRuntime, name: &[u8], room: &mut Growing, at: usize) -> Result<Option<usize>, u64>
     ensures { Loads (length room.new.bytes.items) result }
 {
     if room.bytes.len() < at {
-        return Loaded::Full;
+        return Ok(None);
     }
-    let s = front_files::separate_growing(room, at);
-    let Filled::To(from) = s else {
-        return Loaded::Full;
+    let Some(from) = front_files::separate_growing(room, at) else {
+        return Ok(None);
     };
     load(rt, name, room, from)
 }
@@ -64,7 +65,7 @@ pub fn load_lines_growing(
     block: &[u8],
     first: usize,
     room: &mut Growing,
-) -> Loaded
+) -> Result<Option<usize>, u64>
     ensures { Loads (length room.new.bytes.items) result }
 {
     let mut place = loading::first_place(block, first);
@@ -75,12 +76,11 @@ pub fn load_lines_growing(
     while place < block.len() {
         let w = front_words::word_at(block, place);
         let end = w.end;
-        let f = join(rt, &block[place..end], room, at);
-        let Loaded::To(n) = f else {
-            return f;
+        let Some(n) = join(rt, &block[place..end], room, at)? else {
+            return Ok(None);
         };
         at = n;
         place = w.next;
     }
-    Loaded::To(at)
+    Ok(Some(at))
 }

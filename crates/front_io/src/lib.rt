@@ -6,7 +6,7 @@ mod loading;
 mod saying;
 
 pub use growing::load_lines_growing;
-pub use loading::{Loaded, load, load_lines, path};
+pub use loading::{load, load_lines, path};
 pub use saying::{
     fail, print, refuse_filter, refuse_image, refuse_size, refuse_word, say, summarize,
 };

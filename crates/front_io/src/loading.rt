@@ -1,26 +1,20 @@
 // Files by name, read to their ends; `-` is standard input.
+//
+// A reading returns how many bytes of the room are filled then, or `None` where the files have more than fits; the error
+// is the status that the program ends with, and what failed is said.
 ghost use Rattle.std.specs.Prelude.{length};
 ghost use Rattle.front_io.specs.Loading.{Loads};
 
 use crate::saying;
-use front_files::Filled;
 use std::fs::File;
-use std::io::{Error, Read, Result};
-use std::{fs, str};
+use std::io::{Error, Read};
+use std::{fs, io, str};
 
 // The system's error for bytes that are no text.
 const EILSEQ: i32 = 84;
 
-// What a room holds: this many bytes; or the files have more than fits; or a status, and what failed is said.
-#[derive(Drop)]
-pub enum Loaded {
-    To(usize),
-    Full,
-    Status(u64),
-}
-
 // Returns a file's name as a path, which is text.
-pub fn path(name: &[u8]) -> Result<&str> {
+pub fn path(name: &[u8]) -> io::Result<&str> {
     match str::from_utf8(name) {
         Ok(text) => Ok(text),
         Err(_) => Err(Error::from_raw_os_error(EILSEQ)),
@@ -28,7 +22,7 @@ pub fn path(name: &[u8]) -> Result<&str> {
 }
 
 // Opens a file for reading.
-pub fn open(rt: &HostRuntime, name: &[u8]) -> Result<File> {
+pub fn open(rt: &HostRuntime, name: &[u8]) -> io::Result<File> {
     let path = path(name)?;
     fs::open(rt, path)
 }
@@ -40,22 +34,25 @@ fn read<R: Read>(
     name: &[u8],
     room: &mut [u8],
     from: usize,
-) -> Loaded
+) -> Result<Option<usize>, u64>
     ensures { Loads (length room.old) result }
 {
-    let f = front_files::fill(file, room, from);
-    match f {
-        Filled::To(n) => Loaded::To(n),
-        Filled::Full => Loaded::Full,
-        Filled::Failed(error) => {
+    match front_files::fill(file, room, from) {
+        Ok(filled) => Ok(filled),
+        Err(error) => {
             saying::fail(rt, name, &error);
-            Loaded::Status(front_choices::IO_FAILED)
+            Err(front_choices::IO_FAILED)
         }
     }
 }
 
 // Reads a file to its end, after the first `from` bytes of a room. What fails is said.
-pub fn load(rt: &HostRuntime, name: &[u8], room: &mut [u8], from: usize) -> Loaded
+pub fn load(
+    rt: &HostRuntime,
+    name: &[u8],
+    room: &mut [u8],
+    from: usize,
+) -> Result<Option<usize>, u64>
     ensures { Loads (length room.old) result }
 {
     if buffer::equal(name, b"-") {
@@ -65,7 +62,7 @@ pub fn load(rt: &HostRuntime, name: &[u8], room: &mut [u8], from: usize) -> Load
         Ok(mut file) => read(rt, &mut file, name, room, from),
         Err(error) => {
             saying::fail(rt, name, &error);
-            Loaded::Status(front_choices::NO_INPUT)
+            Err(front_choices::NO_INPUT)
         }
     }
 }
@@ -80,21 +77,25 @@ pub fn first_place(block: &[u8], k: usize) -> usize {
 }
 
 // Reads one more file after the first `at` bytes of a room, from a new line on.
-fn join(rt: &HostRuntime, name: &[u8], room: &mut [u8], at: usize) -> Loaded
+fn join(rt: &HostRuntime, name: &[u8], room: &mut [u8], at: usize) -> Result<Option<usize>, u64>
     ensures { Loads (length room.old) result }
 {
     if room.len() < at {
-        return Loaded::Full;
+        return Ok(None);
     }
-    let s = front_files::separate(room, at);
-    let Filled::To(from) = s else {
-        return Loaded::Full;
+    let Some(from) = front_files::separate(room, at) else {
+        return Ok(None);
     };
     load(rt, name, room, from)
 }
 
 // Reads the files that the words of a block from number `first` on name, joined; standard input where there are none.
-pub fn load_lines(rt: &HostRuntime, block: &[u8], first: usize, room: &mut [u8]) -> Loaded
+pub fn load_lines(
+    rt: &HostRuntime,
+    block: &[u8],
+    first: usize,
+    room: &mut [u8],
+) -> Result<Option<usize>, u64>
     ensures { Loads (length room.old) result }
 {
     let mut place = first_place(block, first);
@@ -105,12 +106,11 @@ pub fn load_lines(rt: &HostRuntime, block: &[u8], first: usize, room: &mut [u8])
     while place < block.len() {
         let w = front_words::word_at(block, place);
         let end = w.end;
-        let f = join(rt, &block[place..end], room, at);
-        let Loaded::To(n) = f else {
-            return f;
+        let Some(n) = join(rt, &block[place..end], room, at)? else {
+            return Ok(None);
         };
         at = n;
         place = w.next;
     }
-    Loaded::To(at)
+    Ok(Some(at))
 }

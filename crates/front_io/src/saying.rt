@@ -1,9 +1,7 @@
 // What the program writes: its results to standard output, and what it says to standard error.
 ghost use Rattle.std.specs.Prelude.{◌+◌, ◌≤◌, ◌<◌, ◌^◌, length};
 
-use std::fmt;
-use std::fmt::Write;
-use std::io::Error;
+use std::io::{Error, Write};
 
 // Bytes of a file's name, a word or a reason that are said: more would not fit a message.
 const NAME: usize = 4096;
@@ -19,42 +17,16 @@ pub fn say(rt: &HostRuntime, text: &[u8]) {
     let _ = front_files::write_whole(&mut rt.stderr(), text);
 }
 
-// A reason as it is written: its bytes so far.
-#[derive(Drop)]
-struct Reason {
-    bytes: [u8; REASON],
-    size: usize,
-}
-
-impl fmt::Write for Reason {
-    fn write_str(&mut self, text: &str) -> fmt::Result {
-        let more = text.as_bytes();
-        let from = self.size;
-        if REASON < from {
-            return Err(fmt::Error);
-        }
-        if REASON - from < more.len() {
-            return Err(fmt::Error);
-        }
-        let to = from + more.len();
-        self.bytes[from..to].copy_from_slice(more);
-        self.size = to;
-        Ok(())
-    }
-}
-
 // Returns where a reason ends: the number of the system's error, in parentheses, is left out.
 fn reason_end(reason: &[u8]) -> usize
     ensures { result ≤ length reason.now }
 {
-    let mut end: usize = 0;
-    while end < reason.len() {
+    for end in 0..reason.len() {
         if reason[end..].starts_with(b" (os error ") {
             return end;
         }
-        end += 1;
     }
-    end
+    reason.len()
 }
 
 // Writes why a call failed, in the system's words, from byte k on; returns the index after it.
@@ -62,17 +34,12 @@ fn put_reason(room: &mut [u8], k: usize, error: &Error) -> usize
     requires { k < 2 ^ 32 }
     ensures { result ≤ k + 512 }
 {
-    let mut reason = Reason {
-        bytes: [0; REASON],
-        size: 0,
-    };
-    let _ = write!(reason, "{error}");
-    let size = reason.size;
-    if REASON < size {
-        return k;
-    }
-    let end = reason_end(&reason.bytes[0..size]);
-    front_lines::put_text(room, k, &reason.bytes[0..end])
+    let mut reason = [0u8; REASON];
+    let mut rest = reason.as_mut_slice();
+    let _ = write!(rest, "{error}");
+    let size = REASON.saturating_sub(rest.len());
+    let end = reason_end(&reason[0..size]);
+    front_lines::put_text(room, k, &reason[0..end])
 }
 
 // Says why a call of the system failed, in the system's words, and on what. A name that is too long is left out.

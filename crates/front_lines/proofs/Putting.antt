@@ -44,11 +44,11 @@ module _ (room₀ : List ℕ) (k : ℕ) (text : List ℕ) where
       ∙ ap (with_all room (k + i)) (drop-next text i h)
       ∙ ap₂ (λ (l : List ℕ) (n : ℕ). with_all l n (drop (i + 1) text)) (sym f) z
 
-  pub put-end : (room : List ℕ) (i : ℕ) → length text ≤ i → i ≤ length text → with_all room₀ k text ≡ with_all room (k + i) (drop i text)
-      → Puts room₀ k text (k + i) room
+  pub put-end : (room : List ℕ) (i : ℕ) → length text ≤ i → with_all room₀ k text ≡ with_all room (k + i) (drop i text)
+      → Puts room₀ k text (k + length text) room
   unfolding with_all
-  put-end room i h m e = record {
-    count = omega arith;
+  put-end room i h e = record {
+    count = refl;
     same = sym (e ∙ ap (with_all room (k + i)) (drop_of_length-le text {i = i} h));
   }
 

@@ -42,10 +42,8 @@ fn put_shown(room: &mut [u8], k: usize, s: &[u8]) -> usize
         × (result ≤ k + 4 * length s.now) }
 {
     let mut n = k;
-    let mut i: usize = 0;
-    while i < s.len() {
-        n = put_shown_byte(room, n, s[i]);
-        i += 1;
+    for b in s {
+        n = put_shown_byte(room, n, *b);
     }
     n
 }
@@ -57,10 +55,8 @@ fn put_blanks(room: &mut [u8], k: usize, s: &[u8]) -> usize
         × (result ≤ k + 4 * length s.now) }
 {
     let mut n = k;
-    let mut i: usize = 0;
-    while i < s.len() {
-        n = put_blank_byte(room, n, s[i]);
-        i += 1;
+    for b in s {
+        n = put_blank_byte(room, n, *b);
     }
     n
 }

@@ -8,12 +8,10 @@ pub fn put_text(room: &mut [u8], k: usize, text: &[u8]) -> usize
     requires { k + length text.now < 2 ^ 64 }
     ensures { Puts room.old k text.now result room.new }
 {
-    let mut i: usize = 0;
-    while i < text.len() {
-        varint::put_byte(room, k + i, text[i]);
-        i += 1;
+    for (i, b) in text.iter().enumerate() {
+        varint::put_byte(room, k + i, *b);
     }
-    k + i
+    k + text.len()
 }
 
 // Writes a number's decimal digits from byte k on; returns the index after them.

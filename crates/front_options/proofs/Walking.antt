@@ -14,11 +14,10 @@ use Rattle.front_words.specs.Walk.{Ends}
 use Rattle.front_words.specs.declared.words.WordEnd.{WordEnd}
 use Rattle.front_options.specs.Kinds.{option_words, number_in, kind_of}
 use Rattle.front_options.specs.Reading.{step_of, read_from}
-use Rattle.front_options.specs.Given.{one, given_count}
 use Rattle.front_options.specs.Budgets.{with_digit, further, digits_from, budget_of}
+use Rattle.front_options.specs.declared.options.Kind.TheVariants.{Known, Operand, Unknown}
 use Rattle.front_options.specs.declared.options.Options.{Options}
-use Rattle.front_options.specs.declared.budgets.Budget.{Budget}
-use Rattle.front_options.specs.declared.budgets.Budget.TheVariants.{Steps, Bad}
+use Rattle.std.proofs.Math.Option.{Option, some, none}
 
 -- no words where the block ends
 words-none : (block : List ℕ) (at : ℕ) → length block ≤ at → words_of (drop at block) ≡ []
@@ -57,19 +56,9 @@ pub read-end : (block : List ℕ) (at k : ℕ) (o : Options) {all : Options} →
 unfolding read_from
 read-end block at k o h a = sym (a ∙ ap (read_from o k) (words-none block at h))
 
--- ---- how many are given
-
-pub given-next : (l : List ℕ) (i : ℕ) → i < length l → given_count (drop i l) ≡ one (get_or l i 0) + given_count (drop (i + 1) l)
-unfolding given_count
-given-next l i h = ap given_count (drop-next l i h)
-
-pub given-end : (l : List ℕ) (i : ℕ) → length l ≤ i → given_count (drop i l) ≡ 0
-unfolding given_count
-given-end l i h = ap given_count (drop_of_length-le l {i = i} h)
-
 -- ---- the digits of a budget
 
-pub budget-none : (l : List ℕ) → length l ≡ 0 → Bad ≡ budget_of l
+pub budget-none : (l : List ℕ) → length l ≡ 0 → none ≡ budget_of l
 unfolding budget_of
 budget-none [] h = refl
 budget-none (b ∷ l) h = absurd (omega arith)
@@ -79,18 +68,18 @@ unfolding budget_of
 budget-some [] h = absurd (h refl)
 budget-some (b ∷ l) h = refl
 
-module _ (l : List ℕ) (i : ℕ) (h : i < length l) (v : ℕ) {all : Budget} (e : all ≡ digits_from (drop i l) v) where
+module _ (l : List ℕ) (i : ℕ) (h : i < length l) (v : ℕ) {all : Option ℕ} (e : all ≡ digits_from (drop i l) v) where
   on : all ≡ further (with_digit v (get_or l i 0)) (digits_from (drop (i + 1) l))
   unfolding digits_from
   on = e ∙ ap (λ (x : List ℕ). digits_from x v) (drop-next l i h)
 
-  pub digit-bad : Bad ≡ with_digit v (get_or l i 0) → Bad ≡ all
-  digit-bad f = sym (on ∙ ap (λ (b : Budget). further b (digits_from (drop (i + 1) l))) (sym f))
+  pub digit-bad : none ≡ with_digit v (get_or l i 0) → none ≡ all
+  digit-bad f = sym (on ∙ ap (λ (x : Option ℕ). further x (digits_from (drop (i + 1) l))) (sym f))
 
-  pub digit-on : {n : ℕ} → Steps n ≡ with_digit v (get_or l i 0) → all ≡ digits_from (drop (i + 1) l) n
-  digit-on f = on ∙ ap (λ (b : Budget). further b (digits_from (drop (i + 1) l))) (sym f)
+  pub digit-on : {n : ℕ} → some n ≡ with_digit v (get_or l i 0) → all ≡ digits_from (drop (i + 1) l) n
+  digit-on f = on ∙ ap (λ (x : Option ℕ). further x (digits_from (drop (i + 1) l))) (sym f)
 
-pub digit-end : (l : List ℕ) (i v : ℕ) {all : Budget} → length l ≤ i → all ≡ digits_from (drop i l) v → Steps v ≡ all
+pub digit-end : (l : List ℕ) (i v : ℕ) {all : Option ℕ} → length l ≤ i → all ≡ digits_from (drop i l) v → some v ≡ all
 unfolding digits_from
 digit-end l i v h e = sym (e ∙ ap (λ (x : List ℕ). digits_from x v) (drop_of_length-le l {i = i} h))
 
@@ -109,20 +98,20 @@ module _ (w : List ℕ) {n : ℕ} (e : n ≡ number_in (words_of (block option_w
   number_is : n ≡ number_in option_words w
   number_is = e ∙ ap (λ (ws : List (List ℕ)). number_in ws w) options-are
 
-  pub kind-option : n < 10 → n ≡ kind_of w
+  pub kind-option : n < 10 → Known n ≡ kind_of w
   unfolding kind_of
-  kind-option h = number_is ∙ rw (lt-ltb (number_in option_words w) 10 (omega (arith, number_is)))
+  kind-option h = ap (λ (x : ℕ). Known x) number_is ∙ rw (lt-ltb (number_in option_words w) 10 (omega (arith, number_is)))
 
-  pub kind-short : 10 ≤ n → length w < 2 → 10 ≡ kind_of w
+  pub kind-short : 10 ≤ n → length w < 2 → Operand ≡ kind_of w
   unfolding kind_of
   kind-short h m = rw (le-ltb (number_in option_words w) 10 (omega (arith, number_is)), lt-ltb (length w) 2 m)
 
-  pub kind-unknown : 10 ≤ n → 2 ≤ length w → get_or w 0 0 ≡ 45 → 11 ≡ kind_of w
+  pub kind-unknown : 10 ≤ n → 2 ≤ length w → get_or w 0 0 ≡ 45 → Unknown ≡ kind_of w
   unfolding kind_of
   kind-unknown h m d =
       rw (le-ltb (number_in option_words w) 10 (omega (arith, number_is)), le-ltb (length w) 2 m, eq-eqb (get_or w 0 0) 45 d)
 
-  pub kind-plain : 10 ≤ n → 2 ≤ length w → (get_or w 0 0 ≡ 45 → ⊥) → 10 ≡ kind_of w
+  pub kind-plain : 10 ≤ n → 2 ≤ length w → (get_or w 0 0 ≡ 45 → ⊥) → Operand ≡ kind_of w
   unfolding kind_of
   kind-plain h m d =
       rw (le-ltb (number_in option_words w) 10 (omega (arith, number_is)), le-ltb (length w) 2 m, ne_eqb (get_or w 0 0) 45 d)

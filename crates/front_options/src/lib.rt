@@ -4,5 +4,5 @@
 mod budgets;
 pub mod options;
 
-pub use budgets::{Budget, read_budget};
-pub use options::{Options, read_options};
+pub use budgets::read_budget;
+pub use options::{Options, Stage, read_options};

@@ -1,32 +1,39 @@
 // The options that the words of a command line give.
 ghost use Rattle.std.specs.Prelude.{◌≡◌, ◌<◌, ◌≤◌, length};
 ghost use Rattle.front_words.specs.Words.{words_of};
-ghost use Rattle.front_options.specs.Kinds.{number_in, kind_of};
+ghost use Rattle.front_options.specs.Kinds.{number_in, kind_of, Listed};
 ghost use Rattle.front_options.specs.Reading.{started, taken, refused, with_operand, with_option, option_in, step_of, options_of};
 
-// What was read so far. `stage` is the number of the option whose argument is the next word, or one of the stages
-// below. `operand` is the number of the first word that is no option, or of the word that is refused. Entry o of
-// `given` is the number of the argument of option o, or of the option itself where it takes none. Words are numbered
-// from 1; 0 is none.
+// What the next word may be: an option, the argument of the option with this number, or an operand; or a word is
+// refused.
+#[derive(Clone, Copy, PartialEq, Eq)]
+pub enum Stage {
+    Ready,
+    Argument(usize),
+    Operands,
+    Refused,
+}
+
+// What was read so far. `operand` is the number of the first word that is no option, or of the word that is refused.
+// Entry o of `given` is the number of the argument of option o, or of the option itself where it takes none. Words are
+// numbered from 1; 0 is none.
 #[derive(Clone, Copy)]
 pub struct Options {
-    pub stage: usize,
+    pub stage: Stage,
     pub operand: usize,
     pub given: [usize; 10],
 }
 
-// The stages beside those of an option that waits for its argument: an option may come, operands follow, a word is
-// refused.
-pub const READY: usize = 10;
+// What a word is: the option with this number, no option, or an option that there is not.
+#[derive(Clone, Copy, PartialEq, Eq)]
+enum Kind {
+    Known(usize),
+    Operand,
+    Unknown,
+}
 
-pub const OPERANDS: usize = 11;
-
-pub const REFUSED: usize = 12;
-
-// The kinds of a word beside the numbers of options.
-const OPERAND: usize = 10;
-
-const UNKNOWN: usize = 11;
+// How many options there are.
+const OPTIONS: usize = 10;
 
 // The first option that takes an argument.
 const WITH_ARGUMENT: usize = 4;
@@ -49,24 +56,24 @@ fn number_in(block: &[u8], word: &[u8]) -> usize
     k
 }
 
-// Returns the kind of a word: the number of the option that it is, or that it is an operand, or unknown.
-fn kind_of(word: &[u8]) -> usize
-    ensures { (result ≡ kind_of word.now) × (result < 12) }
+// Returns the kind of a word.
+fn kind_of(word: &[u8]) -> Kind
+    ensures { (result ≡ kind_of word.now) × Listed result }
 {
     let n = number_in(
         b"--\0-s\0-h\0-V\0-b\0-f\0-i\0-o\0--check\0--content\0",
         word,
     );
-    if n < OPERAND {
-        return n;
+    if n < OPTIONS {
+        return Kind::Known(n);
     }
     if word.len() < 2 {
-        return OPERAND;
+        return Kind::Operand;
     }
     if word[0] == b'-' {
-        return UNKNOWN;
+        return Kind::Unknown;
     }
-    OPERAND
+    Kind::Operand
 }
 
 // Returns the options of no words.
@@ -74,23 +81,24 @@ fn start() -> Options
     ensures { result ≡ started }
 {
     Options {
-        stage: READY,
+        stage: Stage::Ready,
         operand: 0,
-        given: [0, 0, 0, 0, 0, 0, 0, 0, 0, 0],
+        given: [0; 10],
     }
 }
 
-// Notes word k as that of an option.
+// Notes word k as that of an option, if there is one with this number.
 fn take(o: Options, k: usize, option: usize) -> Options
-    requires { option < 10 }
     ensures { result ≡ taken o k option }
 {
     let mut given = o.given;
-    given[option] = k;
+    if option < OPTIONS {
+        given[option] = k;
+    }
     Options {
-        stage: READY,
-        operand: o.operand,
+        stage: Stage::Ready,
         given,
+        ..o
     }
 }
 
@@ -98,11 +106,10 @@ fn take(o: Options, k: usize, option: usize) -> Options
 fn refuse(o: Options, k: usize) -> Options
     ensures { result ≡ refused o k }
 {
-    let given = o.given;
     Options {
-        stage: REFUSED,
+        stage: Stage::Refused,
         operand: k,
-        given,
+        ..o
     }
 }
 
@@ -111,11 +118,10 @@ fn operand_in(o: Options, k: usize) -> Options
     ensures { result ≡ with_operand o k }
 {
     if o.operand == 0 {
-        let given = o.given;
         return Options {
-            stage: OPERANDS,
+            stage: Stage::Operands,
             operand: k,
-            given,
+            ..o
         };
     }
     o
@@ -134,49 +140,37 @@ fn known(o: Options, k: usize, option: usize) -> Options
         return take(o, k, option);
     }
     Options {
-        stage: option,
-        operand: o.operand,
-        given,
+        stage: Stage::Argument(option),
+        ..o
     }
 }
 
 // Takes word k of a kind where an option may be.
-fn option_in(o: Options, k: usize, kind: usize) -> Options
-    requires { kind < 12 }
+fn option_in(o: Options, k: usize, kind: Kind) -> Options
+    requires { Listed kind }
     ensures { result ≡ option_in o k kind }
 {
-    if kind == OPERAND {
-        return operand_in(o, k);
+    match kind {
+        Kind::Operand => operand_in(o, k),
+        Kind::Unknown => refuse(o, k),
+        Kind::Known(0) => Options {
+            stage: Stage::Operands,
+            ..o
+        },
+        Kind::Known(option) => known(o, k, option),
     }
-    if kind == UNKNOWN {
-        return refuse(o, k);
-    }
-    if kind == 0 {
-        let given = o.given;
-        return Options {
-            stage: OPERANDS,
-            operand: o.operand,
-            given,
-        };
-    }
-    known(o, k, kind)
 }
 
 // Takes word k.
 fn step(o: Options, k: usize, word: &[u8]) -> Options
     ensures { result ≡ step_of o k word.now }
 {
-    let stage = o.stage;
-    if stage < READY {
-        return take(o, k, stage);
+    match o.stage {
+        Stage::Argument(option) => take(o, k, option),
+        Stage::Ready => option_in(o, k, kind_of(word)),
+        Stage::Operands => operand_in(o, k),
+        Stage::Refused => o,
     }
-    if stage == READY {
-        return option_in(o, k, kind_of(word));
-    }
-    if stage == OPERANDS {
-        return operand_in(o, k);
-    }
-    o
 }
 
 // Returns the options of the words of a block, the first of which is word 1.

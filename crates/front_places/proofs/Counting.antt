@@ -1,4 +1,4 @@
--- Newlines, and bytes since the last one, counted from the front of a text.
+-- Bytes since the last newline, counted from the front of a text.
 use mathlib.Core.Path.{◌≡◌, sym, ap, ◌∙◌}
 use mathlib.Core.Bool.{cond}
 use mathlib.Core.List.{List}
@@ -6,16 +6,7 @@ use Prim.Native.Nat.{ℕ, ◌+◌, ◌≤◌, ◌<◌}
 use lib.ListN.{length, drop, get_or, drop_of_length-le}
 use lib.Dec.{eqb}
 use Rattle.buffer.proofs.Parts.{drop-next}
-use Rattle.front_places.specs.Places.{NEWLINE, newlines, since_newline}
-
-pub newlines-next : (s : List ℕ) (i : ℕ) → i < length s
-    → newlines (drop i s) ≡ cond (eqb (get_or s i 0) NEWLINE) 1 0 + newlines (drop (i + 1) s)
-unfolding newlines
-newlines-next s i h = ap newlines (drop-next s i h)
-
-pub newlines-end : (s : List ℕ) (i : ℕ) → length s ≤ i → newlines (drop i s) ≡ 0
-unfolding newlines
-newlines-end s i h = ap newlines (drop_of_length-le s {i = i} h)
+use Rattle.front_places.specs.Places.{NEWLINE, since_newline}
 
 pub since-next : (s : List ℕ) (i n r : ℕ) → i < length s → since_newline 0 s ≡ since_newline n (drop i s)
     → r ≡ cond (eqb (get_or s i 0) NEWLINE) 0 (n + 1) → since_newline 0 s ≡ since_newline r (drop (i + 1) s)

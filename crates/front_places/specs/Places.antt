@@ -1,5 +1,5 @@
 -- Internal: cited by private contracts only. Places of a text: the line and the column of a byte, both from 1.
-use Rattle.std.specs.Prelude.{ℕ, ◌+◌, ◌-◌, cond, List, [], ◌∷◌, take, drop, eqb}
+use Rattle.std.specs.Prelude.{ℕ, ◌+◌, ◌-◌, cond, List, [], ◌∷◌, take, drop, eqb, ◌==◌, count_by}
 use Rattle.buffer.specs.First.{first_byte}
 use Rattle.buffer.specs.Parts.{part}
 
@@ -7,9 +7,8 @@ abbrev pub NEWLINE : ℕ
 NEWLINE = 10
 
 -- how many newlines a text has
-unfoldable pub newlines : List ℕ → ℕ
-newlines [] = 0
-newlines (b ∷ t) = cond (eqb b NEWLINE) 1 0 + newlines t
+abbrev pub newlines : List ℕ → ℕ
+newlines = count_by (λ b. b == NEWLINE)
 
 -- how many bytes come after the last newline; where there is none, n more than the text has
 unfoldable pub since_newline : ℕ → List ℕ → ℕ

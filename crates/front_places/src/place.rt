@@ -2,24 +2,11 @@
 ghost use Rattle.std.specs.Prelude.{◌≡◌, cond, ◌+◌, ◌≤◌, ◌<◌, ◌^◌, length, eqb};
 ghost use Rattle.front_places.specs.Places.{NEWLINE, newlines, since_newline, line_at, column_at};
 
-// Returns 1 for a newline and 0 for any other byte.
-fn newline(b: u8) -> usize
-    ensures { (result ≡ cond (eqb b NEWLINE) 1 0) × (result ≤ 1) }
-{
-    if b == b'\n' { 1 } else { 0 }
-}
-
 // Counts the newlines of a text.
 fn count_newlines(s: &[u8]) -> usize
     ensures { (result ≡ newlines s.now) × (result ≤ length s.now) }
 {
-    let mut n: usize = 0;
-    let mut i: usize = 0;
-    while i < s.len() {
-        n += newline(s[i]);
-        i += 1;
-    }
-    n
+    s.iter().filter(|b| **b == b'\n').count()
 }
 
 // Counts the bytes since the last newline by one byte more.
@@ -35,10 +22,8 @@ pub fn since_newline(s: &[u8]) -> usize
     ensures { (result ≡ since_newline 0 s.now) × (result ≤ length s.now) }
 {
     let mut n: usize = 0;
-    let mut i: usize = 0;
-    while i < s.len() {
-        n = since(n, s[i]);
-        i += 1;
+    for b in s {
+        n = since(n, *b);
     }
     n
 }

@@ -11,7 +11,7 @@ const COLUMNS: usize = 77;
 const BEFORE_CARET: usize = 38;
 
 // The bytes of a text that are shown around a place: from `from` to the place, and from it to `to`.
-#[derive(Drop)]
+#[derive(Clone, Copy)]
 pub struct Window {
     pub from: usize,
     pub to: usize,
@@ -37,10 +37,8 @@ pub fn columns(s: &[u8]) -> usize
     ensures { (result ≡ columns_of s.now) × (result ≤ 4 * length s.now) }
 {
     let mut n: usize = 0;
-    let mut i: usize = 0;
-    while i < s.len() {
-        n += width(s[i]);
-        i += 1;
+    for b in s {
+        n += width(*b);
     }
     n
 }
@@ -51,15 +49,13 @@ fn left_out(s: &[u8], all: usize, most: usize) -> usize
     ensures { (result ≡ left_out most s.now) × (result ≤ length s.now) }
 {
     let mut rest = all;
-    let mut i: usize = 0;
-    while i < s.len() {
+    for (i, b) in s.iter().enumerate() {
         if rest <= most {
             return i;
         }
-        rest -= width(s[i]);
-        i += 1;
+        rest -= width(*b);
     }
-    i
+    s.len()
 }
 
 // Counts the bytes at the front of s that fit `most` columns.
@@ -67,16 +63,14 @@ fn fit(s: &[u8], most: usize) -> usize
     ensures { (result ≡ fitting most s.now) × (result ≤ length s.now) }
 {
     let mut rest = most;
-    let mut i: usize = 0;
-    while i < s.len() {
-        let w = width(s[i]);
+    for (i, b) in s.iter().enumerate() {
+        let w = width(*b);
         if rest < w {
             return i;
         }
         rest -= w;
-        i += 1;
     }
-    i
+    s.len()
 }
 
 // Counts the bytes that are left out at a line's front, which is cut in two by a place.
@@ -91,20 +85,13 @@ fn omit(before: &[u8], behind: &[u8]) -> usize
     left_out(before, all, BEFORE_CARET)
 }
 
-// Returns the columns that are left beside those taken.
-fn columns_left(taken: usize) -> usize
-    ensures { result ≡ COLUMNS - taken }
-{
-    if taken <= COLUMNS { COLUMNS - taken } else { 0 }
-}
-
 // Counts the bytes that are shown from a place on, in the columns that what is shown before it leaves.
 fn fit_behind(before: &[u8], behind: &[u8]) -> usize
     requires { length before.now < 2 ^ 32 }
     ensures { (result ≡ fitting (COLUMNS - columns_of before.now) behind.now)
         × (result ≤ length behind.now) }
 {
-    fit(behind, columns_left(columns(before)))
+    fit(behind, COLUMNS.saturating_sub(columns(before)))
 }
 
 // Returns the part of a text that is shown around a place.

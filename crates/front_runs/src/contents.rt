@@ -1,28 +1,25 @@
 // The content of an image, a word on a line.
 use crate::images;
-use crate::images::Made;
 use edition::Outcome;
-use front_files::Filled;
-use image::Copied;
+use image::CopyError;
 
 // The bytes of a line: the digits of a word and the newline.
 const LINE: usize = 21;
 
-// Writes the digits of each word and a newline to a room. Returns how many bytes they are, unless they do not fit.
-fn put_words(room: &mut [u8], words: &[u64]) -> Filled {
+// Writes the digits of each word and a newline to a room. Returns how many bytes they are, or `None` where they do not
+// fit.
+fn put_words(room: &mut [u8], words: &[u64]) -> Option<usize> {
     let size = room.len();
     let mut k: usize = 0;
-    let mut i: usize = 0;
-    while i < words.len() {
+    for word in words {
         if size - k < LINE {
-            return Filled::Full;
+            return None;
         }
-        let end = front_lines::put_decimal(room, k, words[i]);
+        let end = front_lines::put_decimal(room, k, *word);
         varint::put_byte(room, end, b'\n');
         k = end + 1;
-        i += 1;
     }
-    Filled::To(k)
+    Some(k)
 }
 
 // Prints the first n words, by way of a room for their lines, and returns the status.
@@ -30,8 +27,7 @@ fn print_words(rt: &HostRuntime, words: &[u64], n: usize, lines: &mut [u8]) -> u
     if words.len() < n {
         return front_choices::IO_FAILED;
     }
-    let f = put_words(lines, &words[0..n]);
-    let Filled::To(end) = f else {
+    let Some(end) = put_words(lines, &words[0..n]) else {
         front_io::refuse_size(rt, lines.len());
         return front_choices::IO_FAILED;
     };
@@ -44,12 +40,6 @@ fn print_words(rt: &HostRuntime, words: &[u64], n: usize, lines: &mut [u8]) -> u
     front_choices::IO_FAILED
 }
 
-// Refuses an image with an outcome, which is said, and returns the status.
-fn refuse(rt: &HostRuntime, name: &[u8], outcome: u64) -> u64 {
-    front_io::refuse_image(rt, name, outcome);
-    front_choices::status_of(outcome)
-}
-
 // Prints the content of an image file, and returns the status. A refusal is said.
 pub fn print_content(
     rt: &HostRuntime,
@@ -58,10 +48,9 @@ pub fn print_content(
     words: &mut [u64],
     lines: &mut [u8],
 ) -> u64 {
-    let m = images::load(rt, name, image);
-    match m {
-        Made::Status(s) => s,
-        Made::Image(n) => print_image(rt, name, image, n, words, lines),
+    match images::load(rt, name, image) {
+        Ok(n) => print_image(rt, name, image, n, words, lines),
+        Err(status) => status,
     }
 }
 
@@ -77,10 +66,9 @@ fn print_image(
     if image.len() < n {
         return front_choices::IO_FAILED;
     }
-    let c = image::read(&image[0..n], words);
-    match c {
-        Copied::Written(count) => print_words(rt, words, count, lines),
-        Copied::Malformed => refuse(rt, name, Outcome::IMAGE_MALFORMED),
-        Copied::NoRoom => refuse(rt, name, Outcome::ROOM_TOO_SMALL),
+    match image::read(&image[0..n], words) {
+        Ok(count) => print_words(rt, words, count, lines),
+        Err(CopyError::Malformed) => images::refuse(rt, name, Outcome::IMAGE_MALFORMED),
+        Err(CopyError::NoRoom) => images::refuse(rt, name, Outcome::ROOM_TOO_SMALL),
     }
 }

@@ -8,5 +8,5 @@ mod running;
 
 pub use contents::print_content;
 pub use growing::run_files_growing;
-pub use images::{Made, load_checked, translate, translate_file, write};
+pub use images::{load_checked, translate, translate_file, write};
 pub use running::run_files;

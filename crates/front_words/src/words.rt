@@ -3,14 +3,14 @@ ghost use Rattle.std.specs.Prelude.{◌≤◌, ◌<◌, length};
 ghost use Rattle.front_words.specs.Walk.{Ends, SpanOf};
 
 // Where a word ends, and where the next one starts.
-#[derive(Drop)]
+#[derive(Clone, Copy)]
 pub struct WordEnd {
     pub end: usize,
     pub next: usize,
 }
 
 // The bytes from `start` to `end`.
-#[derive(Drop)]
+#[derive(Clone, Copy)]
 pub struct Span {
     pub start: usize,
     pub end: usize,
@@ -48,14 +48,12 @@ pub fn find_word(block: &[u8], k: usize) -> Span
     ensures { SpanOf block.now 0 k result }
 {
     let mut at: usize = 0;
-    let mut left = k;
-    while 0 < left {
+    for _passed in 0..k {
         if block.len() <= at {
             return Span { start: at, end: at };
         }
         let w = word_at(block, at);
         at = w.next;
-        left -= 1;
     }
     span_at(block, at)
 }

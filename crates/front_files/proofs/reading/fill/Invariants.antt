@@ -2,8 +2,5 @@
 use Rattle.std.proofs.Common.{◌≡◌, ◌≤◌, length, take}
 use Rattle.front_files.proofs.reading.fill.Given as goal
 
-abbrev pub invariant-loop-turns : goal.invariant-loop-turns
-invariant-loop-turns g l = (length l.room ≡ length l.initial.room) × (l.size ≡ length l.initial.room) × (l.from ≤ l.at) × (take l.from l.room ≡ take l.from l.initial.room)
-
-abbrev pub decreases-loop-turns : goal.decreases-loop-turns
-decreases-loop-turns g l = l.turns
+abbrev pub invariant-loop : goal.invariant-loop
+invariant-loop g l = (length l.room ≡ length l.initial.room) × (l.size ≡ length l.initial.room) × (l.from ≤ l.at) × (take l.from l.room ≡ take l.from l.initial.room)

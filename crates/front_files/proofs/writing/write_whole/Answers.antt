@@ -5,9 +5,9 @@ use Rattle.std.specs.Io.KnownBytes.{Appends}
 use Rattle.std.proofs.KnownBytes.{Appends-trans}
 use Rattle.front_files.proofs.writing.write_whole.Goals as goal
 
-pub loop-turns-preserved : goal.loop-turns-preserved
-loop-turns-preserved g c = (
-  omega (arith, c.in-More.ensures.inside, c.loop-turns.invariant.0),
-  subst (Appends _ _) (sym (take-add c.loop-turns.at c.in-More.n c.args.bytes.now))
-      (Appends-trans _ _ _ _ _ c.loop-turns.invariant.1 c.in-More.ensures.taken),
+pub loop-preserved : goal.loop-preserved
+loop-preserved g c = (
+  omega (arith, c.in_ok-at.ensures.inside, c.loop.invariant.0),
+  subst (Appends _ _) (sym (take-add c.loop.at c.in_ok-at.field-0 c.args.bytes.now))
+      (Appends-trans _ _ _ _ _ c.loop.invariant.1 c.in_ok-at.ensures.taken),
 )

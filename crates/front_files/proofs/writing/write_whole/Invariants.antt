@@ -3,8 +3,5 @@ use Rattle.std.proofs.Common.{◌≤◌, length, take}
 use Rattle.std.specs.Io.KnownBytes.{Appends}
 use Rattle.front_files.proofs.writing.write_whole.Given as goal
 
-abbrev pub invariant-loop-turns : goal.invariant-loop-turns
-invariant-loop-turns g l = (l.at ≤ length l.bytes) × Appends (g.W.Write.contents l.initial.file) (g.W.Write.contents l.file) (take l.at l.bytes)
-
-abbrev pub decreases-loop-turns : goal.decreases-loop-turns
-decreases-loop-turns g l = l.turns
+abbrev pub invariant-loop : goal.invariant-loop
+invariant-loop g l = (l.at ≤ length l.bytes) × Appends (g.W.Write.contents l.initial.file) (g.W.Write.contents l.file) (take l.at l.bytes)

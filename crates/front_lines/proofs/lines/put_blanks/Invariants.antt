@@ -1,13 +1,10 @@
 -- `put_blanks`: what is written, and what is left as it is spelled, are the list as it is spelled.
 use mathlib.Core.Path.{◌≡◌}
-use Prim.Native.Nat.{◌+◌, ◌*◌, ◌-◌, ◌≤◌}
+use Prim.Native.Nat.{◌+◌, ◌*◌, ◌≤◌}
 use lib.ListN.{length}
 use Rattle.front_places.specs.Shown.{blank_byte}
 use Rattle.front_lines.proofs.Putting.{Spelling}
 use Rattle.front_lines.proofs.lines.put_blanks.Given as goal
 
-abbrev pub invariant-loop-i : goal.invariant-loop-i
-invariant-loop-i l = (l.i ≤ length l.s) × (length l.room ≡ length l.initial.room) × (l.n ≤ l.k + 4 * l.i) × Spelling blank_byte l.initial.room l.k l.s l.room l.n l.i
-
-abbrev pub decreases-loop-i : goal.decreases-loop-i
-decreases-loop-i l = length l.s - l.i
+abbrev pub invariant-loop-b : goal.invariant-loop-b
+invariant-loop-b l = (length l.room ≡ length l.initial.room) × (l.n ≤ l.k + 4 * l.b-index) × Spelling blank_byte l.initial.room l.k l.s l.room l.n l.b-index

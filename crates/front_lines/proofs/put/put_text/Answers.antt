@@ -8,24 +8,15 @@ use Rattle.front_lines.proofs.Putting.{put_next, put-end}
 use Rattle.front_lines.proofs.put.put_text.Goals as goal
 
 pub loop-i-init : goal.loop-i-init
-loop-i-init c = (omega arith, refl, ap (λ (n : ℕ). with_all c.args.room.now n c.args.text.now) (let z : c.args.k ≡ c.args.k + 0 = omega arith in z))
+loop-i-init c = (refl, ap (λ (n : ℕ). with_all c.args.room.now n c.args.text.now) (let z : c.args.k ≡ c.args.k + 0 = omega arith in z))
 
 pub overflow_add-k : goal.overflow_add-k
 overflow_add-k c = omega arith
 
-pub bounds-text-i : goal.bounds-text-i
-bounds-text-i c = omega arith
-
-pub overflow_add-i : goal.overflow_add-i
-overflow_add-i c = omega arith
-
-pub loop-i-smaller : goal.loop-i-smaller
-loop-i-smaller c = omega arith
-
 pub loop-i-preserved : goal.loop-i-preserved
 loop-i-preserved c =
     let a = c.args in
-    (omega arith, search rules, put_next a.room.now a.k a.text.now _ _ _ c.loop-i-test.true c.loop-i.invariant.2 c.put_byte.ensures)
+    (search rules, put_next a.room.now a.k a.text.now _ _ _ c.loop-i-test.true c.loop-i.invariant.1 c.put_byte.ensures)
 
 pub overflow_add-result : goal.overflow_add-result
 overflow_add-result c = omega arith
@@ -33,4 +24,4 @@ overflow_add-result c = omega arith
 pub returns : goal.returns
 returns c =
     let a = c.args in
-    put-end a.room.now a.k a.text.now _ _ c.loop-i-test.false c.loop-i.invariant.0 c.loop-i.invariant.2
+    put-end a.room.now a.k a.text.now _ _ c.loop-i-test.false c.loop-i.invariant.1

@@ -1,24 +1,25 @@
--- `option_in`, by its tests.
-use native.Mathlib.Omega.{arith}
+-- `option_in`, by the kind.
+use mathlib.Core.Path.{sym, ◌∙◌}
 use borrow.Author.Tests.{eq-eqb, ne_eqb}
 use Rattle.front_options.specs.Reading.{option_in}
 use Rattle.front_options.proofs.options.option_in.Goals as goal
 
-pub returns-then-kind-eq-OPERAND : goal.returns-then-kind-eq-OPERAND
+pub returns-in-Operand : goal.returns-in-Operand
 unfolding option_in
-returns-then-kind-eq-OPERAND c = simp (eq-eqb _ _ c.if-kind-eq-OPERAND.true) c.operand_in.ensures
+returns-in-Operand c = rw c.in-Operand.is c.operand_in.ensures
 
-pub returns-then-kind-eq-UNKNOWN : goal.returns-then-kind-eq-UNKNOWN
+pub returns-in-Unknown : goal.returns-in-Unknown
 unfolding option_in
-returns-then-kind-eq-UNKNOWN c = simp (ne_eqb _ _ c.if-kind-eq-OPERAND.false, eq-eqb _ _ c.if-kind-eq-UNKNOWN.true) c.refuse.ensures
+returns-in-Unknown c = rw c.in-Unknown.is c.refuse.ensures
 
-pub returns-then-kind-eq0 : goal.returns-then-kind-eq0
+pub returns-in-Known-eq0 : goal.returns-in-Known-eq0
 unfolding option_in
-returns-then-kind-eq0 c = simp (ne_eqb _ _ c.if-kind-eq-OPERAND.false, ne_eqb _ _ c.if-kind-eq-UNKNOWN.false, eq-eqb _ _ c.if-kind-eq0.true)
+returns-in-Known-eq0 c =
+    let k = c.in-Known-eq0 in
+    rw (k.is, eq-eqb k.field-0 0 (sym k.field-0-is ∙ k.field-0-test))
 
-pub known-requires : goal.known-requires
-known-requires c = omega (arith, c.if-kind-eq-OPERAND.false, c.if-kind-eq-UNKNOWN.false, c.if-kind-eq0.false)
-
-pub returns : goal.returns
+pub returns-in-Known : goal.returns-in-Known
 unfolding option_in
-returns c = simp (ne_eqb _ _ c.if-kind-eq-OPERAND.false, ne_eqb _ _ c.if-kind-eq-UNKNOWN.false, ne_eqb _ _ c.if-kind-eq0.false) c.known.ensures
+returns-in-Known c =
+    let k = c.in-Known in
+    rw (k.is, ne_eqb k.option 0 (λ e. k.option-test.1 (rw k.is e))) c.known.ensures

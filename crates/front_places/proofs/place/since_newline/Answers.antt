@@ -3,21 +3,12 @@ use native.Mathlib.Omega.{arith}
 use Rattle.front_places.proofs.Counting.{since-next, since-end}
 use Rattle.front_places.proofs.place.since_newline.Goals as goal
 
-pub bounds-s-i : goal.bounds-s-i
-bounds-s-i c = omega arith
-
 pub since-n-requires : goal.since-n-requires
 since-n-requires c = omega arith
 
-pub overflow_add-i : goal.overflow_add-i
-overflow_add-i c = omega arith
-
-pub loop-i-smaller : goal.loop-i-smaller
-loop-i-smaller c = omega arith
-
-pub loop-i-preserved : goal.loop-i-preserved
-loop-i-preserved c =
-    (omega arith, omega arith, since-next c.args.s.now _ _ _ c.loop-i-test.true c.loop-i.invariant.2 c.since-n.ensures.0)
+pub loop-b-preserved : goal.loop-b-preserved
+loop-b-preserved c =
+    (omega arith, since-next c.args.s.now _ _ _ c.loop-b-test.true c.loop-b.invariant.1 c.since-n.ensures.0)
 
 pub returns : goal.returns
-returns c = (omega (arith, c.loop-i.invariant.2, since-end c.args.s.now c.loop-i.i c.loop-i.n c.loop-i-test.false), omega arith)
+returns c = (omega (arith, c.loop-b.invariant.1, since-end c.args.s.now c.loop-b.b-index c.loop-b.n c.loop-b-test.false), omega arith)

@@ -6,4 +6,4 @@ use Rattle.front_places.proofs.shown.fit_behind.Goals as goal
 
 pub returns : goal.returns
 returns c =
-    (c.fit.ensures.0 ∙ ap (λ (n : ℕ). fitting n c.args.behind.now) (c.columns_left.ensures ∙ ap (λ (n : ℕ). COLUMNS - n) c.columns.ensures.0), c.fit.ensures.1)
+    (c.fit.ensures.0 ∙ ap (λ (n : ℕ). fitting n c.args.behind.now) (c.saturating_sub.ensures ∙ ap (λ (n : ℕ). COLUMNS - n) c.columns.ensures.0), c.fit.ensures.1)

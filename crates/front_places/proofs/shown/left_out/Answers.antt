@@ -8,17 +8,8 @@ returns-then-rest-most c =
     let a = c.args in
     (omega (arith, out-stop a.s.now a.most c.loop-i.i c.loop-i-test.true (omega arith)), omega arith)
 
-pub bounds-s-i : goal.bounds-s-i
-bounds-s-i c = omega arith
-
 pub overflow_sub-rest : goal.overflow_sub-rest
 overflow_sub-rest c = omega (arith, columns-next c.args.s.now c.loop-i.i c.loop-i-test.true, c.width-rest.ensures.0)
-
-pub overflow_add-i : goal.overflow_add-i
-overflow_add-i c = omega arith
-
-pub loop-i-smaller : goal.loop-i-smaller
-loop-i-smaller c = omega arith
 
 pub loop-i-preserved : goal.loop-i-preserved
 loop-i-preserved c =
@@ -26,7 +17,7 @@ loop-i-preserved c =
     let s = a.s.now in
     let h = columns-next s c.loop-i.i c.loop-i-test.true in
     let o = out-next s a.most c.loop-i.i c.loop-i-test.true (omega arith) in
-    (omega arith, omega (arith, h, c.width-rest.ensures.0), omega (arith, o))
+    (omega (arith, h, c.width-rest.ensures.0), omega (arith, o))
 
 pub returns : goal.returns
 returns c = (omega (arith, out-end c.args.s.now c.args.most c.loop-i.i c.loop-i-test.false), omega arith)

@@ -1,12 +1,9 @@
 -- `left_out`: bytes go as long as the rest takes too many columns, which are counted down.
 use mathlib.Core.Path.{◌≡◌}
-use Prim.Native.Nat.{◌+◌, ◌-◌, ◌≤◌}
-use lib.ListN.{length, drop}
+use Prim.Native.Nat.{◌+◌}
+use lib.ListN.{drop}
 use Rattle.front_places.specs.Shown.{columns_of, left_out}
 use Rattle.front_places.proofs.shown.left_out.Given as goal
 
 abbrev pub invariant-loop-i : goal.invariant-loop-i
-invariant-loop-i l = (l.i ≤ length l.s) × (l.rest ≡ columns_of (drop l.i l.s)) × (left_out l.most l.s ≡ l.i + left_out l.most (drop l.i l.s))
-
-abbrev pub decreases-loop-i : goal.decreases-loop-i
-decreases-loop-i l = length l.s - l.i
+invariant-loop-i l = (l.rest ≡ columns_of (drop l.i l.s)) × (left_out l.most l.s ≡ l.i + left_out l.most (drop l.i l.s))

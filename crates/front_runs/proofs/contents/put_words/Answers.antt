@@ -1,9 +1,5 @@
 -- `put_words` ends: each turn takes one word more, and has room for its line.
-use borrow.Author.Rules.{rules}
 use native.Mathlib.Omega.{arith}
-use mathlib.Core.Path.{◌≡◌}
-use Prim.Native.Nat.{◌-◌, ◌≤◌}
-use lib.ListN.{length}
 use Rattle.front_runs.proofs.contents.put_words.Goals as goal
 
 pub overflow_sub-size : goal.overflow_sub-size
@@ -14,9 +10,3 @@ put_decimal-end-requires c = omega arith
 
 pub overflow_add-k : goal.overflow_add-k
 overflow_add-k c = omega arith
-
-pub overflow_add-i : goal.overflow_add-i
-overflow_add-i c = omega arith
-
-pub loop-i-smaller : goal.loop-i-smaller
-loop-i-smaller c = omega arith

@@ -7,7 +7,6 @@ use Rattle.translation.specs.Translation.{Translation}
 use Rattle.program_writer.specs.Answer.{translation_of}
 use Rattle.program_writer.specs.declared.writing.Translation.{Translation as Answer}
 use Rattle.front_choices.specs.Statuses.{status_of}
-use borrow.Author.Rules.{rules}
 use Rattle.front_runs.proofs.images.translate.Goals as goal
 
 -- a translation that is done

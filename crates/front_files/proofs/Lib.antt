@@ -1,2 +1,0 @@
--- Laws on files.
-pub mod Rooms

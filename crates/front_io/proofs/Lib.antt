@@ -1,2 +1,0 @@
--- Proofs that several functions use.
-pub mod Loads
