@@ -2,18 +2,17 @@
 use crate::groups;
 use crate::groups::Group;
 use std::io::{Read, Result};
-use vectors_frames::{Frame, Tally, Verdict};
+use vectors_frames::{Cut, Tally, Verdict};
 
 // Bytes of the room of a case's payload.
 const PAYLOAD: usize = 65536;
 
 // Reads the next frame into the room and judges its case.
 fn look<R: Read>(group: Group, file: &mut R, room: &mut [u8]) -> Verdict {
-    let frame = vectors_frames::next(file, room);
-    match frame {
-        Frame::Payload(n) => vectors_frames::judged(groups::passes(group, &room[0..n])),
-        Frame::Cut => Verdict::Cut,
-        Frame::End => Verdict::End,
+    match vectors_frames::next(file, room) {
+        Ok(Some(n)) => vectors_frames::judged(groups::passes(group, &room[0..n])),
+        Ok(None) => Verdict::End,
+        Err(Cut) => Verdict::Cut,
     }
 }
 

@@ -1,4 +1,3 @@
 -- What the contracts on test cases cite.
 pub mod Payload
-pub mod Frames
 pub mod Tally

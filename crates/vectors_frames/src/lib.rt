@@ -16,7 +16,7 @@ mod lines;
 mod payload;
 mod tally;
 
-pub use frames::{Frame, next};
+pub use frames::{Cut, next};
 pub use lines::{close, open};
 pub use payload::{ROOM, byte, load, short, wide, word};
 pub use tally::{Tally, Verdict, counted, judged, start};

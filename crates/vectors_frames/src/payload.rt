@@ -11,54 +11,14 @@ pub const ROOM: usize = 4096;
 pub fn wide(b: u8) -> u64
     ensures { result ≡ b }
 {
-    b as u64
+    u64::from(b)
 }
 
 // Returns the byte at an index, 0 where the payload has none.
 pub fn byte(p: &[u8], at: usize) -> u8
     ensures { result ≡ get_or p.now at 0 }
 {
-    if p.len() <= at {
-        return 0;
-    }
-    p[at]
-}
-
-// Returns the number of a low byte and the bytes above it.
-fn low(b: u8, above: u64) -> u64
-    requires { above < 2 ^ 56 }
-    ensures { (result ≡ b + 256 * above) × (result < 256 * (above + 1)) }
-{
-    b as u64 + 256 * above
-}
-
-// Returns the number in the two bytes from an index on.
-fn two(p: &[u8], at: usize) -> u64
-    requires { at + 2 ≤ length p.now }
-    ensures { result ≡ le_value (part at 2 p.now) }
-{
-    let high = low(p[at + 1], 0);
-    low(p[at], high)
-}
-
-// Returns the number in the four bytes from an index on.
-fn four(p: &[u8], at: usize) -> u64
-    requires { at + 4 ≤ length p.now }
-    ensures { (result ≡ le_value (part at 4 p.now)) × (result < 2 ^ 32) }
-{
-    let w3 = low(p[at + 3], 0);
-    let w2 = low(p[at + 2], w3);
-    let w1 = low(p[at + 1], w2);
-    low(p[at], w1)
-}
-
-// Returns the number in the eight bytes from an index on.
-fn eight(p: &[u8], at: usize) -> u64
-    requires { at + 8 ≤ length p.now }
-    ensures { result ≡ le_value (part at 8 p.now) }
-{
-    let high = four(p, at + 4);
-    four(p, at) + 4294967296 * high
+    p.get(at).copied().unwrap_or(0)
 }
 
 // Returns the number in the two bytes from an index on, the low byte first; 0 where the payload has no such bytes.
@@ -71,7 +31,7 @@ pub fn short(p: &[u8], at: usize) -> usize
     if p.len() - 2 < at {
         return 0;
     }
-    two(p, at) as usize
+    usize::from(u16::from_le_bytes([p[at], p[at + 1]]))
 }
 
 // Returns the number in the eight bytes from an index on, the low byte first; 0 where the payload has no such bytes.
@@ -84,19 +44,22 @@ pub fn word(p: &[u8], at: usize) -> u64
     if p.len() - 8 < at {
         return 0;
     }
-    eight(p, at)
+    u64::from_le_bytes([
+        p[at],
+        p[at + 1],
+        p[at + 2],
+        p[at + 3],
+        p[at + 4],
+        p[at + 5],
+        p[at + 6],
+        p[at + 7],
+    ])
 }
 
 // Puts bytes at the front of a room, as many as it has room for.
 pub fn load(room: &mut [u8], bytes: &[u8])
     ensures { room.new ≡ loaded room.old bytes.now }
 {
-    let mut k = 0;
-    while k < bytes.len() {
-        if room.len() <= k {
-            return;
-        }
-        room[k] = bytes[k];
-        k += 1;
-    }
+    let n = room.len().min(bytes.len());
+    room[0..n].copy_from_slice(&bytes[0..n]);
 }

@@ -1,13 +1,13 @@
 // How many cases of a group passed.
-ghost use Rattle.std.specs.Prelude.{◌≡◌, ◌-◌};
-ghost use Rattle.vectors_frames.specs.Tally.{begun, after, more, verdict_of};
+ghost use Rattle.std.specs.Prelude.{◌≡◌};
+ghost use Rattle.vectors_frames.specs.Tally.{begun, after, verdict_of};
 
 // More frames than any file has. A proved loop has to end, and nothing says that a file does.
 const FRAMES: u64 = 1000000000;
 
 // What is known of a frame: its case passed or failed, the file ends inside it, or there is none, since the file is at
 // its end.
-#[derive(Drop)]
+#[derive(Clone, Copy)]
 pub enum Verdict {
     Passed,
     Failed,
@@ -16,7 +16,7 @@ pub enum Verdict {
 }
 
 // The cases so far, and how many frames more may be looked for: 0 once the file is at its end.
-#[derive(Drop)]
+#[derive(Clone, Copy)]
 pub struct Tally {
     pub passed: u64,
     pub total: u64,
@@ -45,47 +45,24 @@ pub fn judged(passed: bool) -> Verdict
     }
 }
 
-// Returns a number and 1; the greatest number stays.
-fn one_more(n: u64) -> u64
-    ensures { result ≡ more n }
-{
-    if n < u64::MAX { n + 1 } else { n }
-}
-
-// Returns a number less 1; 0 stays.
-fn one_less(n: u64) -> u64
-    ensures { result ≡ n - 1 }
-{
-    if 0 < n { n - 1 } else { n }
-}
-
 // Counts one look more. A frame that is cut counts as a case that did not pass.
 pub fn counted(t: Tally, v: Verdict) -> Tally
     ensures { result ≡ after t v }
 {
-    let passed = t.passed;
-    let total = one_more(t.total);
-    let left = one_less(t.left);
+    let total = t.total.saturating_add(1);
+    let left = t.left.saturating_sub(1);
     match v {
         Verdict::Passed => Tally {
-            passed: one_more(passed),
+            passed: t.passed.saturating_add(1),
             total,
             left,
         },
-        Verdict::Failed => Tally {
-            passed,
-            total,
-            left,
-        },
+        Verdict::Failed => Tally { total, left, ..t },
         Verdict::Cut => Tally {
-            passed,
             total,
             left: 0,
+            ..t
         },
-        Verdict::End => Tally {
-            passed,
-            total: t.total,
-            left: 0,
-        },
+        Verdict::End => Tally { left: 0, ..t },
     }
 }

@@ -4,7 +4,7 @@
 // of the words of the ten options, 2 bytes each, how many words there are, 2 bytes, and the words, each with a NUL
 // after it.
 use front_actions::Action;
-use front_options::Options;
+use front_options::{Options, Stage};
 
 // Returns the payload's number of an action.
 fn number_of(a: Action) -> u8 {
@@ -22,17 +22,25 @@ fn number_of(a: Action) -> u8 {
     }
 }
 
+// Returns the payload's number of a stage: that of the option that waits for its argument, or one after those.
+fn stage_of(s: Stage) -> u64 {
+    match s {
+        Stage::Argument(option) => option as u64,
+        Stage::Ready => 10,
+        Stage::Operands => 11,
+        Stage::Refused => 12,
+    }
+}
+
 // Tells whether the words of the options are as the payload says.
 fn given(p: &[u8], words: &[usize]) -> bool {
-    let mut i: usize = 0;
-    while i < words.len() {
+    for (i, word) in words.iter().enumerate() {
         if 64 < i {
             return false;
         }
-        if vectors_frames::short(p, 4 + 2 * i) != words[i] {
+        if vectors_frames::short(p, 4 + 2 * i) != *word {
             return false;
         }
-        i += 1;
     }
     true
 }
@@ -40,7 +48,7 @@ fn given(p: &[u8], words: &[usize]) -> bool {
 // Tells whether options and action are as the payload says.
 fn answers(p: &[u8], o: Options) -> bool {
     let words = o.given;
-    if vectors_frames::wide(vectors_frames::byte(p, 0)) != o.stage as u64 {
+    if vectors_frames::wide(vectors_frames::byte(p, 0)) != stage_of(o.stage) {
         return false;
     }
     if vectors_frames::short(p, 2) != o.operand {

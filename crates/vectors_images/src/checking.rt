@@ -2,14 +2,14 @@
 //
 // Payload: the outcome and the image.
 use edition::Outcome;
-use image_check::Verdict;
+use image_check::CheckError;
 
 // Returns the number of a verdict.
-fn number(v: Verdict) -> u64 {
+fn number(v: Result<(), CheckError>) -> u64 {
     match v {
-        Verdict::Accepted => Outcome::DONE,
-        Verdict::Malformed => Outcome::IMAGE_MALFORMED,
-        Verdict::Rejected => Outcome::IMAGE_FAILS_CHECK,
+        Ok(()) => Outcome::DONE,
+        Err(CheckError::Malformed) => Outcome::IMAGE_MALFORMED,
+        Err(CheckError::Rejected) => Outcome::IMAGE_FAILS_CHECK,
     }
 }
 

@@ -3,7 +3,7 @@
 // Payload: the outcome, the words of the room, 2 bytes, the words of the content, 2 bytes, 0 where the outcome is not
 // 0, the content, 8 bytes a word, and the image.
 use edition::Outcome;
-use image::Copied;
+use image::CopyError;
 
 // The most words that the room of a case has.
 const ROOM: usize = 4096;
@@ -12,13 +12,13 @@ const ROOM: usize = 4096;
 const BEFORE: u64 = 0xa5a5a5a5a5a5a5a5;
 
 // Tells whether an answer is as a payload says, in its first byte and the two bytes from 3 on.
-pub fn answers(p: &[u8], c: Copied) -> bool {
+pub fn answers(p: &[u8], c: Result<usize, CopyError>) -> bool {
     let outcome = vectors_frames::wide(vectors_frames::byte(p, 0));
     let count = vectors_frames::short(p, 3);
     match c {
-        Copied::Written(n) => outcome == Outcome::DONE && count == n,
-        Copied::Malformed => outcome == Outcome::IMAGE_MALFORMED && count == 0,
-        Copied::NoRoom => outcome == Outcome::ROOM_TOO_SMALL && count == 0,
+        Ok(n) => outcome == Outcome::DONE && count == n,
+        Err(CopyError::Malformed) => outcome == Outcome::IMAGE_MALFORMED && count == 0,
+        Err(CopyError::NoRoom) => outcome == Outcome::ROOM_TOO_SMALL && count == 0,
     }
 }
 
@@ -32,12 +32,10 @@ fn after(content: &[u8], k: usize) -> u64 {
 
 // Tells whether the room has the content in front, and is as before after it.
 fn is_after(room: &[u64], content: &[u8]) -> bool {
-    let mut k = 0;
-    while k < room.len() {
-        if room[k] != after(content, k) {
+    for (k, word) in room.iter().enumerate() {
+        if *word != after(content, k) {
             return false;
         }
-        k += 1;
     }
     true
 }

@@ -29,10 +29,8 @@ fn is_after(room: &[u8], image: &[u8]) -> bool {
 
 // Puts the words of a payload's bytes into a room for them.
 fn load(words: &mut [u64], bytes: &[u8]) {
-    let mut k = 0;
-    while k < words.len() {
-        words[k] = vectors_frames::word(bytes, 8 * k);
-        k += 1;
+    for (k, word) in words.iter_mut().enumerate() {
+        *word = vectors_frames::word(bytes, 8 * k);
     }
 }
 

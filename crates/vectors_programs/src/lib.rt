@@ -2,6 +2,7 @@
 // the case in a payload passes; a payload that is not of the group's layout does not.
 #![tactic(auto)]
 
+mod rooms;
 pub mod runs;
 pub mod translating;
 pub mod ways;

@@ -2,12 +2,12 @@
 //
 // Payload: the outcome, steps, 8 bytes, records, 8 bytes, the budget, 8 bytes, the size of the output room, the number
 // of bytes written and the image's length, 2 bytes each, the bytes that are written, the image and the lines.
+use crate::rooms;
+use crate::rooms::OLD;
 use runner::Answer;
 
-// The most bytes that an output room has here, and what is in the rooms before.
+// The most bytes that an output room has here.
 const MOST: usize = 4096;
-
-const OLD: u8 = 165;
 
 // Tells whether what a run answers is as the payload says.
 fn answers(p: &[u8], a: Answer) -> bool {
@@ -17,20 +17,6 @@ fn answers(p: &[u8], a: Answer) -> bool {
     vectors_frames::word(p, 1) == a.steps
         && vectors_frames::word(p, 9) == a.records
         && vectors_frames::short(p, 27) as u64 == a.bytes
-}
-
-// Tells whether an output room has what was written in front, and is as it was beyond.
-fn shows(output: &[u8], written: &[u8]) -> bool {
-    let end = written.len();
-    let n = output.len();
-    if n < end {
-        return false;
-    }
-    if MOST < n {
-        return false;
-    }
-    let old = [OLD; MOST];
-    check::same(&output[0..end], written) && check::same(&output[end..n], &old[end..n])
 }
 
 // Runs the image with a part of a room, and returns whether the answer and the room are as expected.
@@ -53,7 +39,7 @@ pub fn runs(
         &mut work,
         vectors_frames::word(p, 17),
     );
-    answers(p, a) && shows(room, written)
+    answers(p, a) && rooms::shows(room, written)
 }
 
 // Tells whether the case in a payload passes.

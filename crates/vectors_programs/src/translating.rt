@@ -2,25 +2,11 @@
 //
 // Payload: the outcome, the place, the size of the image room and the image's length, 2 bytes each, 0 where the outcome
 // is not 0, the image and the text.
+use crate::rooms;
+use crate::rooms::OLD;
 
-// The most bytes that an image room has here, and what is in it before.
+// The most bytes that an image room has here.
 const MOST: usize = 16384;
-
-const OLD: u8 = 165;
-
-// Tells whether a room has the bytes in front, and is as it was beyond.
-fn shows(room: &[u8], bytes: &[u8]) -> bool {
-    let end = bytes.len();
-    let n = room.len();
-    if n < end {
-        return false;
-    }
-    if MOST < n {
-        return false;
-    }
-    let old = [OLD; MOST];
-    check::same(&room[0..end], bytes) && check::same(&room[end..n], &old[end..n])
-}
 
 // Translates a text into a room of a size, and returns whether the answer and the room are as expected.
 fn translates(p: &[u8], image: &[u8], text: &[u8], size: usize) -> bool {
@@ -33,7 +19,7 @@ fn translates(p: &[u8], image: &[u8], text: &[u8], size: usize) -> bool {
     if vectors_frames::wide(vectors_frames::byte(p, 0)) != t.outcome {
         return false;
     }
-    vectors_frames::short(p, 1) == t.place && shows(room, image)
+    vectors_frames::short(p, 1) == t.place && rooms::shows(room, image)
 }
 
 // Tells whether the case in a payload passes.

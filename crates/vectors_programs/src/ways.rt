@@ -2,22 +2,18 @@
 //
 // Payload: as that of a run, with the text in the place of the image. The text is one that is translated.
 
+use crate::rooms::OLD;
 use crate::runs;
 
-// The most bytes that an image and an output room have here, and what is in the rooms before.
+// The most bytes that an image and an output room have here.
 const IMAGE: usize = 16384;
 
 const MOST: usize = 4096;
 
-const OLD: u8 = 165;
-
-// Translates a text, and returns the image's length, or 0 where the text is refused.
-fn translated(text: &[u8], image: &mut [u8]) -> usize {
+// Translates a text, and returns the image's length; none where the text is refused.
+fn translated(text: &[u8], image: &mut [u8]) -> Option<usize> {
     let t = translator::translate(text, image);
-    if t.outcome != 0 {
-        return 0;
-    }
-    t.place
+    if t.outcome == 0 { Some(t.place) } else { None }
 }
 
 // Translates the text and runs what it is translated to.
@@ -29,10 +25,9 @@ fn goes(
     image: &mut [u8],
     room: &mut [u8],
 ) -> bool {
-    let n = translated(text, image);
-    if n == 0 {
+    let Some(n) = translated(text, image) else {
         return false;
-    }
+    };
     if image.len() < n {
         return false;
     }

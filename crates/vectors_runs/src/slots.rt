@@ -30,10 +30,8 @@ fn size_of(p: &[u8]) -> usize
 // Returns value k of a payload's values, from 0 on; nothing where it has fewer.
 pub fn value(p: &[u8], k: usize) -> &[u8] {
     let mut at = 0;
-    let mut i = 0;
-    while i < k {
+    for _ in 0..k {
         at += size_of(&p[at..]);
-        i += 1;
     }
     let end = at + size_of(&p[at..]);
     &p[at..end]

@@ -3,18 +3,20 @@
 // Payload: the outcome and the count of the split, as in the group `split`, k, 8 bytes, the field's start from 0 and
 // its length, 2 bytes each, the separator's length, 2 bytes, the separator and the record.
 use crate::split;
-use fields::Located;
+use fields::{Located, SplitError};
 
-// Tells whether a field's span, and what the split answers beside it, are as the payload says.
-fn spans(p: &[u8], f: Located) -> bool {
-    if f.start != vectors_frames::short(p, 11) {
-        return false;
+// Tells whether a field's span is as the payload says.
+fn is_span(p: &[u8], start: usize, size: usize) -> bool {
+    start == vectors_frames::short(p, 11) && size == vectors_frames::short(p, 13)
+}
+
+// Tells whether a field's span, and what the split answers beside it, are as the payload says. Of a refused record,
+// each field is the empty part at its end.
+fn spans(p: &[u8], record: &[u8], f: Result<Located, SplitError>) -> bool {
+    match f {
+        Ok(f) => is_span(p, f.start, f.size) && split::answers(p, Ok(f.count)),
+        Err(e) => is_span(p, record.len(), 0) && split::answers(p, Err(e)),
     }
-    if f.size != vectors_frames::short(p, 13) {
-        return false;
-    }
-    let s = f.splitting;
-    split::answers(p, s)
 }
 
 // Tells whether the field is that part of the record, byte for byte.
@@ -34,7 +36,7 @@ fn is_part(p: &[u8], record: &[u8], separator: &[u8], k: usize) -> bool {
 // Tells whether both entries answer as the payload says.
 fn answers(p: &[u8], separator: &[u8], record: &[u8]) -> bool {
     let k = vectors_frames::word(p, 3) as usize;
-    spans(p, fields::locate(record, separator, k)) && is_part(p, record, separator, k)
+    spans(p, record, fields::locate(record, separator, k)) && is_part(p, record, separator, k)
 }
 
 // Tells whether the case in a payload passes.

@@ -3,7 +3,7 @@
 // Payload: the outcome, whether there is a match, its start from 0 and its length, 2 bytes each, 0 where there is none,
 // the ERE's length, 2 bytes, the ERE and the text.
 use edition::Outcome;
-use ere::Matched;
+use ere::Refusal;
 
 // Tells whether a match, or that there is none, is as the payload says.
 fn spans(p: &[u8], is_found: u8, start: usize, length: usize) -> bool {
@@ -14,13 +14,13 @@ fn spans(p: &[u8], is_found: u8, start: usize, length: usize) -> bool {
 }
 
 // Tells whether what a search answers is as the payload says.
-fn answers(p: &[u8], m: Matched) -> bool {
+fn answers(p: &[u8], m: Result<Option<(usize, usize)>, Refusal>) -> bool {
     let outcome = vectors_frames::wide(vectors_frames::byte(p, 0));
     match m {
-        Matched::At(start, length) => outcome == Outcome::DONE && spans(p, 1, start, length),
-        Matched::Nothing => outcome == Outcome::DONE && spans(p, 0, 0, 0),
-        Matched::BadEre => outcome == Outcome::BAD_ERE && spans(p, 0, 0, 0),
-        Matched::LongText => outcome == Outcome::TEXT_TOO_LONG && spans(p, 0, 0, 0),
+        Ok(Some((start, length))) => outcome == Outcome::DONE && spans(p, 1, start, length),
+        Ok(None) => outcome == Outcome::DONE && spans(p, 0, 0, 0),
+        Err(Refusal::BadEre) => outcome == Outcome::BAD_ERE && spans(p, 0, 0, 0),
+        Err(Refusal::LongText) => outcome == Outcome::TEXT_TOO_LONG && spans(p, 0, 0, 0),
     }
 }
 

@@ -3,17 +3,24 @@
 // Payload: the outcome, the count, 2 bytes, 0 where the outcome is not 0, the separator's length, 2 bytes, the
 // separator and the record.
 use edition::Outcome;
-use fields::Splitting;
+use fields::SplitError;
+
+// Returns the outcome of a split that is refused.
+fn refusal(e: SplitError) -> u64 {
+    match e {
+        SplitError::LongRecord => Outcome::RECORD_TOO_LONG,
+        SplitError::BadSeparator => Outcome::BAD_SEPARATOR,
+        SplitError::ManyFields => Outcome::BAD_FIELD_NUMBER,
+    }
+}
 
 // Tells whether what a split answers is as the payload says, in its first three bytes.
-pub fn answers(p: &[u8], s: Splitting) -> bool {
+pub fn answers(p: &[u8], s: Result<usize, SplitError>) -> bool {
     let outcome = vectors_frames::wide(vectors_frames::byte(p, 0));
     let count = vectors_frames::short(p, 1);
     match s {
-        Splitting::Fields(n) => outcome == Outcome::DONE && count == n,
-        Splitting::LongRecord => outcome == Outcome::RECORD_TOO_LONG && count == 0,
-        Splitting::BadSeparator => outcome == Outcome::BAD_SEPARATOR && count == 0,
-        Splitting::ManyFields => outcome == Outcome::BAD_FIELD_NUMBER && count == 0,
+        Ok(n) => outcome == Outcome::DONE && count == n,
+        Err(e) => outcome == refusal(e) && count == 0,
     }
 }
 

@@ -4,15 +4,13 @@
 // operand alone), the left and the right operand, 8 bytes each, the outcome, and the result, 8 bytes, 0 where the
 // outcome is not 0.
 use edition::Outcome;
-use number::Computed;
+use number::Stop;
 
 // Tells whether what an operator gives has the outcome and the result that are expected.
-fn gives(c: Computed, outcome: u64, res: u64) -> bool {
+fn gives(c: Result<u64, Stop>, outcome: u64, res: u64) -> bool {
     match c {
-        Computed::Number(w) => outcome == Outcome::DONE && res == w,
-        Computed::OutOfRange => outcome == Outcome::NUMBER_OUT_OF_RANGE && res == 0,
-        Computed::NotWhole => outcome == Outcome::NUMBER_NOT_WHOLE && res == 0,
-        Computed::ZeroDivisor => outcome == Outcome::DIVISOR_ZERO && res == 0,
+        Ok(w) => outcome == Outcome::DONE && res == w,
+        Err(e) => outcome == e.outcome() && res == 0,
     }
 }
 

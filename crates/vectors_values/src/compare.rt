@@ -2,14 +2,14 @@
 //
 // Payload: how the first compares with the second (0 less, 1 equal, 2 greater), the first's length, 2 bytes, the first,
 // the second.
-use buffer::Order;
+use std::cmp::Ordering;
 
 // Returns the payload's number of an order.
-fn order(o: Order) -> u8 {
+fn order(o: Ordering) -> u8 {
     match o {
-        Order::Less => 0,
-        Order::Equal => 1,
-        Order::Greater => 2,
+        Ordering::Less => 0,
+        Ordering::Equal => 1,
+        Ordering::Greater => 2,
     }
 }
 

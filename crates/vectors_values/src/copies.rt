@@ -3,7 +3,7 @@
 // Payload: the kind (0 `copy`, 1 `copy_within`, 2 `fill`), the index to write at, the index to read from and the count,
 // 2 bytes each, the byte to fill with, the room's length, 2 bytes, the room before, the room after, and the bytes that
 // `copy` copies.
-use vectors_frames::ROOM;
+use crate::rooms;
 
 // Runs `copy` on the room, if it fits.
 fn copied(room: &mut [u8], at: usize, src: &[u8]) -> bool {
@@ -68,18 +68,6 @@ fn changes(p: &[u8], room: &mut [u8], src: &[u8]) -> bool {
     }
 }
 
-// Runs the payload's case, and compares the whole room.
-fn runs(p: &[u8], before: &[u8], after: &[u8], src: &[u8]) -> bool {
-    let n = before.len();
-    if ROOM < n {
-        return false;
-    }
-    let mut space = io::buffer();
-    let room = &mut space[0..n];
-    vectors_frames::load(room, before);
-    changes(p, room, src) && check::same(room, after)
-}
-
 // Tells whether the case in a payload passes.
 pub fn passes(p: &[u8]) -> bool {
     if p.len() < 10 {
@@ -91,5 +79,7 @@ pub fn passes(p: &[u8]) -> bool {
     }
     let middle = 10 + n;
     let end = middle + n;
-    runs(p, &p[10..middle], &p[middle..end], &p[end..])
+    rooms::runs(&p[10..middle], &p[middle..end], |room| {
+        changes(p, room, &p[end..])
+    })
 }

@@ -2,7 +2,7 @@
 //
 // Payload: the number, 8 bytes, the index to write at, 2 bytes, the text's length, 2 bytes, the room before and the
 // room after, which have the same length.
-use vectors_frames::ROOM;
+use crate::rooms;
 
 // Writes a number into the room, if it fits, and tells whether its text has the length that is expected.
 fn writes(room: &mut [u8], at: usize, w: u64, length: usize) -> bool {
@@ -29,23 +29,11 @@ fn changes(p: &[u8], room: &mut [u8]) -> bool {
     )
 }
 
-// Runs the payload's case, and compares the whole room.
-fn runs(p: &[u8], before: &[u8], after: &[u8]) -> bool {
-    let n = before.len();
-    if ROOM < n {
-        return false;
-    }
-    let mut space = io::buffer();
-    let room = &mut space[0..n];
-    vectors_frames::load(room, before);
-    changes(p, room) && check::same(room, after)
-}
-
 // Tells whether the case in a payload passes.
 pub fn passes(p: &[u8]) -> bool {
     if p.len() < 12 {
         return false;
     }
     let middle = 12 + (p.len() - 12) / 2;
-    runs(p, &p[12..middle], &p[middle..])
+    rooms::runs(&p[12..middle], &p[middle..], |room| changes(p, room))
 }

@@ -8,5 +8,6 @@ pub mod copies;
 pub mod decimal;
 pub mod limits;
 pub mod reading;
+mod rooms;
 pub mod search;
 pub mod words;

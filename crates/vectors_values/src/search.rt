@@ -2,13 +2,12 @@
 //
 // Payload: 0 for a byte, that byte, the index, 2 bytes, the length where there is none, and the text; or 1 for a part,
 // whether it is found, its index, 2 bytes, 0 where it is not, the part's length, 2 bytes, the part and the text.
-use buffer::Found;
 
 // Tells whether a part was found where the payload says.
-fn found(f: Found, is_found: u8, at: usize) -> bool {
+fn found(f: Option<usize>, is_found: u8, at: usize) -> bool {
     match f {
-        Found::At(k) => is_found == 1 && at == k,
-        Found::Nothing => is_found == 0 && at == 0,
+        Some(k) => is_found == 1 && at == k,
+        None => is_found == 0 && at == 0,
     }
 }
 

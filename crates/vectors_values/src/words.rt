@@ -3,7 +3,7 @@
 // Payload: the width (8 for `get_word` and `put_word`, 2 for `get_short` and `put_short`), the index, 2 bytes, the
 // number, 8 bytes, the room before the number is put and the room after it, which have the same length. It is got back
 // from the room, which is then compared with the room after.
-use vectors_frames::ROOM;
+use crate::rooms;
 
 // Puts a number in eight bytes, if they fit, and gets it back.
 fn word(room: &mut [u8], at: usize, w: u64) -> bool {
@@ -43,23 +43,11 @@ fn changes(p: &[u8], room: &mut [u8]) -> bool {
     }
 }
 
-// Runs the payload's case, and compares the whole room.
-fn runs(p: &[u8], before: &[u8], after: &[u8]) -> bool {
-    let n = before.len();
-    if ROOM < n {
-        return false;
-    }
-    let mut space = io::buffer();
-    let room = &mut space[0..n];
-    vectors_frames::load(room, before);
-    changes(p, room) && check::same(room, after)
-}
-
 // Tells whether the case in a payload passes.
 pub fn passes(p: &[u8]) -> bool {
     if p.len() < 11 {
         return false;
     }
     let middle = 11 + (p.len() - 11) / 2;
-    runs(p, &p[11..middle], &p[middle..])
+    rooms::runs(&p[11..middle], &p[middle..], |room| changes(p, room))
 }

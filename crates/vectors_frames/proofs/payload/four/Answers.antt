@@ -1,7 +1,0 @@
--- `four` meets its contract, by its bytes.
-use native.Mathlib.Omega.{arith}
-use Rattle.little_endian.proofs.Numbers.{le-at}
-use Rattle.vectors_frames.proofs.payload.four.Goals as goal
-
-pub returns : goal.returns
-returns c = (omega (arith, le-at 3 c.args.at c.args.p.now c.requires), omega arith)
