@@ -23,7 +23,7 @@ static uint32_t sum(const uint8_t *b, size_t count)
 }
 
 /* A room of so many bytes; none: a null pointer. */
-static void *room(size_t count)
+static void *lent(size_t count)
 {
     if (count == 0)
         return NULL;
@@ -36,7 +36,7 @@ static void *room(size_t count)
 /* The words of some bytes, in memory of their size. */
 static uint64_t *words(uint8_t *b, size_t count)
 {
-    uint64_t *w = room(count * 8);
+    uint64_t *w = lent(count * 8);
     for (size_t i = 0; i < count; i++)
         w[i] = number(b + i * 8, 8);
     free(b);
@@ -50,8 +50,8 @@ int main(void)
         size_t n = number(head, 4), read_words = number(head + 4, 4), m = number(head + 8, 4), write_bytes = number(head + 12, 4);
         uint8_t *image = bytes(n);
         uint64_t *content = words(bytes(m * 8), m);
-        uint64_t *to_words = room(read_words * 8);
-        uint8_t *to_bytes = room(write_bytes);
+        uint64_t *to_words = lent(read_words * 8);
+        uint8_t *to_bytes = lent(write_bytes);
         uint64_t was_read = UINT64_MAX, was_written = UINT64_MAX;
         uint64_t checked = flowawk_check(image, n);
         uint64_t reading = flowawk_read(image, n, to_words, read_words, &was_read);
