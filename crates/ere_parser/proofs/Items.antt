@@ -6,7 +6,7 @@ use Prim.Native.Nat.{ℕ, zero, suc, ◌+◌, ◌-◌, ◌≤◌, ◌<◌}
 use native.Mathlib.Nat.{le_refl}
 use native.Mathlib.Omega.{arith}
 use lib.ListN.{length, get_or, drop}
-use Rattle.std.specs.Prelude.{Option, Some, None}
+use Rattle.std.specs.Prelude.{Option, Some, None, MatchOption}
 use Rattle.edition.specs.Limits.{ere_places}
 use Rattle.ere_grammar.specs.Read.{read_group, after_group}
 use Rattle.ere_parser.specs.Reading.{rest_from}
@@ -48,6 +48,12 @@ module _ {l : List ℕ} (t : List ℕ) (s : State) (safe : Safe l s) (h : s.at <
 -- a move, with the state and the table as they were computed
 pub moved : (l : List ℕ) (n : ℕ) (t : List ℕ) (s : State) {u u' : List ℕ} {r r' : Option State} → r ≡ r' → u ≡ u' → Turns l n t u s r → Turns l n t u' s r'
 moved l n t s {u' = u'} {r = r} p q m = subst (λ (x : Option State). Turns l n t u' s x) p (subst (λ (x : List ℕ). Turns l n t x s r) q m)
+
+-- the same where the state is: it is the one that was computed, or none was
+pub moved-in : (l : List ℕ) (n : ℕ) (t : List ℕ) (s : State) {A : Type 0} {u u' : List ℕ} (x : State) (r : Option State) (o : Option A)
+    → MatchOption o (None ≡ r) (λ y. Some x ≡ r) → u ≡ u' → Turns l n t u s r → MatchOption o (Turns l n t u' s None) (λ y. Moves l n t u' s x)
+moved-in l n t s x r None p q m = moved l n t s (sym p) q m
+moved-in l n t s x r (Some y) p q m = moved l n t s (sym p) q m
 
 -- a group from its start to its end
 pub under-start : (l : List ℕ) (n at lo count : ℕ) (t : List ℕ) → at ≤ length l → lo ≤ count → count ≤ ere_places → Under l n at lo count t t (start_of at lo count)

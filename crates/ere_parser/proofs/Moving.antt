@@ -9,7 +9,7 @@ use native.Mathlib.Omega.{arith}
 use lib.ListN.{length, get_or, drop}
 use lib.Dec.{eqb, leb}
 use borrow.Author.Tests.{leb-true, leb-false}
-use Rattle.std.specs.Prelude.{Some, None}
+use Rattle.std.specs.Prelude.{Option as Maybe, Some, None, IfSome}
 use Rattle.lists.specs.Parsing.{Parsed, parsed}
 use Rattle.edition.specs.Limits.{ere_places}
 use Rattle.buffer.proofs.Parts.{drop-next}
@@ -43,15 +43,19 @@ refused-by (some x) N e g h = many x e (omega arith)
 pub opened : (l : List ℕ) (at x : ℕ) → at < length l → get_or l at 0 ≡ x → drop at l ≡ x ∷ drop (at + 1) l
 opened l at x h e = drop-next l at h ∙ ap (λ (b : ℕ). b ∷ drop (at + 1) l) e
 
+rest-closed : (n : ℕ) {u : List ℕ} → Closed u → (A S : Option (Ere Class)) → rest_from n A S u ≡ finished A S u
+rest-closed n at-end A S = rest_end n A S
+rest-closed n at_paren A S = rest-close n A S _
+
 module _ {l : List ℕ} (n : ℕ) {t : List ℕ} (s : State) (safe : Safe l s) where
   pub moves-refused : ((b : Base) → Standing l n b t s → Refuses b) → Turns l n t t s None
   moves-refused f = (below-refl s.lo t, f)
 
-  -- where the group ends, what was read stands as it is
+  -- where the group ends, what was read stands as it is, and the definition reads that and no more
   pub moves-ended : Closed (drop s.at l)
       → (Safe l s) × (SameBelow s.lo t t)
-      × ((b : Base) → b.lo ≤ s.lo → Standing l n b t s → (Standing l n b t s) × (Closed (drop s.at l)))
-  moves-ended c = (safe, below-refl s.lo t, λ b i st. (st, c))
+      × ((b : Base) → b.lo ≤ s.lo → (st : Standing l n b t s) → (Standing l n b t s) × (Closed (drop s.at l)) × (b.goal ≡ finished st.A st.S (drop s.at l)))
+  moves-ended c = (safe, below-refl s.lo t, λ b i st. (st, c, sym st.same ∙ rest-closed n c st.A st.S))
 
   module _ (h : s.at < length l) where
     pub moves-bar : get_or l s.at 0 ≡ 124 → s.some ≡ true → Moves l n t t s (bar_of s)
@@ -194,8 +198,20 @@ module _ {l : List ℕ} (n : ℕ) (s : State) (safe : Safe l s) (h : s.at < leng
     grouped-by true q = closed-moves q
     grouped-by false q = (below_less safe.order reads.kept, λ b st. open-refused st reads.read.0 reads.read.1 q)
 
-    pub moves-grouped : Turns l (suc n) t (grouped_table l s g u) s (grouped_of l s g)
-    moves-grouped = grouped-by (eqb (get_or l g.at 0) 41) refl
+    moves-read : Turns l (suc n) t (grouped_table l s (Some g) u) s (grouped_of l s (Some g))
+    moves-read = grouped-by (eqb (get_or l g.at 0) 41) refl
+
+  -- the group was refused or read
+  pub moves-grouped : (t u : List ℕ) (g : Maybe Piece) → length u ≡ table_words → GroupReads l n (s.at + 1) s.hi s.count t u g
+      → Turns l (suc n) t (grouped_table l s g u) s (grouped_of l s g)
+  moves-grouped t u None full reads = moves-unread reads
+  moves-grouped t u (Some g) full reads = moves-read g full reads
+
+  -- the sizes of one that was read
+  pub group-sizes : (t u : List ℕ) (g : Maybe Piece) → GroupReads l n (s.at + 1) s.hi s.count t u g
+      → IfSome g (λ p. (s.hi ≤ p.hi) × (p.hi ≤ ere_places) × (p.at ≤ length l))
+  group-sizes t u None reads = tt
+  group-sizes t u (Some g) reads = (reads.order, omega (arith, reads.fewer, reads.few), reads.inside)
 
 -- ---- an atom more that is no group
 
@@ -264,10 +280,6 @@ module _ {l : List ℕ} {n at lo count : ℕ} {t₀ t : List ℕ} (s : State) (u
   abbrev st : Standing l n (base_of l n at lo count) t s
   st = under.means
 
-  rest-closed : {u : List ℕ} → Closed u → (A S : Option (Ere Class)) → rest_from n A S u ≡ finished A S u
-  rest-closed at-end A S = rest_end n A S
-  rest-closed at_paren A S = rest-close n A S _
-
   piece : (S : Option (Ere Class)) → s.some ≡ true
       → SeqOk t s.lo s.hi s.seq s.some S → count + (size_of st.A + size_of S) ≡ s.count → rest_from n none none (drop at l) ≡ finished st.A S (drop s.at l)
       → (e : Ere Class) × (rest_from n none none (drop at l) ≡ parsed e (drop s.at l)) × (count + places e ≡ s.count)
@@ -278,7 +290,7 @@ module _ {l : List ℕ} {n at lo count : ℕ} {t₀ t : List ℕ} (s : State) (u
       (or_else st.A x, e, omega (arith, size-or st.A x), alts-more lo s.alts st.A x under.later safe.order st.alts_ok p.1, closed)
 
   goal-finished : rest_from n none none (drop at l) ≡ finished st.A st.S (drop s.at l)
-  goal-finished = sym st.same ∙ rest-closed closed st.A st.S
+  goal-finished = ((moves-ended n s safe closed).2 (base_of l n at lo count) under.later st).2
 
   no-piece-none : (A S : Option (Ere Class)) → SeqOk t s.lo s.hi s.seq s.some S → s.some ≡ false → finished A S (drop s.at l) ≡ none
   unfolding SeqOk finished

@@ -14,26 +14,17 @@ use Rattle.ere_pieces.specs.declared.rows.Piece.{Piece}
 use Rattle.ere_pieces.specs.declared.rows.State.{State}
 
 module _ (l t : List ℕ) (s : State) where
-  -- the state and the table after what was read for a group
-  abbrev pub state_after : Option Piece → Option State
-  state_after None = None
-  state_after (Some g) = grouped_of l s g
-
-  abbrev pub table_after : Option Piece → List ℕ
-  table_after None = t
-  table_after (Some g) = grouped_table l s g t
-
   -- a group that is refused, one that isn't closed, and one that is
-  pub grouped-bad : (g : Option Piece) → g ≡ None → (None ≡ state_after g) × (t ≡ table_after g)
+  pub grouped-bad : (g : Option Piece) → g ≡ None → (None ≡ grouped_of l s g) × (t ≡ grouped_table l s g t)
   grouped-bad g e = rw e (refl, refl)
 
   module _ (g : Piece) where
-    pub grouped-open : (get_or l g.at 0 ≡ 41 → ⊥) → (None ≡ grouped_of l s g) × (t ≡ grouped_table l s g t)
+    pub grouped-open : (get_or l g.at 0 ≡ 41 → ⊥) → (None ≡ grouped_of l s (Some g)) × (t ≡ grouped_table l s (Some g) t)
     grouped-open e = rw (ne_eqb (get_or l g.at 0) 41 e) (refl, refl)
 
     pub grouped-closed : get_or l g.at 0 ≡ 41
-        → (Some (pushed_of s (repeated_of (get_or l (g.at + 1) 0) (closed_piece g))) ≡ grouped_of l s g)
-        × (pushed_table s (repeated_of (get_or l (g.at + 1) 0) (closed_piece g)) (repeated_table (get_or l (g.at + 1) 0) (closed_piece g) s.hi t) ≡ grouped_table l s g t)
+        → (Some (pushed_of s (repeated_of (get_or l (g.at + 1) 0) (closed_piece g))) ≡ grouped_of l s (Some g))
+        × (pushed_table s (repeated_of (get_or l (g.at + 1) 0) (closed_piece g)) (repeated_table (get_or l (g.at + 1) 0) (closed_piece g) s.hi t) ≡ grouped_table l s (Some g) t)
     grouped-closed e = rw (eq-eqb (get_or l g.at 0) 41 e) (refl, refl)
 
 -- a byte that isn't 0 is inside

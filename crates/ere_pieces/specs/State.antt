@@ -98,12 +98,14 @@ anchor_table s x t = cond (leb ere_places s.count) t (pushed_table s (anchor_pie
 abbrev pub closed_piece : Piece → Piece
 closed_piece g = piece_of (g.at + 1) g.hi g.count g.entry
 
-abbrev pub grouped_of : List ℕ → State → Piece → Option State
-grouped_of l s g =
+abbrev pub grouped_of : List ℕ → State → Option Piece → Option State
+grouped_of l s None = None
+grouped_of l s (Some g) =
     cond (eqb (get_or l g.at 0) 41) (Some (pushed_of s (repeated_of (get_or l (g.at + 1) 0) (closed_piece g)))) None
 
-abbrev pub grouped_table : List ℕ → State → Piece → List ℕ → List ℕ
-grouped_table l s g t =
+abbrev pub grouped_table : List ℕ → State → Option Piece → List ℕ → List ℕ
+grouped_table l s None t = t
+grouped_table l s (Some g) t =
     cond (eqb (get_or l g.at 0) 41)
     (pushed_table s (repeated_of (get_or l (g.at + 1) 0) (closed_piece g))
     (repeated_table (get_or l (g.at + 1) 0) (closed_piece g) s.hi t)) t

@@ -21,7 +21,7 @@ pub struct Piece {
 
 // Reading a group: the alternatives so far, and the sequence so far, whose places start at `lo`. `some` tells whether
 // the sequence has a piece; `seq` is no Option, since without one it is what linking a first piece needs.
-#[derive(Drop)]
+#[derive(Clone, Copy)]
 pub struct State {
     pub some: bool,
     pub at: usize,

@@ -1,5 +1,5 @@
 // The turns of reading a group that need no reading of a group inside it.
-ghost use Rattle.std.specs.Prelude.{◌≡◌, ◌+◌, ◌≤◌, ◌<◌, length, get_or};
+ghost use Rattle.std.specs.Prelude.{◌≡◌, ◌+◌, ◌≤◌, ◌<◌, length, get_or, IfSome};
 ghost use Rattle.edition.specs.Limits.{ere_places, ere_bytes};
 ghost use Rattle.ere_table.specs.Table.{table_words};
 ghost use Rattle.ere_pieces.specs.State.{start_of, bar_of, pushed_of, pushed_table, repeated_of, repeated_table, anchor_of, anchor_table, grouped_of, grouped_table, piece_of, place_entry, leaf_table, choice_of, finish_of};
@@ -127,18 +127,19 @@ pub fn anchor(s: State, entry: Entry, t: &mut [u64]) -> Option<State>
     Some(pushed(s, g, t))
 }
 
-// Appends a group that was read after its `(`, with what repeats it; refuses one without its `)`.
-pub fn grouped(ere: &[u8], s: State, g: Piece, t: &mut [u64]) -> Option<State>
-    requires { (length t.old ≡ table_words) × (s.lo ≤ s.hi) × (s.hi ≤ g.hi) × (g.hi ≤ ere_places)
-        × (length ere.now ≤ ere_bytes) × (g.at ≤ length ere.now) }
+// Appends a group that was read after its `(`, with what repeats it; refuses one that was refused, or without its `)`.
+pub fn grouped(ere: &[u8], s: State, g: Option<Piece>, t: &mut [u64]) -> Option<State>
+    requires { (length t.old ≡ table_words) × (s.lo ≤ s.hi) × (s.hi ≤ ere_places) × (length ere.now ≤ ere_bytes)
+        × IfSome g (λ p. (s.hi ≤ p.hi) × (p.hi ≤ ere_places) × (p.at ≤ length ere.now)) }
     ensures { (result ≡ grouped_of ere.now s g)
         × (t.new ≡ grouped_table ere.now s g t.old) }
 {
-    if byte_at(ere, g.at) != b')' {
+    let p = g?;
+    if byte_at(ere, p.at) != b')' {
         return None;
     }
-    let next = g.at + 1;
-    let c = Piece { at: next, ..g };
+    let next = p.at + 1;
+    let c = Piece { at: next, ..p };
     let b = byte_at(ere, next);
     let r = repeated(b, c, s.hi, t);
     Some(pushed(s, r, t))

@@ -12,9 +12,9 @@ decreases-item l = l.levels * 2
 abbrev pub decreases-read_group : goal.decreases-read_group
 decreases-read_group l = l.levels * 2 + 1
 
-abbrev pub invariant-read_group-loop-t : goal.invariant-read_group-loop-t
-invariant-read_group-loop-t l =
+abbrev pub invariant-read_group-loop-s : goal.invariant-read_group-loop-s
+invariant-read_group-loop-s l =
     (length l.t ≡ table_words) × Under l.ere l.levels l.at l.lo l.count l.initial.t l.t l.s
 
-abbrev pub decreases-read_group-loop-t : goal.decreases-read_group-loop-t
-decreases-read_group-loop-t l = length l.ere - l.s.at
+abbrev pub decreases-read_group-loop-s : goal.decreases-read_group-loop-s
+decreases-read_group-loop-s l = length l.ere - l.s.at
