@@ -6,7 +6,7 @@ use mathlib.Core.Option as maybe
 use Prim.Native.Nat.{ℕ, ◌+◌, ◌≤◌, ◌<◌}
 use native.Mathlib.Omega.{arith}
 use lib.ListN.{drop}
-use Rattle.std.specs.Prelude.{Option, Some, None}
+use Rattle.std.specs.Prelude.{Option, Some, None, IfSome}
 use Rattle.lists.specs.Parsing.{Parsed, parsed}
 use Rattle.ere_meaning.specs.Tree.{Range, in_some, accepts, only, any_byte}
 use Rattle.ere_grammar.specs.Grammar.{range}
@@ -63,6 +63,11 @@ worded-some c w t (maybe.some g) e =
 
 -- ---- the answer
 
+-- a bracket with other words, if it was read
+abbrev pub with_words : Option Bracket → List ℕ → Option Bracket
+with_words None c = None
+with_words (Some r) c = Some (record { next = r.next; words = c })
+
 module _ (r : Bracket) (l : List ℕ) (from : ℕ) (w : Ended (Some r) l from (worded no_byte (items_of true (drop from l)))) where
   answer : (at : ℕ) (negated : Bool) (c : List ℕ) → at ≤ from → read_bracket (drop at l) ≡ bracket_of negated (items_of true (drop from l))
       → ((rs : List Range) → r.words ≡ with_spans no_byte rs → (b : ℕ) → b < 256 → in_class c b ≡ accepts (record { negated = negated; ranges = rs }) b)
@@ -95,12 +100,18 @@ module _ (l : List ℕ) (at : ℕ) where
     unfolding bracket_of
     answer-none w = others ∙ ap (bracket_of true) (worded-none no_byte (items_of true (drop (at + 1) l)) w)
 
-    pub answer-other : (r : Bracket) (c : List ℕ) → Ended (Some r) l (at + 1) (worded no_byte (items_of true (drop (at + 1) l))) → c ≡ other_bytes r.words
+    answer-some : (r : Bracket) (c : List ℕ) → Ended (Some r) l (at + 1) (worded no_byte (items_of true (drop (at + 1) l))) → c ≡ other_bytes r.words
         → ClassRead (record { next = r.next; words = c }) l at (read_bracket (drop at l))
     unfolding accepts
-    answer-other r c w k =
+    answer-some r c w k =
         answer r l (at + 1) w at true c (omega arith) others
         (λ rs z b h.
         ap (λ (d : List ℕ). in_class d b) (k ∙ ap other_bytes z)
         ∙ in-other (with_spans no_byte rs) b (four-spans no_byte rs four-none) h
         ∙ ap not (in-ranges rs b h))
+
+    -- refused items, and those that were read
+    pub answer-other : (r : Option Bracket) (c : List ℕ) → Ended r l (at + 1) (worded no_byte (items_of true (drop (at + 1) l)))
+        → IfSome r (λ b. c ≡ other_bytes b.words) → ClassReads (with_words r c) l at (read_bracket (drop at l))
+    answer-other None c w k = answer-none w
+    answer-other (Some r) c w k = answer-some r c w k
