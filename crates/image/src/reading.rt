@@ -46,9 +46,14 @@ fn pass(image: &[u8], words: &mut [u64]) -> Option<usize>
     let mut at: usize = 0;
     let mut k: usize = 0;
     while s.stage < image_stages::END {
-        let (v, end) = take(image, s.stage, at)?;
+        let Some((v, end)) = take(image, s.stage, at) else {
+            return None;
+        };
         put_word(words, k, v);
-        s = image_stages::after(s, v)?;
+        let Some(next) = image_stages::after(s, v) else {
+            return None;
+        };
+        s = next;
         at = end;
         k += 1;
     }

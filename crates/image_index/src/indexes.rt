@@ -175,7 +175,9 @@ pub fn list_at(
     requires { (at ≤ length image.now) × (length image.now < image_bound) }
     ensures { ListAt edition kind image.now at result index.new }
 {
-    let (n, first) = varint::take_number(image, at)?;
+    let Some((n, first)) = varint::take_number(image, at) else {
+        return None;
+    };
     if (most(kind) as u64) < n || n < (least(kind) as u64) {
         return None;
     }

@@ -1,5 +1,5 @@
 -- A number, a text and a constant from a place on, by the number that was taken there.
-use mathlib.Core.Path.{◌≡◌, sym, ap, ◌∙◌}
+use mathlib.Core.Path.{◌≡◌, refl, sym, ap, ◌∙◌}
 use mathlib.Core.Bool.{Bool, true, false, true≢false}
 use mathlib.Core.List.{List}
 use mathlib.Core.Option.{none}
@@ -69,6 +69,7 @@ module _ (l : List ℕ) (at : ℕ) where
               inside = x.2;
             };
             inside = tt;
+            last = tt;
           }
 
     module _ (e : kind ≡ 1) where
@@ -87,4 +88,5 @@ module _ (l : List ℕ) (at : ℕ) where
               inside = y.found.inside;
             };
             inside = y.inside;
+            last = refl;
           }

@@ -51,9 +51,15 @@ abbrev pub Within : List ℕ → Read → Type 0
 Within l (Number n) = Unit {0}
 Within l (TextRead t) = Inside l t
 
+-- a text ends where its constant does
+abbrev pub EndsAt : Read → ℕ → Type 0
+EndsAt (Number n) end = Unit {0}
+EndsAt (TextRead t) end = t.end ≡ end
+
 pub record IsConstant (l : List ℕ) (at : ℕ) (r : Found) : Type 0 where
   pub found : Stands (constant from_bytes) l at (constant_of l r.constant) r.end
   pub inside : Within l r.constant
+  pub last : EndsAt r.constant r.end
 
 abbrev pub ConstantAt : List ℕ → ℕ → Option Found → Type 0
 ConstantAt l at None = constant from_bytes (drop at l) ≡ none

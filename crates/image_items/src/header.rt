@@ -13,10 +13,14 @@ pub struct Header {
 pub fn header_of(image: &[u8]) -> Option<Header>
     ensures { HeaderAt image.now result }
 {
-    let (edition, behind) = varint::take_number(image, 0)?;
+    let Some((edition, behind)) = varint::take_number(image, 0) else {
+        return None;
+    };
     if !opcodes::known_edition(edition) {
         return None;
     }
-    let (users, at) = varint::take_number(image, behind)?;
+    let Some((users, at)) = varint::take_number(image, behind) else {
+        return None;
+    };
     Some(Header { edition, users, at })
 }

@@ -40,7 +40,9 @@ pub fn text_at(image: &[u8], at: usize) -> Option<Text>
     requires { at ≤ length image.now }
     ensures { TextAt image.now at result }
 {
-    let (n, start) = varint::take_number(image, at)?;
+    let Some((n, start)) = varint::take_number(image, at) else {
+        return None;
+    };
     let left = image.len() - start;
     if (left as u64) < n {
         return None;
@@ -56,10 +58,14 @@ pub fn constant_at(image: &[u8], at: usize) -> Option<Found>
     requires { at ≤ length image.now }
     ensures { ConstantAt image.now at result }
 {
-    let (kind, behind) = varint::take_number(image, at)?;
+    let Some((kind, behind)) = varint::take_number(image, at) else {
+        return None;
+    };
     match kind {
         0 => {
-            let (n, end) = varint::take_number(image, behind)?;
+            let Some((n, end)) = varint::take_number(image, behind) else {
+                return None;
+            };
             Some(Found {
                 constant: Constant::Number(n),
                 end,
@@ -109,10 +115,14 @@ pub fn instruction_at(image: &[u8], edition: u64, at: usize) -> Option<Fetched>
     requires { at ≤ length image.now }
     ensures { InstructionAt edition image.now at result }
 {
-    let (code, behind) = varint::take_number(image, at)?;
+    let Some((code, behind)) = varint::take_number(image, at) else {
+        return None;
+    };
     if !opcodes::known_code(edition, code) {
         return None;
     }
-    let (depth, last) = varint::take_number(image, behind)?;
+    let Some((depth, last)) = varint::take_number(image, behind) else {
+        return None;
+    };
     operands_at(image, edition, code, depth, last)
 }

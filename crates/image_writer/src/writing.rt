@@ -63,9 +63,14 @@ fn pass(content: &[u64], bytes: &mut [u8]) -> Option<usize>
     let mut at: usize = 0;
     let mut k: usize = 0;
     while s.stage < image_stages::END {
-        let (v, end) = take(content, s.stage, at)?;
+        let Some((v, end)) = take(content, s.stage, at) else {
+            return None;
+        };
         k = put(bytes, s.stage, k, v);
-        s = image_stages::after(s, v)?;
+        let Some(next) = image_stages::after(s, v) else {
+            return None;
+        };
+        s = next;
         at = end;
     }
     if at < content.len() {

@@ -4,15 +4,15 @@ use Rattle.image_index.proofs.Indexing.{list-missing, list-unfit, list-there}
 use Rattle.image_index.proofs.indexes.list_at.Goals as goal
 use Rattle.image_index.proofs.indexes.list_at.Goals.{then-most-n-via-then-most-n, then-most-n-via-else-most-n+then-n-least}
 
-pub returns-in_err-n : goal.returns-in_err-n
-returns-in_err-n c =
+pub returns-in_default : goal.returns-in_default
+returns-in_default c =
     let a = c.args in
-    rw c.from_residual.ensures (list-missing a.edition a.kind a.image.now a.at a.index.now c.in_err-n.ensures)
+    list-missing a.edition a.kind a.image.now a.at a.index.now c.in_default.ensures
 
 pub returns-then-most-n : goal.returns-then-most-n
 returns-then-most-n c =
     let a = c.args in
-    list-unfit a.edition a.kind a.image.now a.at a.index.now _ _ c.in_ok-n.ensures
+    list-unfit a.edition a.kind a.image.now a.at a.index.now _ _ c.in-Some.ensures
     (λ low high.
     elim c.then-most-n.branch [
       | then-most-n-via-then-most-n w ↦ omega (arith, c.most.ensures, w.if-most-n.true, high)
@@ -20,10 +20,10 @@ returns-then-most-n c =
     ])
 
 pub items_at-requires : goal.items_at-requires
-items_at-requires c = (c.in_ok-n.ensures.2, c.requires.1)
+items_at-requires c = (c.in-Some.ensures.2, c.requires.1)
 
 pub returns : goal.returns
 returns c =
     let a = c.args in
-    list-there a.edition a.kind a.image.now a.at _ _ _ c.in_ok-n.ensures (omega (arith, c.least.ensures, c.if-n-least.false))
+    list-there a.edition a.kind a.image.now a.at _ _ _ c.in-Some.ensures (omega (arith, c.least.ensures, c.if-n-least.false))
     (omega (arith, c.most.ensures, c.if-most-n.false)) _ c.items_at.ensures

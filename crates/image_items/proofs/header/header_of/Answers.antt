@@ -5,20 +5,19 @@ use borrow.Author.Tests.{not-true, not-false}
 use Rattle.image_items.proofs.Following.{edition-missing, edition-unknown, users-missing, header-there}
 use Rattle.image_items.proofs.header.header_of.Goals as goal
 
-pub returns-in_err-edition : goal.returns-in_err-edition
-returns-in_err-edition c = rw c.from_residual.ensures (edition-missing c.args.image.now c.in_err-edition.ensures)
+pub returns-in_default : goal.returns-in_default
+returns-in_default c = edition-missing c.args.image.now c.in_default.ensures
 
 pub returns-then-not-known_edition : goal.returns-then-not-known_edition
 returns-then-not-known_edition c =
-    edition-unknown c.args.image.now _ _ c.in_ok-edition.ensures
+    edition-unknown c.args.image.now _ _ c.in-Some.ensures
     (sym c.known_edition.ensures ∙ not-true _ (ap not c.if-not-known_edition.true))
 
-pub returns-in_err-users : goal.returns-in_err-users
-returns-in_err-users c =
-    rw c.from_residual-in_err-users.ensures
-    (users-missing c.args.image.now _ _ c.in_ok-edition.ensures c.in_err-users.ensures)
+pub returns-in_default-take_number : goal.returns-in_default-take_number
+returns-in_default-take_number c =
+    users-missing c.args.image.now _ _ c.in-Some.ensures c.in_default-take_number.ensures
 
 pub returns : goal.returns
 returns c =
-    header-there c.args.image.now _ _ c.in_ok-edition.ensures
-    (sym c.known_edition.ensures ∙ not-false _ (ap not c.if-not-known_edition.false)) _ _ c.in_ok-users.ensures
+    header-there c.args.image.now _ _ c.in-Some.ensures
+    (sym c.known_edition.ensures ∙ not-false _ (ap not c.if-not-known_edition.false)) _ _ c.in-Some-take_number.ensures

@@ -5,25 +5,24 @@ use borrow.Author.Tests.{not-true, not-false}
 use Rattle.image_items.proofs.Fetching.{code-missing, code-unknown, depth-missing, depth-there}
 use Rattle.image_items.proofs.items.instruction_at.Goals as goal
 
-pub returns-in_err-code : goal.returns-in_err-code
-returns-in_err-code c = rw c.from_residual.ensures (code-missing c.args.edition c.args.image.now c.args.at c.in_err-code.ensures)
+pub returns-in_default : goal.returns-in_default
+returns-in_default c = code-missing c.args.edition c.args.image.now c.args.at c.in_default.ensures
 
 pub returns-then-not-known_code : goal.returns-then-not-known_code
 returns-then-not-known_code c =
     let a = c.args in
-    code-unknown a.edition a.image.now a.at _ _ c.in_ok-code.ensures
+    code-unknown a.edition a.image.now a.at _ _ c.in-Some.ensures
     (sym c.known_code.ensures ∙ not-true _ (ap not c.if-not-known_code.true))
 
-pub returns-in_err-depth : goal.returns-in_err-depth
-returns-in_err-depth c =
+pub returns-in_default-take_number : goal.returns-in_default-take_number
+returns-in_default-take_number c =
     let a = c.args in
-    rw c.from_residual-in_err-depth.ensures
-    (depth-missing a.edition a.image.now a.at _ _ c.in_ok-code.ensures
-    (sym c.known_code.ensures ∙ not-false _ (ap not c.if-not-known_code.false)) c.in_err-depth.ensures)
+    depth-missing a.edition a.image.now a.at _ _ c.in-Some.ensures
+    (sym c.known_code.ensures ∙ not-false _ (ap not c.if-not-known_code.false)) c.in_default-take_number.ensures
 
 pub returns : goal.returns
 returns c =
     let a = c.args in
-    depth-there a.edition a.image.now a.at _ _ c.in_ok-code.ensures
-    (sym c.known_code.ensures ∙ not-false _ (ap not c.if-not-known_code.false)) _ _ c.in_ok-depth.ensures _
+    depth-there a.edition a.image.now a.at _ _ c.in-Some.ensures
+    (sym c.known_code.ensures ∙ not-false _ (ap not c.if-not-known_code.false)) _ _ c.in-Some-take_number.ensures _
     c.operands_at.ensures

@@ -5,15 +5,15 @@ use Rattle.image_format.specs.Reading.{word_up_to}
 use Rattle.image_items.proofs.Standing.{text-short, text-there}
 use Rattle.image_items.proofs.items.text_at.Goals as goal
 
-pub returns-in_err-n : goal.returns-in_err-n
-returns-in_err-n c = rw c.from_residual.ensures (on (many (word_up_to 255)) c.in_err-n.ensures)
+pub returns-in_default : goal.returns-in_default
+returns-in_default c = on (many (word_up_to 255)) c.in_default.ensures
 
 pub returns-then-left-n : goal.returns-then-left-n
 returns-then-left-n c =
     let a = c.args in
-    text-short a.image.now a.at _ _ c.in_ok-n.ensures (λ i h. (c.type_inv.image i).fits) c.if-left-n.true
+    text-short a.image.now a.at _ _ c.in-Some.ensures (λ i h. (c.type_inv.image i).fits) c.if-left-n.true
 
 pub returns : goal.returns
 returns c =
     let a = c.args in
-    text-there a.image.now a.at _ _ c.in_ok-n.ensures (λ i h. (c.type_inv.image i).fits) c.if-left-n.false
+    text-there a.image.now a.at _ _ c.in-Some.ensures (λ i h. (c.type_inv.image i).fits) c.if-left-n.false

@@ -8,13 +8,13 @@ use Rattle.image.proofs.Stage.{words-most, bytes-written}
 use Rattle.image.proofs.Passing.{Took, pass-starts, pass-cut, pass-unknown, pass-goes}
 use Rattle.image.proofs.Passing.{pass-followed, pass-whole}
 use Rattle.image_writer.proofs.writing.pass.Goals as goal
-use Rattle.image_writer.proofs.writing.pass.Goals.{In_ok-v}
+use Rattle.image_writer.proofs.writing.pass.Goals.{In-Some}
 
 -- what was taken in a turn
-took : (c : In_ok-v)
+took : (c : In-Some)
     → let i = c.loop-s in
     let a = c.args in
-    let g = c.in_ok-v in
+    let g = c.in-Some in
     Took from_words coded a.content.now a.bytes.now 8 i.bytes i.s i.at i.k g.v g.end
 took c =
     let i = c.loop-s in
@@ -22,7 +22,7 @@ took c =
     record {
       going = i.invariant.0;
       opens = omega (arith, c.loop-s-test.true);
-      takes = c.in_ok-v.ensures;
+      takes = c.in-Some.ensures;
     }
 
 pub loop-s-init : goal.loop-s-init
@@ -31,34 +31,33 @@ loop-s-init c = (pass-starts from_words coded _ _ 8 _ c.start-s.ensures, search 
 pub take-requires : goal.take-requires
 take-requires c = c.loop-s.invariant.0.within
 
-pub returns-in_err-v : goal.returns-in_err-v
-returns-in_err-v c =
-    rw c.from_residual.ensures (pass-cut c.loop-s.invariant.0 (omega (arith, c.loop-s-test.true)) c.in_err-v.ensures)
+pub returns-in_default : goal.returns-in_default
+returns-in_default c = pass-cut c.loop-s.invariant.0 (omega (arith, c.loop-s-test.true)) c.in_default.ensures
 
 pub put-k-requires : goal.put-k-requires
 put-k-requires c =
     let i = c.loop-s in
-    let t = (took (goal.at.put-k-requires c).In_ok-v).takes in (
-      words-most i.s.stage c.args.content.now i.at c.in_ok-v.v _ t,
+    let t = (took (goal.at.put-k-requires c).In-Some).takes in (
+      words-most i.s.stage c.args.content.now i.at c.in-Some.v _ t,
       omega (arith, t.1, t.2, i.invariant.0.few),
     )
 
-pub returns-in_err-s : goal.returns-in_err-s
-returns-in_err-s c =
-    let t = took (goal.at.returns-in_err-s c).In_ok-v in
-    rw c.from_residual-in_err-s.ensures (pass-unknown t _ (sym c.after.ensures ∙ c.in_err-s.was))
+pub returns-in_default-after : goal.returns-in_default-after
+returns-in_default-after c =
+    let t = took (goal.at.returns-in_default-after c).In-Some in
+    pass-unknown t _ (sym c.after.ensures ∙ c.in_default-after.is)
 
 pub loop-s-smaller : goal.loop-s-smaller
 loop-s-smaller c =
-    let t = (took (goal.at.loop-s-smaller c).In_ok-v).takes in
+    let t = (took (goal.at.loop-s-smaller c).In-Some).takes in
     omega (arith, t.1, t.2)
 
 pub loop-s-preserved : goal.loop-s-preserved
 loop-s-preserved c =
     let i = c.loop-s in
     let put = c.put-k in (
-      pass-goes (took (goal.at.loop-s-preserved c).In_ok-v) _ _ _ (sym c.after.ensures ∙ c.in_ok-s.was)
-          (bytes-written i.s.stage c.in_ok-v.v) put.ensures.0 put.ensures.1,
+      pass-goes (took (goal.at.loop-s-preserved c).In-Some) _ _ _ (sym c.after.ensures ∙ c.in-Some-after.is)
+          (bytes-written i.s.stage c.in-Some.v) put.ensures.0 put.ensures.1,
       search rules,
     )
 
