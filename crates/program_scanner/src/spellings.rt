@@ -120,10 +120,13 @@ fn kind_in(table: &[(&[u8], u64, u64)], spelling: &[u8], edition: Edition, other
     other
 }
 
-// Returns the number of a word's kind.
+// Returns the number of a word's kind. No word of the table is longer than 8 bytes.
 pub fn word_kind(spelling: &[u8], edition: Edition) -> u64
     ensures { result ≡ rank (word_kind edition.number spelling.now) }
 {
+    if 8 < spelling.len() {
+        return kinds::USER_NAME;
+    }
     kind_in(&WORDS, spelling, edition, kinds::USER_NAME)
 }
 
