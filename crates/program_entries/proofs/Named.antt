@@ -55,3 +55,15 @@ ere-named op = go (eqb op 1) refl (eqb op 2) refl (eqb op 3) refl
     go false e true f z g = rw (other 2 (λ k. omega (arith, k)) (λ k. omega (arith, k)) f, e, f)
     go false e false f true g = rw (other 3 (λ k. omega (arith, k)) (λ k. omega (arith, k)) g, e, f, g)
     go false e false f false g = rw (e, f, g) (and-self (eqb op 22 || eqb op 23))
+
+-- no code names an entry of another table
+pub other-named : (what op : ℕ) → (what ≡ 0 → ⊥) → (what ≡ 1 → ⊥) → (what ≡ 2 → ⊥) → false ≡ is_named what op
+unfolding is_named
+other-named what op f g h =
+    rw (ne_eqb what 0 f, ne_eqb what 1 g, ne_eqb what 2 h) (go (eqb op 1) (eqb op 2 || eqb op 3) (eqb op 22 || eqb op 23))
+  where
+    go : (x y z : Bool) → false ≡ cond x false (cond y false (z && false))
+    go true y z = refl
+    go false true z = refl
+    go false false true = refl
+    go false false false = refl

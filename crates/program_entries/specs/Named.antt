@@ -8,19 +8,11 @@ use Rattle.program_tokens.specs.Tokens.{Token, is_one_of, spelling, read_string,
 use Rattle.program_numbering.specs.Names.{has, number_of}
 use Rattle.program_numbering.specs.Numbering.{special_names}
 use Rattle.program_parser.specs.Meaning.{constant_at, name_at, ere_at}
-use Rattle.program_entries.specs.declared.entries.Entries.{Entries}
-use Rattle.program_entries.specs.declared.entries.Entries.TheVariants.{Constants, Variables, Eres}
 use Rattle.program_tables.specs.declared.tables.Entry.{Entry}
 use Rattle.program_tables.specs.Texts.{between}
 use Rattle.program_tables.specs.Tables.{meant, InsideText}
 
--- the tables: 0 constants, 1 variables, 2 EREs
-abbrev pub table_number : Entries → ℕ
-table_number Constants = 0
-table_number Variables = 1
-table_number Eres = 2
-
--- which codes name an entry of each
+-- the tables: 0 constants, 1 variables, 2 EREs; which codes name an entry of each
 unfoldable pub is_named : ℕ → ℕ → Bool
 is_named what op =
     cond (eqb op 1) (eqb what 0) (cond (eqb op 2 || eqb op 3) (eqb what 1) ((eqb op 22 || eqb op 23) && eqb what 2))

@@ -7,7 +7,6 @@ ghost use Rattle.program_tokens.specs.Tokens.{spelling};
 ghost use Rattle.program_parser.specs.Meaning.{constant_at, name_at, ere_at};
 ghost use Rattle.program_names.specs.Walk.{spanned};
 ghost use Rattle.program_entries.specs.Named.{
-  table_number,
   is_named,
   named,
   operand_bound,
@@ -25,32 +24,33 @@ use program_parser::kinds;
 use program_tables::Entry;
 
 // What the entries of a table are.
-#[derive(Clone, Copy)]
-pub enum Entries {
-    Constants,
-    Variables,
-    Eres,
-}
+pub const CONSTANTS: u64 = 0;
+
+pub const VARIABLES: u64 = 1;
+
+pub const ERES: u64 = 2;
 
 // Tells whether an instruction with this code names an entry of a table.
-pub fn is_named(what: Entries, op: u64) -> bool
-    ensures { result ≡ is_named (table_number what) op }
+pub fn is_named(what: u64, op: u64) -> bool
+    ensures { result ≡ is_named what op }
 {
     match what {
-        Entries::Constants => op == program_words::CONSTANT,
-        Entries::Variables => (op == program_words::GET) | (op == program_words::SET),
-        Entries::Eres => (op == program_words::MATCHES) | (op == program_words::MATCH),
+        CONSTANTS => op == program_words::CONSTANT,
+        VARIABLES => (op == program_words::GET) | (op == program_words::SET),
+        ERES => (op == program_words::MATCHES) | (op == program_words::MATCH),
+        _ => false,
     }
 }
 
 // Tells whether the texts of a table are STRINGs, which have escapes.
-pub fn has_escapes(what: Entries) -> bool
-    ensures { result ≡ eqb (table_number what) 0 }
+pub fn has_escapes(what: u64) -> bool
+    ensures { result ≡ eqb what 0 }
 {
     match what {
-        Entries::Constants => true,
-        Entries::Variables => false,
-        Entries::Eres => false,
+        CONSTANTS => true,
+        VARIABLES => false,
+        ERES => false,
+        _ => false,
     }
 }
 
@@ -188,13 +188,13 @@ fn ere_at(s: &[u8], x: usize, edition: Edition) -> Entry
 }
 
 // Returns the entry that an operand names.
-pub fn entry_at(s: &[u8], x: usize, what: Entries, edition: Edition) -> Entry
+pub fn entry_at(s: &[u8], x: usize, what: u64, edition: Edition) -> Entry
     requires { (length s.now ≤ filter_text) × (x < operand_bound) × (first_edition ≤ edition.number) }
-    ensures { Stands s.now (eqb (table_number what) 0) (named edition.number s.now (table_number what) x) result }
+    ensures { Stands s.now (eqb what 0) (named edition.number s.now what x) result }
 {
     match what {
-        Entries::Constants => constant_at(s, x, edition),
-        Entries::Variables => variable_at(s, x, edition),
-        Entries::Eres => ere_at(s, x, edition),
+        CONSTANTS => constant_at(s, x, edition),
+        VARIABLES => variable_at(s, x, edition),
+        _ => ere_at(s, x, edition),
     }
 }

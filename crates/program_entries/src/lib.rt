@@ -4,5 +4,5 @@
 mod entries;
 mod variables;
 
-pub use entries::{Entries, entry_at, has_escapes, is_named};
+pub use entries::{CONSTANTS, ERES, VARIABLES, entry_at, has_escapes, is_named};
 pub use variables::{SPECIALS, enter_variables};

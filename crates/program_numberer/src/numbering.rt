@@ -1,7 +1,6 @@
 // Operands by number: each word's place in the text becomes the number of what it names.
 ghost use Rattle.std.specs.Prelude.{◌≤◌, ◌<◌, length, take, eqb};
 ghost use Rattle.edition.specs.Limits.{filter_text, first_edition};
-ghost use Rattle.program_entries.specs.Named.{table_number};
 ghost use Rattle.program_numberer.specs.Numbered.{
   HoldsSome,
   WordNumbered,
@@ -10,7 +9,6 @@ ghost use Rattle.program_numberer.specs.Numbered.{
 };
 
 use edition::Edition;
-use program_entries::Entries;
 use program_image::Sections;
 
 // Numbers the operand of instruction i, if it names an entry of this table, which has n; returns how many it has then,
@@ -19,14 +17,14 @@ fn number_word(
     s: &[u8],
     section: &mut [u64],
     i: usize,
-    what: Entries,
+    what: u64,
     table: &mut [u64],
     n: usize,
     edition: Edition,
 ) -> usize
     requires { (length s.now ≤ filter_text) × (i < length section.old) × (length table.old ≤ filter_text)
-        × HoldsSome s.now (eqb (table_number what) 0) table.old n × (first_edition ≤ edition.number) }
-    ensures { WordNumbered edition.number s.now (table_number what) section.old i
+        × HoldsSome s.now (eqb what 0) table.old n × (first_edition ≤ edition.number) }
+    ensures { WordNumbered edition.number s.now what section.old i
         table.old n section.new table.new result }
 {
     let w = section[i];
@@ -49,14 +47,14 @@ fn number_section(
     s: &[u8],
     section: &mut [u64],
     count: usize,
-    what: Entries,
+    what: u64,
     table: &mut [u64],
     n: usize,
     edition: Edition,
 ) -> usize
     requires { (length s.now ≤ filter_text) × (count ≤ length section.old) × (length table.old ≤ filter_text)
-        × HoldsSome s.now (eqb (table_number what) 0) table.old n × (first_edition ≤ edition.number) }
-    ensures { SectionNumbered edition.number s.now (table_number what) section.old count
+        × HoldsSome s.now (eqb what 0) table.old n × (first_edition ≤ edition.number) }
+    ensures { SectionNumbered edition.number s.now what section.old count
         table.old n section.new table.new result }
 {
     let mut m = n;
@@ -74,16 +72,16 @@ pub fn number(
     main: &mut [u64],
     end: &mut [u64],
     sections: Sections,
-    what: Entries,
+    what: u64,
     table: &mut [u64],
     n: usize,
     edition: Edition,
 ) -> usize
     requires { (length s.now ≤ filter_text) × (sections.begin ≤ length begin.old)
         × (sections.main ≤ length main.old) × (sections.end ≤ length end.old)
-        × (length table.old ≤ filter_text) × HoldsSome s.now (eqb (table_number what) 0) table.old n
+        × (length table.old ≤ filter_text) × HoldsSome s.now (eqb what 0) table.old n
         × (first_edition ≤ edition.number) }
-    ensures { ProgramNumbers edition.number s.now (table_number what)
+    ensures { ProgramNumbers edition.number s.now what
         (take sections.begin begin.old) (take sections.main main.old)
         (take sections.end end.old) (take sections.begin begin.new)
         (take sections.main main.new) (take sections.end end.new) table.old n

@@ -4,7 +4,6 @@ ghost use Rattle.edition.specs.Limits.{first_edition, filter_text};
 ghost use Rattle.translator.specs.Tabulated.{variable_words, constant_words, ere_words, Tabulated};
 
 use edition::Edition;
-use program_entries::Entries;
 use program_image::{Counts, Sections};
 
 // Numbers the words of a program that was read, in three passes; returns how many variables, constants and EREs there
@@ -37,7 +36,7 @@ pub fn number_words(
         main,
         end,
         sections,
-        Entries::Constants,
+        program_entries::CONSTANTS,
         constants,
         0,
         edition,
@@ -48,7 +47,7 @@ pub fn number_words(
         main,
         end,
         sections,
-        Entries::Eres,
+        program_entries::ERES,
         eres,
         0,
         edition,
@@ -59,7 +58,7 @@ pub fn number_words(
         main,
         end,
         sections,
-        Entries::Variables,
+        program_entries::VARIABLES,
         variables,
         v,
         edition,

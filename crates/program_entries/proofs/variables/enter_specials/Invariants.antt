@@ -1,6 +1,6 @@
 -- `enter_specials`: a number a turn.
 use mathlib.Core.Path.{◌≡◌}
-use Prim.Native.Nat.{◌-◌, ◌≤◌}
+use Prim.Native.Nat.{◌≤◌}
 use lib.ListN.{length}
 use Rattle.program_entries.specs.Variables.{special_count, numbers_in}
 use Rattle.program_entries.proofs.variables.enter_specials.Given as goal

@@ -1,6 +1,5 @@
 -- `number`: one section after the other.
 use borrow.Author.Rules.{rules}
-use Rattle.program_entries.specs.Named.{table_number}
 use Rattle.program_numberer.proofs.Turns.{numbered-some, program-numbers}
 use Rattle.program_numberer.proofs.numbering.number.Goals as goal
 
@@ -12,7 +11,7 @@ number_section-m-requires c =
       p.0,
       p.2,
       search rules,
-      numbered-some a.edition.number a.s.now (table_number a.what) _ _ _ _ _ _ _ b.ensures p.5,
+      numbered-some a.edition.number a.s.now a.what _ _ _ _ _ _ _ b.ensures p.5,
       p.6,
     )
 
@@ -22,11 +21,11 @@ number_section-requires c =
     let p = c.requires in
     let b = c.number_section-b in
     let m = c.number_section-m in
-    let some = numbered-some a.edition.number a.s.now (table_number a.what) _ _ _ _ _ _ _ b.ensures p.5 in (
+    let some = numbered-some a.edition.number a.s.now a.what _ _ _ _ _ _ _ b.ensures p.5 in (
       p.0,
       p.3,
       search rules,
-      numbered-some a.edition.number a.s.now (table_number a.what) _ _ _ _ _ _ _ m.ensures some,
+      numbered-some a.edition.number a.s.now a.what _ _ _ _ _ _ _ m.ensures some,
       p.6,
     )
 
@@ -36,6 +35,6 @@ returns c =
     let b = c.number_section-b in
     let m = c.number_section-m in
     let e = c.number_section in
-    program-numbers a.edition.number a.s.now (table_number a.what) a.begin.now a.main.now a.end.now
+    program-numbers a.edition.number a.s.now a.what a.begin.now a.main.now a.end.now
     a.sections.begin a.sections.main a.sections.end _ _ _ a.table.now _ _ _ a.n b.result
     m.result e.result b.ensures m.ensures e.ensures (search rules) (search rules)
