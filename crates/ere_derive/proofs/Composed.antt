@@ -9,7 +9,6 @@ use lib.ListN.{length, get_or, set}
 use lib.Seq.{get_or-set_same, get_or-set_other}
 use Rattle.ere_table.specs.Table.{row}
 use Rattle.ere_automaton.specs.Layout.{rows_at}
-use Rattle.ere_sets.specs.declared.sets.Mode.{Mode}
 use Rattle.ere_sets.specs.Growth.{Grows, Leads}
 use Rattle.ere_classes.specs.Frames.{Frame}
 use Rattle.ere_derive.specs.Layout.{Apart, RowAt, Rows, RowOf, Closed, Paired, PutPairs}
@@ -24,14 +23,14 @@ rows-below stride j i h = let m = mul-le-mul_left stride h in let e = mul-suc st
 -- ---- rows
 
 -- a row that is kept, while sets become more
-pub row_on : {mode : Mode} {t bytes : List ℕ} {k : ℕ} {a : List ℕ} {n stride : ℕ} {s d : List ℕ} {p : ℕ} {a' : List ℕ} {n' : ℕ} (d' : List ℕ) → RowAt mode t bytes k a n stride s d p → Grows a n a' n'
+pub row_on : {mode : ℕ} {t bytes : List ℕ} {k : ℕ} {a : List ℕ} {n stride : ℕ} {s d : List ℕ} {p : ℕ} {a' : List ℕ} {n' : ℕ} (d' : List ℕ) → RowAt mode t bytes k a n stride s d p → Grows a n a' n'
     → ((x : ℕ) → x < k + 1 → get_or d' (p + x) 0 ≡ get_or d (p + x) 0) → RowAt mode t bytes k a' n' stride s d' p
 row_on {mode} {t} {bytes} {k} {a} {n} {stride} {s} {d} {p} {a'} {n'} d' r g e = record {
   leads = λ c h. subst (λ (q : ℕ). Leads mode t a' n' stride s (get_or bytes c 0) q) (sym (e c (omega arith))) (leads-on (r.leads c h) g);
   marks = e k (omega arith) ∙ r.marks;
 }
 
-module _ (mode : Mode) (t bytes : List ℕ) (k : ℕ) (a : List ℕ) (n stride : ℕ) (d : List ℕ) (i : ℕ) (a' : List ℕ) (n' : ℕ) (d' : List ℕ) where
+module _ (mode : ℕ) (t bytes : List ℕ) (k : ℕ) (a : List ℕ) (n stride : ℕ) (d : List ℕ) (i : ℕ) (a' : List ℕ) (n' : ℕ) (d' : List ℕ) where
   pub rows_more : k < stride → i < n → Rows mode t bytes k a n stride d i → Grows a n a' n'
       → Frame (rows_at + stride * i) (rows_at + stride * i + (k + 1)) d d'
       → RowAt mode t bytes k a' n' stride (row a i) d' (rows_at + stride * i) → Rows mode t bytes k a' n' stride d' (i + 1)
@@ -130,7 +129,7 @@ module _ (k n stride : ℕ) (st : stride ≡ k + 1 + k * k) where
             new c e l m ∙ ap (λ (z : ℕ). get_or s (z + e) 0) (x ∙ y) ∙ P.kept r.number e r.low (omega arith) ∙ ap (λ (z : ℕ). get_or d (z + e) 0) (sym y)
 
 -- a row, once its accept bits are stored
-pub row-ended : (mode : Mode) (t bytes : List ℕ) (k : ℕ) (a : List ℕ) (n stride : ℕ) (s d : List ℕ) (p m : ℕ) → p + k < length d → m ≡ get_or s 2 0 % 4
+pub row-ended : (mode : ℕ) (t bytes : List ℕ) (k : ℕ) (a : List ℕ) (n stride : ℕ) (s d : List ℕ) (p m : ℕ) → p + k < length d → m ≡ get_or s 2 0 % 4
     → ((c : ℕ) → c < k → Leads mode t a n stride s (get_or bytes c 0) (get_or d (p + c) 0)) → RowAt mode t bytes k a n stride s (set d (p + k) m) p
 row-ended mode t bytes k a n stride s d p m room e l = record {
   leads = λ c h. subst (λ (q : ℕ). Leads mode t a n stride s (get_or bytes c 0) q) (sym (get_or-set_other d (p + k) (p + c) m 0 (omega arith))) (l c h);

@@ -14,8 +14,6 @@ use Rattle.ere_automaton.specs.Layout.{State, class_in, next_in, pair_in, end_wo
 use Rattle.ere_automaton.specs.Automaton.{Hull, Shape}
 use Rattle.ere_classes.specs.Column.{Classified}
 use Rattle.std.specs.Prelude.{Option, Some, None, IfSome}
-use Rattle.ere_sets.specs.declared.sets.Mode.{Mode}
-use Rattle.ere_sets.specs.declared.sets.Mode.TheVariants.{All}
 use Rattle.ere_sets.specs.Modes.{change_by, first_by, later_by, last_by, FollowsBy}
 use Rattle.ere_sets.specs.Growth.{Fair, Has, Leads}
 use Rattle.ere_derive.specs.Layout.{Rows, RowOf, Closed, Paired, PutRows, PutPairs, Beginning, Headed}
@@ -89,7 +87,7 @@ pub record Stands (a : List ℕ) (n stride : ℕ) (s : List ℕ) (q : ℕ) : Typ
   pub has : Has a n number s
 
 -- the words d, of which the first are an automaton whose states stand for the sets a
-pub record Built (mode : Mode) (t bytes : List ℕ) (k : ℕ) (a : List ℕ) (n stride pairs : ℕ) (d : List ℕ) : Type 0 where
+pub record Built (mode : ℕ) (t bytes : List ℕ) (k : ℕ) (a : List ℕ) (n stride pairs : ℕ) (d : List ℕ) : Type 0 where
   pub width : stride ≡ stride_by k pairs
   pub room : rows_at + stride * n ≤ length d
   pub count : get_or d 0 0 ≡ k
@@ -104,7 +102,7 @@ pub record Built (mode : Mode) (t bytes : List ℕ) (k : ℕ) (a : List ℕ) (n 
   pub hull : Hull t d
   pub tests : Testable d
 
-module _ (mode : Mode) (t bytes : List ℕ) (k : ℕ) (a : List ℕ) (n stride pairs : ℕ) (d : List ℕ)
+module _ (mode : ℕ) (t bytes : List ℕ) (k : ℕ) (a : List ℕ) (n stride pairs : ℕ) (d : List ℕ)
     (B : Built mode t bytes k a n stride pairs d) where
   abbrev r : ℕ
   r = rows_at + stride * n
@@ -232,11 +230,11 @@ module _ (mode : Mode) (t bytes : List ℕ) (k : ℕ) (a : List ℕ) (n stride p
 
 -- ---- from the pieces
 
-pub rows-closed : {mode : Mode} {t bytes : List ℕ} {k : ℕ} {a : List ℕ} {n stride : ℕ} {d : List ℕ} → Rows mode t bytes k a n stride d n
+pub rows-closed : {mode : ℕ} {t bytes : List ℕ} {k : ℕ} {a : List ℕ} {n stride : ℕ} {d : List ℕ} → Rows mode t bytes k a n stride d n
     → (i : ℕ) → i < n → Closed k n stride d (rows_at + stride * i)
 rows-closed R i h c l = let x = (R i h).leads c l in record { number = x.number; low = x.has.low; is = x.is }
 
-module _ (mode : Mode) (t bytes : List ℕ) (k : ℕ) (a₀ a : List ℕ) (most n₀ n stride accepted later first pairs : ℕ) (d d1 d2 d3 : List ℕ)
+module _ (mode : ℕ) (t bytes : List ℕ) (k : ℕ) (a₀ a : List ℕ) (most n₀ n stride accepted later first pairs : ℕ) (d d1 d2 d3 : List ℕ)
     (width : stride ≡ stride_by k pairs) (room : rows_at + stride * most ≤ length d)
     (C : Classified t bytes k d) (H : Hull t d) (T : Testable d) (G : Beginning mode t a₀ most n₀ accepted later first)
     (R : PutRows mode t bytes k a₀ n₀ most stride d (Some n) a d1) (P : PutPairs k n stride (cond (eqb pairs 0) 0 n) d1 d2)
@@ -297,11 +295,11 @@ module _ (mode : Mode) (t bytes : List ℕ) (k : ℕ) (a₀ a : List ℕ) (most 
   }
 
 -- no room
-pub unattempted : (mode : Mode) (t d d' : List ℕ) → length d' ≡ length d → ((i : ℕ) → 5 ≤ i → i < rows_at → get_or d' i 0 ≡ get_or d i 0) → Attempted mode t d None d'
+pub unattempted : (mode : ℕ) (t d d' : List ℕ) → length d' ≡ length d → ((i : ℕ) → 5 ≤ i → i < rows_at → get_or d' i 0 ≡ get_or d i 0) → Attempted mode t d None d'
 unattempted mode t d d' e k = record { derived = record { size = e; made = tt }; kept = k }
 
 -- an attempt on the first m words
-module _ (mode : Mode) (t bytes : List ℕ) (k m : ℕ) (d : List ℕ) (h : rows_at ≤ m) (l : m ≤ length d) where
+module _ (mode : ℕ) (t bytes : List ℕ) (k m : ℕ) (d : List ℕ) (h : rows_at ≤ m) (l : m ≤ length d) where
   pub front-size : length (take m d) ≡ m
   front-size = length-take-le m d l
 
@@ -337,7 +335,7 @@ module _ (mode : Mode) (t bytes : List ℕ) (k m : ℕ) (d : List ℕ) (h : rows
       f-has i o = let z = f-size in omega arith
 
 -- words of the same length
-pub derived-on : {mode : Mode} {t d d' : List ℕ} {r : Option ℕ} (e : List ℕ) → length d ≡ length e → DerivedBy mode t d r d' → DerivedBy mode t e r d'
+pub derived-on : {mode : ℕ} {t d d' : List ℕ} {r : Option ℕ} (e : List ℕ) → length d ≡ length e → DerivedBy mode t d r d' → DerivedBy mode t e r d'
 derived-on {mode} {t} {d} {d'} {r} e l D = record {
   size = D.size ∙ l;
   made = subst (λ (x : ℕ). IfSome r (λ n. (n ≤ x) × FollowsBy mode t (take n d') × Hull t (take n d'))) l D.made;
@@ -346,7 +344,7 @@ derived-on {mode} {t} {d} {d'} {r} e l D = record {
 -- ---- all starts: whether there is a match
 
 module _ (t d₀ d d' : List ℕ) (size : length d ≡ length d₀) (S : Shape t d) where
-  pub derived-all : (r : Option ℕ) → Attempted All t d r d' → Derived t d₀ r d'
+  pub derived-all : (r : Option ℕ) → Attempted 0 t d r d' → Derived t d₀ r d'
   derived-all None A = record { size = A.derived.size ∙ size; made = tt }
   derived-all (Some r) A =
       let M = A.derived.made in

@@ -1,5 +1,5 @@
 -- Laws of the three ways in which an automaton follows a table.
-use mathlib.Core.Path.{◌≡◌, refl, sym, ap, ◌∙◌}
+use mathlib.Core.Path.{◌≡◌, refl, sym, ap, ap₂, ◌∙◌}
 use mathlib.Core.Bool.{Bool, true, false, not, cond}
 use mathlib.Core.List.{List}
 use Prim.Native.Nat.{ℕ, ◌/◌, ◌%◌}
@@ -14,9 +14,7 @@ use Rattle.ere_search.specs.Walk.{step}
 use Rattle.ere_automaton.specs.Sets.{collapsed, after}
 use Rattle.ere_automaton.specs.Automaton.{Hull, Shape, Drives}
 use Rattle.ere_automaton.specs.Follows.{FollowsAll, FollowsOne, FollowsPending, pending_after}
-use Rattle.ere_sets.specs.declared.sets.Mode.{Mode}
-use Rattle.ere_sets.specs.declared.sets.Mode.TheVariants.{All, One, Pending}
-use Rattle.ere_sets.specs.Modes.{change_by, FollowsBy}
+use Rattle.ere_sets.specs.Modes.{change_by, first_by, later_by, last_by, FollowsBy}
 use Rattle.ere_sets.specs.Growth.{Fair}
 
 after_same : (t s : List ℕ) (b c : ℕ) → step t s b ≡ step t s c → after t s b ≡ after t s c
@@ -29,11 +27,14 @@ unfolding pending_after
 pending-same t s b c e = ap (λ (u : List ℕ). cond (stop_in s false) s (collapsed u)) e
 
 -- bytes that do the same to each set do so in each mode
-pub change-same : (mode : Mode) (t s : List ℕ) (b c : ℕ) → ((u : List ℕ) → step t u b ≡ step t u c)
+pub change-same : (mode : ℕ) (t s : List ℕ) (b c : ℕ) → ((u : List ℕ) → step t u b ≡ step t u c)
     → change_by mode t s b ≡ change_by mode t s c
-change-same All t s b c e = after_same t s b c (e s)
-change-same One t s b c e = e s
-change-same Pending t s b c e = pending-same t s b c (e (join s (row t 1)))
+unfolding change_by
+change-same mode t s b c e =
+    ap₂ (λ (x y : List ℕ). cond (eqb mode 0) x (cond (eqb mode 1) y (pending_after t s b)))
+    (after_same t s b c (e s)) (e s)
+    ∙ ap (λ (x : List ℕ). cond (eqb mode 0) (after t s c) (cond (eqb mode 1) (step t s c) x))
+    (pending-same t s b c (e (join s (row t 1))))
 
 -- ---- accept bits
 
@@ -71,13 +72,16 @@ marks-fair s w e f h = go (stop_in s true) refl
 
 -- ---- the modes
 
-pub follows-all : (t : List ℕ) {d : List ℕ} → FollowsBy All t d → FollowsAll t d
+pub follows-all : (t : List ℕ) {d : List ℕ} → FollowsBy 0 t d → FollowsAll t d
+unfolding change_by first_by later_by last_by
 follows-all t F = F
 
-pub follows-one : (t : List ℕ) {d : List ℕ} → FollowsBy One t d → FollowsOne t d
+pub follows-one : (t : List ℕ) {d : List ℕ} → FollowsBy 1 t d → FollowsOne t d
+unfolding change_by first_by later_by last_by
 follows-one t F = F
 
-pub follows-pending : (t : List ℕ) {d : List ℕ} → FollowsBy Pending t d → FollowsPending t d
+pub follows-pending : (t : List ℕ) {d : List ℕ} → FollowsBy 2 t d → FollowsPending t d
+unfolding change_by first_by later_by last_by
 follows-pending t F = F
 
 -- all starts: whether there is a match

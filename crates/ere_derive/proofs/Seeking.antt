@@ -21,7 +21,6 @@ use Rattle.ere_automaton.specs.Follows.{FollowsOne, FollowsPending, Seeks, one_l
 use Rattle.ere_classes.specs.Frames.{Frame}
 use Rattle.ere_derive.specs.Both.{Nested, HeadedBoth}
 use Rattle.std.specs.Prelude.{Option, Some}
-use Rattle.ere_sets.specs.declared.sets.Mode.TheVariants.{One, Pending}
 use Rattle.ere_derive.specs.Derived.{DerivedBy, DerivedBoth}
 use Rattle.ere_classes.proofs.Columns.{ordered}
 use Rattle.ere_classes.proofs.Framed.{three}
@@ -123,7 +122,7 @@ rest_back l a b =
     ap (λ (r : List ℕ). take a l ++ (b ++ r)) (drop_of_length-le (drop a l) h)
     ∙ ap (λ (r : List ℕ). take a l ++ r) (append-nil b)
 
-module _ (t d : List ℕ) (n : ℕ) (d1 : List ℕ) (D : DerivedBy One t d (Some n) d1) where
+module _ (t d : List ℕ) (n : ℕ) (d1 : List ℕ) (D : DerivedBy 1 t d (Some n) d1) where
   front : length (take n d1) ≡ n
   front = length-take-le n d1 (let x = D.size in let y = D.made.0 in omega arith)
 
@@ -169,11 +168,11 @@ module _ (t d : List ℕ) (n : ℕ) (d1 : List ℕ) (D : DerivedBy One t d (Some
     rest-inside = let x = D.size in let y = D.made.0 in let z = H.frame.size in omega arith
 
     -- the rest is lent for the second
-    pub rest-size : (m : Option ℕ) (f : List ℕ) → DerivedBy Pending t (mid_of n (length d2 - n) d2) m f
+    pub rest-size : (m : Option ℕ) (f : List ℕ) → DerivedBy 2 t (mid_of n (length d2 - n) d2) m f
         → length (put_mid n (length d2 - n) d2 f) ≡ length d
     rest-size m f E = same_len_mid n (length d2 - n) d2 f E.size ∙ H.frame.size ∙ D.size
 
-    pub rest-fits : (m : ℕ) (f : List ℕ) → DerivedBy Pending t (mid_of n (length d2 - n) d2) (Some m) f → n + m ≤ length d
+    pub rest-fits : (m : ℕ) (f : List ℕ) → DerivedBy 2 t (mid_of n (length d2 - n) d2) (Some m) f → n + m ≤ length d
     rest-fits m f E =
         let x = E.made.0 in
         let y : length (mid_of n (length d2 - n) d2) ≡ length d2 - n = ap length (rest-lent d2 n) ∙ length-drop n d2 in
@@ -181,7 +180,7 @@ module _ (t d : List ℕ) (n : ℕ) (d1 : List ℕ) (D : DerivedBy One t d (Some
         let e : length d2 ≡ length d = H.frame.size ∙ D.size in
         omega arith
 
-    pub derived-both : (m : ℕ) (f : List ℕ) → DerivedBy Pending t (mid_of n (length d2 - n) d2) (Some m) f → Nested t
+    pub derived-both : (m : ℕ) (f : List ℕ) → DerivedBy 2 t (mid_of n (length d2 - n) d2) (Some m) f → Nested t
         → DerivedBoth t d (Some (n + m)) (put_mid n (length d2 - n) d2 f)
     derived-both m f E N = record {
       size = rest-size (Some m) f E;

@@ -4,7 +4,6 @@ use Rattle.ere_automaton.specs.Automaton.{Drives, Hull}
 use Rattle.ere_automaton.specs.Follows.{Seeks}
 use Rattle.ere_automaton.specs.Layout.{rows_at, shape_word}
 use Rattle.ere_classes.specs.Column.{Classified}
-use Rattle.ere_sets.specs.declared.sets.Mode.{Mode}
 use Rattle.ere_sets.specs.Modes.{FollowsBy}
 
 -- the first words, as many as r says, are an automaton of the table
@@ -18,12 +17,12 @@ pub record DerivedBoth (t d : List ℕ) (r : Option ℕ) (d' : List ℕ) : Type 
   pub made : IfSome r (λ n. (n ≤ length d) × Seeks t (take n d'))
 
 -- the first words, as many as r says, are an automaton of the table, by a mode
-pub record DerivedBy (mode : Mode) (t d : List ℕ) (r : Option ℕ) (d' : List ℕ) : Type 0 where
+pub record DerivedBy (mode : ℕ) (t d : List ℕ) (r : Option ℕ) (d' : List ℕ) : Type 0 where
   pub size : length d' ≡ length d
   pub made : IfSome r (λ n. (n ≤ length d) × FollowsBy mode t (take n d') × Hull t (take n d'))
 
 -- the same, of an attempt that leaves classes and ranges as they are
-pub record Attempted (mode : Mode) (t d : List ℕ) (r : Option ℕ) (d' : List ℕ) : Type 0 where
+pub record Attempted (mode : ℕ) (t d : List ℕ) (r : Option ℕ) (d' : List ℕ) : Type 0 where
   pub derived : DerivedBy mode t d r d'
   pub kept : (i : ℕ) → 5 ≤ i → i < rows_at → get_or d' i 0 ≡ get_or d i 0
 

@@ -6,7 +6,6 @@ ghost use Rattle.ere_derive.specs.Both.{Nested, HeadedBoth};
 ghost use Rattle.ere_derive.specs.Derived.{DerivedBoth};
 
 use crate::{build, layout};
-use ere_sets::Mode;
 
 // Tells whether all that may start elsewhere may start at the text's start.
 fn is_nested(t: &[u64]) -> bool
@@ -36,8 +35,8 @@ pub fn derive_both(t: &[u64], d: &mut [u16], pairs: usize) -> Option<usize>
     if !is_nested(t) {
         return None;
     }
-    let n = build::derive_by(t, Mode::One, d, pairs)?;
+    let n = build::derive_by(t, ere_sets::ONE, d, pairs)?;
     put_both(t, d, n);
-    let m = build::derive_by(t, Mode::Pending, &mut d[n..], pairs)?;
+    let m = build::derive_by(t, ere_sets::PENDING, &mut d[n..], pairs)?;
     Some(n + m)
 }

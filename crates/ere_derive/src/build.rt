@@ -9,7 +9,6 @@ ghost use Rattle.ere_derive.specs.Derived.{Derived, DerivedBy, Attempted, Prepar
 
 use crate::layout::ROWS;
 use crate::{layout, pairs, rows};
-use ere_sets::Mode;
 
 // Returns how many states there is room for.
 fn states_in(length: usize, stride: usize) -> usize
@@ -51,7 +50,7 @@ fn stride_of(k: usize, paired: u16) -> usize
 // there is room.
 fn attempt(
     t: &[u64],
-    mode: Mode,
+    mode: u64,
     bytes: &[u8],
     k: usize,
     d: &mut [u16],
@@ -82,7 +81,7 @@ fn attempt(
 // Makes rows with pairs, if they fit below `pairs` words, and gives how many words the automaton has, if there is room.
 fn with_pairs(
     t: &[u64],
-    mode: Mode,
+    mode: u64,
     bytes: &[u8],
     k: usize,
     d: &mut [u16],
@@ -105,7 +104,7 @@ fn with_pairs(
 // Makes rows with pairs, or where they don't fit without, and gives how many words the automaton has, if there is room.
 fn finish(
     t: &[u64],
-    mode: Mode,
+    mode: u64,
     bytes: &[u8],
     k: usize,
     d: &mut [u16],
@@ -139,7 +138,7 @@ fn prepare(t: &[u64], bytes: &mut [u8], d: &mut [u16]) -> Option<usize>
 
 // Makes the automaton of a table by a mode, with pairs if they fit below `pairs` words, and gives how many words it
 // has, if there is room.
-pub fn derive_by(t: &[u64], mode: Mode, d: &mut [u16], pairs: usize) -> Option<usize>
+pub fn derive_by(t: &[u64], mode: u64, d: &mut [u16], pairs: usize) -> Option<usize>
     requires { (length t.now ≡ table_words) × (length d.old < 65536) }
     ensures { DerivedBy mode t.now d.old result d.new }
 {
@@ -157,5 +156,5 @@ pub fn derive(t: &[u64], d: &mut [u16], pairs: usize) -> Option<usize>
     let mut bytes = [0u8; ere_classes::MOST_CLASSES];
     let k = prepare(t, &mut bytes, d)?;
     ere_shapes::put_word(t, &bytes, k, d);
-    finish(t, Mode::All, &bytes, k, d, pairs)
+    finish(t, ere_sets::ALL, &bytes, k, d, pairs)
 }

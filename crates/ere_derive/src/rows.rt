@@ -5,12 +5,11 @@ ghost use Rattle.ere_automaton.specs.Layout.{rows_at};
 ghost use Rattle.ere_derive.specs.Layout.{PutEntry, PutRow, PutRows, Begins};
 
 use crate::layout::ROWS;
-use ere_sets::Mode;
 
 // Stores at p the state after the set s and the byte b; gives how many states there are then, if there is room.
 fn put_entry(
     t: &[u64],
-    mode: Mode,
+    mode: u64,
     b: u8,
     sets: &mut [u64],
     count: usize,
@@ -40,7 +39,7 @@ fn end_mark(s: [u64; 3]) -> u16
 // Stores the row of the set s at p; gives how many states there are then, if there is room.
 fn put_row(
     t: &[u64],
-    mode: Mode,
+    mode: u64,
     bytes: &[u8],
     k: usize,
     sets: &mut [u64],
@@ -68,7 +67,7 @@ fn put_row(
 // Stores the rows of all states; gives how many there are, if there is room.
 pub fn put_rows(
     t: &[u64],
-    mode: Mode,
+    mode: u64,
     bytes: &[u8],
     k: usize,
     sets: &mut [u64],
@@ -116,7 +115,7 @@ pub struct Begun {
 }
 
 // Enters the sets that an automaton begins with, if there is room.
-pub fn begin(t: &[u64], mode: Mode, sets: &mut [u64], most: usize) -> Option<Begun>
+pub fn begin(t: &[u64], mode: u64, sets: &mut [u64], most: usize) -> Option<Begun>
     requires { (length t.now ≡ table_words) × (most ≤ 96) × (length sets.old ≡ 288) }
     ensures { Begins mode t.now sets.old most result sets.new }
 {

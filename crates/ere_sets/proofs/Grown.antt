@@ -5,7 +5,6 @@ use Prim.Native.Nat.{ℕ, ◌+◌, ◌*◌, ◌≤◌}
 use native.Mathlib.Omega.{arith}
 use lib.ListN.{length, get_or, set, length-set}
 use lib.Seq.{get_or-set_same, get_or-set_other}
-use Rattle.ere_sets.specs.declared.sets.Mode.{Mode}
 use Rattle.ere_sets.specs.Growth.{Fair, Grows, Has, Put, Leads}
 use Rattle.ere_classes.proofs.Columns.{up_to}
 use Rattle.ere_classes.proofs.Framed.{three, spelled}
@@ -63,5 +62,5 @@ grows-put {n = n} p f = record {
 pub has_on : {a b : List ℕ} {n m i : ℕ} {s : List ℕ} → Has a n i s → Grows a n b m → Has b m i s
 has_on {i = i} h g = record { low = omega (arith, h.low, g.more); is = g.kept i h.low ∙ h.is }
 
-pub leads-on : {mode : Mode} {t a c : List ℕ} {n m stride : ℕ} {s : List ℕ} {b q : ℕ} → Leads mode t a n stride s b q → Grows a n c m → Leads mode t c m stride s b q
+pub leads-on : {mode : ℕ} {t a c : List ℕ} {n m stride : ℕ} {s : List ℕ} {b q : ℕ} → Leads mode t a n stride s b q → Grows a n c m → Leads mode t c m stride s b q
 leads-on l g = record { number = l.number; is = l.is; has = has_on l.has g }

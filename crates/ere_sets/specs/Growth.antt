@@ -3,7 +3,6 @@ use Rattle.std.specs.Prelude.{◌≡◌, true, false, List, ℕ, ◌+◌, ◌*�
 use Rattle.ere_table.specs.Table.{row}
 use Rattle.ere_table.specs.Wiring.{stop_in}
 use Rattle.ere_automaton.specs.Layout.{rows_at}
-use Rattle.ere_sets.specs.declared.sets.Mode.{Mode}
 use Rattle.ere_sets.specs.declared.sets.Entered.{Entered}
 use Rattle.ere_sets.specs.Modes.{change_by}
 
@@ -47,7 +46,7 @@ pub record Enters (a : List ℕ) (n most : ℕ) (s : List ℕ) (r : Option Enter
   pub entered : IfSome r (λ e. Entry a n most s e.count e.number a')
 
 -- q is the row of the set after the byte b
-pub record Leads (mode : Mode) (t a : List ℕ) (n stride : ℕ) (s : List ℕ) (b q : ℕ) : Type 0 where
+pub record Leads (mode : ℕ) (t a : List ℕ) (n stride : ℕ) (s : List ℕ) (b q : ℕ) : Type 0 where
   pub number : ℕ
   pub is : q ≡ rows_at + stride * number
   pub has : Has a n number (change_by mode t s b)

@@ -3,4 +3,4 @@
 
 mod sets;
 
-pub use sets::{Entered, Mode, change, enter, first, last, later};
+pub use sets::{ALL, Entered, ONE, PENDING, change, enter, first, last, later};

@@ -9,12 +9,11 @@ ghost use Rattle.ere_sets.specs.Growth.{state_count, set_words, Fair, Put, Enter
 use ere_table::PLACES;
 
 // What the states of an automaton stand for: all starts, one at each place; one start; the starts before a place.
-#[derive(Clone, Copy, PartialEq, Eq)]
-pub enum Mode {
-    All,
-    One,
-    Pending,
-}
+pub const ALL: u64 = 0;
+
+pub const ONE: u64 = 1;
+
+pub const PENDING: u64 = 2;
 
 // Returns the set u; but a set in which a match has ended is the same whatever else is in it.
 fn collapsed(u: [u64; 3]) -> [u64; 3]
@@ -52,51 +51,50 @@ fn pending_after(t: &[u64], s: [u64; 3], b: u8) -> [u64; 3]
 }
 
 // Returns what may come next after the byte b, by the mode.
-pub fn change(t: &[u64], mode: Mode, s: [u64; 3], b: u8) -> [u64; 3]
+pub fn change(t: &[u64], mode: u64, s: [u64; 3], b: u8) -> [u64; 3]
     requires { length t.now ≡ table_words }
     ensures { result ≡ change_by mode t.now s b }
 {
     match mode {
-        Mode::All => after(t, s, b),
-        Mode::One => ere_search::step(t, s, b),
-        Mode::Pending => pending_after(t, s, b),
+        ALL => after(t, s, b),
+        ONE => ere_search::step(t, s, b),
+        _ => pending_after(t, s, b),
     }
 }
 
 // Returns the set at the text's start.
-pub fn first(t: &[u64], mode: Mode) -> [u64; 3]
+pub fn first(t: &[u64], mode: u64) -> [u64; 3]
     requires { length t.now ≡ table_words }
     ensures { result ≡ first_by mode t.now }
 {
     let s = ere_classes::set_at(t, 0);
     match mode {
-        Mode::All => collapsed(s),
-        Mode::One => s,
-        Mode::Pending => [s[0], s[1], 0],
+        ALL => collapsed(s),
+        ONE => s,
+        _ => [s[0], s[1], 0],
     }
 }
 
 // Returns the set elsewhere, where nothing is pending.
-pub fn later(t: &[u64], mode: Mode) -> [u64; 3]
+pub fn later(t: &[u64], mode: u64) -> [u64; 3]
     requires { length t.now ≡ table_words }
     ensures { result ≡ later_by mode t.now }
 {
     let s = ere_classes::set_at(t, 1);
     match mode {
-        Mode::All => collapsed(s),
-        Mode::One => s,
-        Mode::Pending => ere_table::NOTHING,
+        ALL => collapsed(s),
+        ONE => s,
+        _ => ere_table::NOTHING,
     }
 }
 
 // Returns the set that no byte changes.
-pub fn last(mode: Mode) -> [u64; 3]
+pub fn last(mode: u64) -> [u64; 3]
     ensures { result ≡ last_by mode }
 {
     match mode {
-        Mode::All => ere_table::ACCEPT,
-        Mode::One => ere_table::NOTHING,
-        Mode::Pending => ere_table::ACCEPT,
+        ONE => ere_table::NOTHING,
+        _ => ere_table::ACCEPT,
     }
 }
 
