@@ -11,7 +11,7 @@ use Rattle.buffer.specs.Parts.{part}
 use Rattle.buffer.proofs.Parts.{length_part}
 use Rattle.image_format.specs.Image.{Constant as Code, number, text}
 use Rattle.image_format.specs.Reading.{from_bytes, constant}
-use Rattle.image_items.specs.Stands.{Stands, a_text, bytes_of, IsText, constant_of, IsConstant}
+use Rattle.image_items.specs.Stands.{Stands, a_text, bytes_of, IsText, constant_of}
 use Rattle.image_index.specs.Lists.{IsPart}
 use Rattle.image_items.specs.declared.items.Text.{Text}
 use Rattle.image_items.specs.declared.items.Found.{Found}
@@ -50,9 +50,10 @@ module _ (l : List ℕ) where
     pub constant-missed : {A : Type 0} → constant from_bytes (drop at l) ≡ none → Stands (constant from_bytes) l at (text bytes) end → A
     constant-missed h s = absurd (none-some (sym h ∙ s.taken))
 
-    module _ (r : Found) (y : IsConstant l at r) (s : Stands (constant from_bytes) l at (text bytes) end) where
+    module _ (r : Found) (f : Stands (constant from_bytes) l at (constant_of l r.constant) r.end)
+        (s : Stands (constant from_bytes) l at (text bytes) end) where
       same-text : constant_of l r.constant ≡ text bytes
-      same-text = same_item y.found.taken s.taken
+      same-text = same_item f.taken s.taken
 
       pub constant-reached : (t : Text) → r.constant ≡ TextRead t → bytes_of l t ≡ bytes
       constant-reached t e =

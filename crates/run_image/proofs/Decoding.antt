@@ -23,7 +23,7 @@ use Rattle.image_format.specs.Reading.{from_bytes, constant, constant_of}
 use Rattle.image_format.proofs.Numbers.{number-only}
 use Rattle.semantics.specs.Checked.{Short}
 use Rattle.semantics.proofs.Tables.{nth-some}
-use Rattle.image_items.specs.Stands.{Stands, a_text, Inside, IsConstant, ConstantAt, constant_of as constant_in}
+use Rattle.image_items.specs.Stands.{Stands, a_text, Inside, Within, constant_of as constant_in}
 use Rattle.std.specs.Prelude.{Option as Answer, Some, None, IsSome}
 use Rattle.image_items.specs.declared.items.Text.{Text}
 use Rattle.image_items.specs.declared.items.Constant.TheVariants.{Number, Text as TextRead}
@@ -103,14 +103,16 @@ module _ {image index : List ℕ} {xs : List Constant} (y : Listed image index x
     told : Stands (constant from_bytes) image (get_or index k 0) a (y.indexed k a e h).0
     told = (y.indexed k a e h).1
 
-    -- it is there
-    pub constant-there : (o : Answer Found) → ConstantAt image (get_or index k 0) o → IsSome o
-    constant-there None c = absurd (none-some (sym c ∙ told.taken))
+    -- it is there: an answer that there is none would be wrong
+    pub constant-there : (o : Answer Found) → (o ≡ None → constant from_bytes (drop (get_or index k 0) image) ≡ none)
+        → IsSome o
+    constant-there None c = absurd (none-some (sym (c refl) ∙ told.taken))
     constant-there (Some r) c = refl
 
-    module _ {r : Found} (c : IsConstant image (get_or index k 0) r) where
+    module _ (r : Found)
+        (f : Stands (constant from_bytes) image (get_or index k 0) (constant_in image r.constant) r.end) where
       constant-same : constant_in image r.constant ≡ a
-      constant-same = same_item c.found.taken told.taken
+      constant-same = same_item f.taken told.taken
 
       -- as a number
       module _ (n : ℕ) (z : r.constant ≡ Number n) where
@@ -125,12 +127,12 @@ module _ {image index : List ℕ} {xs : List Constant} (y : Listed image index x
         decoded-number = subst (Decoded image (number_bound + n)) is-number (number-decoded image n value-small)
 
       -- or as a text, as long as a text may be
-      module _ (t : Text) (z : r.constant ≡ TextRead t) where
+      module _ (w : Within image r.constant) (t : Text) (z : r.constant ≡ TextRead t) where
         is-text : text (part t.start (t.end - t.start) image) ≡ a
         is-text = rw z at constant-same
 
         text-inside : Inside image t
-        text-inside = rw z at c.inside
+        text-inside = rw z at w
 
         inside : t.start + (t.end - t.start) ≤ length image
         inside = omega (arith, text-inside.0, text-inside.1)

@@ -21,7 +21,7 @@ returns-in_default-constant c =
     let y = c.in-Some.ensures in (
       is-part a.image.now a.image.ref_ptr 0 0 (omega arith) (omega arith),
       λ edition bytes s.
-          number-reached a.image.now (get_or a.index.now a.n 0) s.0 bytes _ y s.1 c.in_default-constant.not-Text,
+          number-reached a.image.now (get_or a.index.now a.n 0) s.0 bytes _ y.found s.1 c.in_default-constant.not-Text,
     )
 
 pub returns : goal.returns
@@ -33,5 +33,5 @@ returns c =
     let i : Inside a.image.now t = rw c.in-Text.is at y.inside in (
       is-part a.image.now a.image.ref_ptr t.start t.end i.0 i.1,
       λ edition bytes s.
-          constant-reached a.image.now (get_or a.index.now a.n 0) s.0 bytes _ y s.1 t c.in-Text.is,
+          constant-reached a.image.now (get_or a.index.now a.n 0) s.0 bytes _ y.found s.1 t c.in-Text.is,
     )
